@@ -1,0 +1,5 @@
+pub mod Code
+pub mod Fault
+pub mod Frame
+pub mod Message
+pub mod Trailers

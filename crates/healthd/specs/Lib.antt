@@ -1,0 +1,4 @@
+pub mod Answer
+pub mod Ask
+pub mod Response
+pub mod Service

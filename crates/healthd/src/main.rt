@@ -1,0 +1,72 @@
+//! gRPC's health checking service over gRPC-Web.
+#![tactic(auto)]
+
+mod answer;
+mod ask;
+mod body;
+mod command;
+mod fault;
+mod response;
+mod service;
+#[cfg(test)]
+mod tests;
+
+use clap::error::ErrorKind;
+use fault::Fault;
+use std::process::ExitCode;
+use std::rt::Env;
+use std::{env, io};
+
+/// The status of a command line that is refused.
+const REFUSED: u8 = 2;
+
+fn main(rt: HostRuntime) -> ExitCode {
+    match run(&rt) {
+        Ok(status) => status,
+        Err(fault) => {
+            let _ = eprintln!(&rt; "healthd: {fault}");
+            ExitCode::FAILURE
+        }
+    }
+}
+
+fn run<R: Print + Eprint + Env + AllocGlobal>(rt: &R) -> Result<ExitCode, Fault> {
+    let alloc = rt.alloc();
+    let words: Vec<String> = match env::args(rt) {
+        Ok(words) => words.collect(alloc)?,
+        Err(error) => return refuse_words(rt, &error),
+    };
+    let matches = match command::command(alloc)?.try_get_matches_from(words.as_slice()) {
+        Ok(matches) => matches,
+        Err(error) => return refuse(rt, &error),
+    };
+    match matches.subcommand() {
+        Some(("body", matches)) => body::run(rt, matches)?,
+        _ => return Ok(ExitCode::from(REFUSED)),
+    }
+    Ok(ExitCode::SUCCESS)
+}
+
+/// Help goes to standard output with status 0, and what refuses a command line to standard error.
+fn refuse<R: Print + Eprint>(rt: &R, error: &clap::Error) -> Result<ExitCode, Fault> {
+    if error.kind() == ErrorKind::OutOfMemory {
+        return Err(Fault::OutOfMemory);
+    }
+    let printed = error.print(rt);
+    if error.use_stderr() {
+        return Ok(ExitCode::from(REFUSED));
+    }
+    match printed {
+        Ok(()) => Ok(ExitCode::SUCCESS),
+        Err(_) => Err(Fault::Write),
+    }
+}
+
+/// A word that is no text has no place in a command line.
+fn refuse_words<R: Eprint>(rt: &R, error: &io::Error) -> Result<ExitCode, Fault> {
+    if error.kind() == io::ErrorKind::OutOfMemory {
+        return Err(Fault::OutOfMemory);
+    }
+    let _ = eprintln!(rt; "error: invalid UTF-8 was detected in one or more arguments");
+    Ok(ExitCode::from(REFUSED))
+}
