@@ -4,10 +4,10 @@ use Rattle.grpc_frame.specs.declared.code.Code.{Code}
 use Rattle.grpc_frame.specs.declared.code.Code.TheVariants.{Ok, NotFound, ResourceExhausted, Unimplemented, Internal, Unavailable}
 
 -- the number of a status code
-abbrev pub number_of : Code → ℕ
-number_of Ok = 0
-number_of NotFound = 5
-number_of ResourceExhausted = 8
-number_of Unimplemented = 12
-number_of Internal = 13
-number_of Unavailable = 14
+abbrev pub code_number : Code → ℕ
+code_number Ok = 0
+code_number NotFound = 5
+code_number ResourceExhausted = 8
+code_number Unimplemented = 12
+code_number Internal = 13
+code_number Unavailable = 14

@@ -27,8 +27,8 @@ pub record BeginsWithTwo (bytes : List ℕ) : Type 0 where
   pub front : BeginsWith bytes first between
   pub next : BeginsWith between second rest
 
--- what is wrong with bytes that begin with no such frame, by their flag: 0 is a message that ends too early, 1 a compressed
--- one, the top bit marks trailers, and no other flag is defined
+-- what is wrong with bytes that begin with no such frame: there are none; or by their flag, which counts before the length,
+-- 0 is a message that is cut, 1 a compressed one, the top bit marks trailers, and no other flag is defined
 abbrev pub fault_at : List ℕ → FrameFault
 fault_at [] = NoMessage
 fault_at (flag ∷ more) =
@@ -36,13 +36,13 @@ fault_at (flag ∷ more) =
 
 -- what reading the body answers, by rules
 pub data IsOneMessage (body : List ℕ) : Result (List ℕ) FrameFault → Type 0 where
-  -- one frame and nothing behind it: its message
+  -- one such frame and nothing behind it: its message
   Whole : (message : List ℕ) → BeginsWith body message [] → IsOneMessage body (Ok message)
-  -- two frames, whatever comes behind them
+  -- two such frames, whatever comes behind them
   Two : BeginsWithTwo body → IsOneMessage body (Err MoreThanOne)
-  -- no frame at the front
+  -- no such frame at the front
   NoFirst : BeginsWithNone body → IsOneMessage body (Err (fault_at body))
-  -- one frame, and behind it bytes that begin with no second one
+  -- one such frame, and behind it bytes that begin with no second one
   NoSecond : (message rest : List ℕ) → BeginsWith body message rest → rest ≢ [] → BeginsWithNone rest
       → IsOneMessage body (Err (fault_at rest))
 

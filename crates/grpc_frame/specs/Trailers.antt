@@ -2,7 +2,7 @@
 use Rattle.std.specs.Prelude.{ℕ, ◌≤◌, ◌==◌, ◌&&◌, not, Bool, IsTrue, nat_le, if◌then◌else◌, List, [], ◌++◌, length, codes, decimal}
 use Rattle.std.specs.List.{list_all}
 use Rattle.grpc_frame.specs.declared.code.Code.{Code}
-use Rattle.grpc_frame.specs.Code.{number_of}
+use Rattle.grpc_frame.specs.Code.{code_number}
 
 -- a header line: a name with its colon, a value, CR LF
 abbrev pub line : List ℕ → List ℕ → List ℕ
@@ -10,11 +10,11 @@ line name value = name ++ value ++ codes "\r\n"
 
 -- the line with the text of a status, which Ok has not
 abbrev pub text_line : Code → List ℕ → List ℕ
-text_line code text = if number_of code == 0 then [] else line (codes "grpc-message:") text
+text_line code text = if code_number code == 0 then [] else line (codes "grpc-message:") text
 
 -- the trailers of a status: its number, and its text
 abbrev pub block : Code → List ℕ → List ℕ
-block code text = line (codes "grpc-status:") (decimal (number_of code)) ++ text_line code text
+block code text = line (codes "grpc-status:") (decimal (code_number code)) ++ text_line code text
 
 -- a character that a status text has as it is: printable ASCII but for `%` (doc/PROTOCOL-HTTP2.md of grpc, Percent-Byte-Unencoded)
 abbrev pub is_unencoded : ℕ → Bool

@@ -12,18 +12,18 @@ pub enum Code {
 }
 
 impl Code {
-    ghost use Rattle.grpc_frame.specs.Code.{number_of};
+    ghost use Rattle.grpc_frame.specs.Code.{code_number};
 
     /// The number in gRPC's list of status codes.
     pub fn number(self) -> u32
-        ensures { result ≡ number_of self }
+        ensures { result ≡ code_number self }
     {
         self as u32
     }
 
     #[tactic(auto, using(std::proofs::lemmas::Fmt::decimal_digit, std::proofs::lemmas::Fmt::decimal_step))]
     pub(crate) fn digits(self) -> &'static [u8]
-        ensures value { result.now ≡ decimal (number_of self) }
+        ensures value { result.now ≡ decimal (code_number self) }
         ensures short { length result.now ≤ 2 }
     {
         match self {

@@ -4,11 +4,17 @@ use std::fmt;
 /// Why the body of a request is not the frame of one message.
 #[derive(Clone, Copy, Debug, PartialEq, Eq, Hash)]
 pub enum FrameFault {
+    /// The frame of a message ends in its header or in its content.
     Truncated,
+    /// The message is compressed, by its flag alone.
     Compressed,
+    /// The body has no byte.
     NoMessage,
+    /// A second whole message follows the first.
     MoreThanOne,
+    /// A flag has its top bit set, as that of trailers has.
     TrailerInRequest,
+    /// A flag is from 2 to 127, which no frame has.
     BadFlag,
 }
 

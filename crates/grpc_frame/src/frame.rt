@@ -3,12 +3,13 @@ ghost use Rattle.std.specs.Int.{w32, to_be_bytes};
 
 use std::alloc::AllocError;
 
-// Writes a frame's flag and length, and leaves room for its content.
+/// Writes a frame's flag and length, and leaves room for its content.
 pub(crate) fn open_frame(out: &mut Vec<u8>, flag: u8, len: usize) -> Result<(), AllocError>
     requires { len < 2 ^ 32 }
     ensures ok { OnOk result (out.new.items ≡ out.old.items ++ flag ∷ to_be_bytes w32 len) }
     ensures room { OnOk result (vec_len out.new + len ≤ vec_capacity out.new) }
     ensures err { OnErr result (out.new.items ≡ out.old.items) }
+    ensures capacity { vec_capacity out.old ≤ vec_capacity out.new }
     ensures full { OnErr result (vec_capacity out.old < vec_len out.old + 5 + len) }
 {
     out.reserve(len + 5)?;

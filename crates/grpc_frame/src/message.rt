@@ -1,4 +1,4 @@
-ghost use Rattle.std.specs.Prelude.{◌≡◌, ◌+◌, ◌^◌, ◌<◌, ◌++◌, length, vec_len, vec_capacity, IfOk, IfErr, IfSome, IfNone, OnOk, OnErr};
+ghost use Rattle.std.specs.Prelude.{◌≡◌, ◌+◌, ◌^◌, ◌<◌, ◌≤◌, ◌++◌, length, vec_len, vec_capacity, IfOk, IfErr, IfSome, IfNone, OnOk, OnErr};
 ghost use Rattle.grpc_frame.specs.Frame.{frame};
 ghost use Rattle.grpc_frame.specs.Message.{BeginsWith, BeginsWithNone, IsOneMessage, fault_at};
 
@@ -31,6 +31,7 @@ pub fn put_message(out: &mut Vec<u8>, message: &[u8]) -> Result<(), AllocError>
     requires { length message.now < 2 ^ 32 }
     ensures ok { OnOk result (out.new.items ≡ out.old.items ++ frame 0 message.now) }
     ensures err { OnErr result (out.new.items ≡ out.old.items) }
+    ensures capacity { vec_capacity out.old ≤ vec_capacity out.new }
     ensures full { OnErr result
         (vec_capacity out.old < vec_len out.old + length (frame 0 message.now)) }
 {

@@ -14,11 +14,12 @@ const TEXT: &[u8] = b"grpc-message:";
 
 const LINE_END: &[u8] = b"\r\n";
 
-/// Appends the frame of a response's trailers, which PROTOCOL-WEB.md of grpc puts last in the body.
+/// Appends the frame of a response's trailers, which PROTOCOL-WEB.md of grpc puts last in the body. The text of `Ok` is left out.
 pub fn put_trailers(out: &mut Vec<u8>, code: Code, text: &str) -> Result<(), AllocError>
     requires status_text { IsStatusText text.now }
     ensures ok { OnOk result (out.new.items ≡ out.old.items ++ frame 128 (block code text.now)) }
     ensures err { OnErr result (out.new.items ≡ out.old.items) }
+    ensures capacity { vec_capacity out.old ≤ vec_capacity out.new }
     ensures full { OnErr result
         (vec_capacity out.old < vec_len out.old + length (frame 128 (block code text.now))) }
 {
@@ -41,7 +42,8 @@ fn block_len(code: Code, text: &str) -> usize
 
 fn put_block(out: &mut Vec<u8>, code: Code, text: &str)
     requires { vec_len out.old + length (block code text.now) ≤ vec_capacity out.old }
-    ensures { out.new.items ≡ out.old.items ++ block code text.now }
+    ensures items { out.new.items ≡ out.old.items ++ block code text.now }
+    ensures capacity { vec_capacity out.old ≤ vec_capacity out.new }
 {
     put_line(out, STATUS, code.digits());
     put_text(out, code, text);
@@ -49,7 +51,8 @@ fn put_block(out: &mut Vec<u8>, code: Code, text: &str)
 
 fn put_text(out: &mut Vec<u8>, code: Code, text: &str)
     requires { vec_len out.old + length (text_line code text.now) ≤ vec_capacity out.old }
-    ensures { out.new.items ≡ out.old.items ++ text_line code text.now }
+    ensures items { out.new.items ≡ out.old.items ++ text_line code text.now }
+    ensures capacity { vec_capacity out.old ≤ vec_capacity out.new }
 {
     if code.number() != 0 {
         put_line(out, TEXT, text.as_bytes());

@@ -7,7 +7,7 @@ use Rattle.health_wire.specs.Parts.{Begins}
 use Rattle.health_wire.proofs.FrontLemmas.{front_within, one_split}
 use Rattle.health_wire.proofs.VarintLemmas.{one_varint, no_varint, one_varint_fault}
 use Rattle.health_wire.specs.Varint.{IsVarint}
-use Rattle.health_wire.specs.Field.{Payload, WireField, wire_type, IsPayload, IsFieldNumber, IsField, IsPayloadFault, IsFieldFault}
+use Rattle.health_wire.specs.Field.{Payload, WireField, wire_type, IsPayload, IsFieldNumber, IsField, BeginsWithTag, IsPayloadFault, IsFieldFault}
 use Rattle.health_wire.specs.Field.Payload.{Varint, I64, Len, I32}
 use Rattle.health_wire.specs.Field.IsPayloadFault.{NoType, NoVarint, CutI64, NoLen, CutLen, CutI32}
 use Rattle.health_wire.specs.Field.IsFieldFault.{NoTag, NoNumber, NoPayload}
@@ -24,7 +24,7 @@ text_found bytes rest count text after (len, parts, len_is) fits text_is after_i
 
 -- a varint of a length, and then fewer bytes
 pub text_cut : (bytes rest : List ℕ) (count : ℕ) → Begins (λ front. IsVarint front count) bytes rest → length rest < count → IsPayloadFault bytes 2 Truncated
-text_cut bytes rest count (len, parts, len_is) few = CutLen len rest count parts len_is few
+text_cut bytes rest count begins few = CutLen count rest begins few
 
 -- a wire type that is none of the four
 pub no_type : (type_number : ℕ) → type_number ≢ 0 → type_number ≢ 1 → type_number ≢ 2 → type_number ≢ 5 → (payload : Payload) → wire_type payload ≢ type_number
@@ -37,11 +37,14 @@ no_type type_number not_0 not_1 not_2 not_5 (I32 four) = λ is. not_5 (sym is)
 tag_is : (front : List ℕ) (tag : ℕ) → IsVarint front tag → IsVarint front (8 * (tag / 8) + tag % 8)
 tag_is front tag is = rw (div-add-mod tag 8) is
 
+with_tag : (bytes rest : List ℕ) (tag : ℕ) → Begins (λ front. IsVarint front tag) bytes rest → BeginsWithTag bytes (tag / 8) (tag % 8) rest
+with_tag bytes rest tag (front, parts, is) = record { low_bits = omega arith; tag = (front, parts, tag_is front tag is) }
+
 pub number_fault : (bytes rest : List ℕ) (tag : ℕ) → Begins (λ front. IsVarint front tag) bytes rest → (IsFieldNumber (tag / 8) → ⊥) → IsFieldFault bytes BadTag
-number_fault bytes rest tag (front, parts, is) none = NoNumber front rest (tag / 8) (tag % 8) parts (tag_is front tag is) (omega arith) none
+number_fault bytes rest tag begins none = NoNumber (tag / 8) (tag % 8) rest (with_tag bytes rest tag begins) none
 
 pub payload_fault : (fault : WireFault) (bytes rest : List ℕ) (tag : ℕ) → Begins (λ front. IsVarint front tag) bytes rest → IsFieldNumber (tag / 8) → IsPayloadFault rest (tag % 8) fault → IsFieldFault bytes fault
-payload_fault fault bytes rest tag (front, parts, is) number none = NoPayload fault front rest (tag / 8) (tag % 8) parts (tag_is front tag is) (omega arith) number none
+payload_fault fault bytes rest tag begins number none = NoPayload fault (tag / 8) (tag % 8) rest (with_tag bytes rest tag begins) number none
 
 -- a tag and its payload are a field
 pub field_found : (bytes after rest : List ℕ) (tag number : ℕ) (payload : Payload) → Begins (λ front. IsVarint front tag) bytes after → number ≡ tag / 8 → IsFieldNumber number → wire_type payload ≡ tag % 8 → Begins (λ front. IsPayload front payload) after rest → Begins (λ front. IsField front (record { number = number; payload = payload })) bytes rest
@@ -105,27 +108,38 @@ no_payload bytes front rest payload (NoType n none) type_is parts is = none payl
 no_payload bytes front rest (Varint value) (NoVarint fault none) type_is parts is = no_varint bytes front rest value none parts is
 no_payload bytes front rest (I64 eight) (CutI64 few) type_is parts is = omega (arith, front_within bytes front rest parts, ap length is.0, is.1)
 no_payload bytes front rest (Len text) (NoLen fault none) type_is parts (len, split, is) = no_varint bytes len (text ++ rest) (length text) none (parts ∙ ap (λ xs. xs ++ rest) split ∙ append_assoc len text rest) is
-no_payload bytes front rest (Len text) (CutLen other after count cut count_is few) type_is parts (len, split, is) =
+no_payload bytes front rest (Len text) (CutLen count after (other, cut, count_is) few) type_is parts (len, split, is) =
     let whole : other ++ after ≡ len ++ (text ++ rest) = sym cut ∙ parts ∙ ap (λ xs. xs ++ rest) split ∙ append_assoc len text rest in
     let one = one_varint other len after (text ++ rest) count (length text) count_is is whole in
     omega (arith, few, one.0, ap length one.1, length-append text rest)
 no_payload bytes front rest (I32 four) (CutI32 few) type_is parts is = omega (arith, front_within bytes front rest parts, ap length is.0, is.1)
 no_payload bytes front rest payload fault type_is parts is = omega arith
 
+-- a tag at the front is that of the field there
+same_tag : (bytes after : List ℕ) (number type_number : ℕ) (front rest : List ℕ) (field : WireField) → BeginsWithTag bytes number type_number after → bytes ≡ front ++ rest → (is : IsField front field) → (number ≡ field.number) × (type_number ≡ wire_type field.payload) × (after ≡ is.rest ++ rest)
+same_tag bytes after number type_number front rest field begins parts is =
+    let whole : begins.tag.0 ++ after ≡ is.tag ++ (is.rest ++ rest) = sym begins.tag.1 ∙ parts ∙ ap (λ xs. xs ++ rest) is.parts ∙ append_assoc is.tag is.rest rest in
+    let tags = one_varint begins.tag.0 is.tag after (is.rest ++ rest) _ _ begins.tag.2 is.tag_is whole in
+    let one = one_tag number field.number type_number (wire_type field.payload) begins.low_bits (type_below field.payload) tags.0 in
+    (one.0, one.1, tags.1)
+
+-- two tags at the front are one
+both_tags : (bytes rest rest' : List ℕ) (m v n w : ℕ) → BeginsWithTag bytes m v rest → BeginsWithTag bytes n w rest' → (m ≡ n) × (v ≡ w) × (rest ≡ rest')
+both_tags bytes rest rest' m v n w a b =
+    let tags = one_varint a.tag.0 b.tag.0 rest rest' _ _ a.tag.2 b.tag.2 (sym a.tag.1 ∙ b.tag.1) in
+    let one = one_tag m n v w a.low_bits b.low_bits tags.0 in
+    (one.0, one.1, tags.1)
+
 -- where there is a fault, there is no field
 pub no_field : (bytes front rest : List ℕ) (field : WireField) {fault : WireFault} → IsFieldFault bytes fault → bytes ≡ front ++ rest → IsField front field → ⊥
 no_field bytes front rest field (NoTag fault none) parts is =
     no_varint bytes is.tag (is.rest ++ rest) _ none (parts ∙ ap (λ xs. xs ++ rest) is.parts ∙ append_assoc is.tag is.rest rest) is.tag_is
-no_field bytes front rest field (NoNumber tag after number type_number cut tag_is below none) parts is =
-    let whole : tag ++ after ≡ is.tag ++ (is.rest ++ rest) = sym cut ∙ parts ∙ ap (λ xs. xs ++ rest) is.parts ∙ append_assoc is.tag is.rest rest in
-    let tags = one_varint tag is.tag after (is.rest ++ rest) _ _ tag_is is.tag_is whole in
-    let one = one_tag number field.number type_number (wire_type field.payload) below (type_below field.payload) tags.0 in
+no_field bytes front rest field (NoNumber number type_number after begins none) parts is =
+    let one = same_tag bytes after number type_number front rest field begins parts is in
     none (rw one.0 is.number_is)
-no_field bytes front rest field (NoPayload fault tag after number type_number cut tag_is below in_range none) parts is =
-    let whole : tag ++ after ≡ is.tag ++ (is.rest ++ rest) = sym cut ∙ parts ∙ ap (λ xs. xs ++ rest) is.parts ∙ append_assoc is.tag is.rest rest in
-    let tags = one_varint tag is.tag after (is.rest ++ rest) _ _ tag_is is.tag_is whole in
-    let one = one_tag number field.number type_number (wire_type field.payload) below (type_below field.payload) tags.0 in
-    no_payload after is.rest rest field.payload none (sym one.1) tags.1 is.payload_is
+no_field bytes front rest field (NoPayload fault number type_number after begins in_range none) parts is =
+    let one = same_tag bytes after number type_number front rest field begins parts is in
+    no_payload after is.rest rest field.payload none (sym one.1) one.2 is.payload_is
 
 -- at most one fault has a wire type's payload
 one_payload_fault : (bytes : List ℕ) {m n : ℕ} {f g : WireFault} → m ≡ n → IsPayloadFault bytes m f → IsPayloadFault bytes n g → f ≡ g
@@ -133,39 +147,34 @@ one_payload_fault bytes same (NoType m none) (NoType n other) = refl
 one_payload_fault bytes same (NoType m none) (NoVarint g cut) = absurd (none (Varint 0) (sym same))
 one_payload_fault bytes same (NoType m none) (CutI64 few) = absurd (none (I64 []) (sym same))
 one_payload_fault bytes same (NoType m none) (NoLen g cut) = absurd (none (Len []) (sym same))
-one_payload_fault bytes same (NoType m none) (CutLen len rest count parts is few) = absurd (none (Len []) (sym same))
+one_payload_fault bytes same (NoType m none) (CutLen count rest (len, parts, is) few) = absurd (none (Len []) (sym same))
 one_payload_fault bytes same (NoType m none) (CutI32 few) = absurd (none (I32 []) (sym same))
 one_payload_fault bytes same (NoVarint f cut) (NoType n none) = absurd (none (Varint 0) same)
 one_payload_fault bytes same (CutI64 few) (NoType n none) = absurd (none (I64 []) same)
 one_payload_fault bytes same (NoLen f cut) (NoType n none) = absurd (none (Len []) same)
-one_payload_fault bytes same (CutLen len rest count parts is few) (NoType n none) = absurd (none (Len []) same)
+one_payload_fault bytes same (CutLen count rest (len, parts, is) few) (NoType n none) = absurd (none (Len []) same)
 one_payload_fault bytes same (CutI32 few) (NoType n none) = absurd (none (I32 []) same)
 one_payload_fault bytes same (NoVarint f cut) (NoVarint g other) = one_varint_fault bytes cut other
 one_payload_fault bytes same (CutI64 few) (CutI64 other) = refl
 one_payload_fault bytes same (NoLen f cut) (NoLen g other) = one_varint_fault bytes cut other
-one_payload_fault bytes same (NoLen f cut) (CutLen len rest count parts is few) = absurd (no_varint bytes len rest count cut parts is)
-one_payload_fault bytes same (CutLen len rest count parts is few) (NoLen g cut) = absurd (no_varint bytes len rest count cut parts is)
-one_payload_fault bytes same (CutLen len rest count parts is few) (CutLen len' rest' count' parts' is' few') = refl
+one_payload_fault bytes same (NoLen f cut) (CutLen count rest (len, parts, is) few) = absurd (no_varint bytes len rest count cut parts is)
+one_payload_fault bytes same (CutLen count rest (len, parts, is) few) (NoLen g cut) = absurd (no_varint bytes len rest count cut parts is)
+one_payload_fault bytes same (CutLen count rest (len, parts, is) few) (CutLen count' rest' (len', parts', is') few') = refl
 one_payload_fault bytes same (CutI32 few) (CutI32 other) = refl
 one_payload_fault bytes same a b = absurd (omega arith)
 
 -- at most one fault has a field
 pub one_field_fault : (bytes : List ℕ) {f g : WireFault} → IsFieldFault bytes f → IsFieldFault bytes g → f ≡ g
 one_field_fault bytes (NoTag f none) (NoTag g other) = one_varint_fault bytes none other
-one_field_fault bytes (NoTag f none) (NoNumber tag rest m v parts is below out) = absurd (no_varint bytes tag rest _ none parts is)
-one_field_fault bytes (NoTag f none) (NoPayload g tag rest m v parts is below within wrong) = absurd (no_varint bytes tag rest _ none parts is)
-one_field_fault bytes (NoNumber tag rest m v parts is below out) (NoTag g none) = absurd (no_varint bytes tag rest _ none parts is)
-one_field_fault bytes (NoPayload f tag rest m v parts is below within wrong) (NoTag g none) = absurd (no_varint bytes tag rest _ none parts is)
-one_field_fault bytes (NoNumber tag rest m v parts is below out) (NoNumber tag' rest' n w parts' is' below' out') = refl
-one_field_fault bytes (NoNumber tag rest m v parts is below out) (NoPayload g tag' rest' n w parts' is' below' within wrong) =
-    let tags = one_varint tag tag' rest rest' _ _ is is' (sym parts ∙ parts') in
-    let one = one_tag m n v w below below' tags.0 in
-    absurd (out (rw one.0 within))
-one_field_fault bytes (NoPayload f tag rest m v parts is below within wrong) (NoNumber tag' rest' n w parts' is' below' out) =
-    let tags = one_varint tag tag' rest rest' _ _ is is' (sym parts ∙ parts') in
-    let one = one_tag m n v w below below' tags.0 in
-    absurd (out (rw (← one.0) within))
-one_field_fault bytes (NoPayload f tag rest m v parts is below within wrong) (NoPayload g tag' rest' n w parts' is' below' within' wrong') =
-    let tags = one_varint tag tag' rest rest' _ _ is is' (sym parts ∙ parts') in
-    let one = one_tag m n v w below below' tags.0 in
-    one_payload_fault rest' one.1 (let P : List ℕ → Type 0 = λ xs. IsPayloadFault xs v f in subst P tags.1 wrong) wrong'
+one_field_fault bytes (NoTag f none) (NoNumber m v rest begins out) = absurd (no_varint bytes begins.tag.0 rest _ none begins.tag.1 begins.tag.2)
+one_field_fault bytes (NoTag f none) (NoPayload g m v rest begins within wrong) = absurd (no_varint bytes begins.tag.0 rest _ none begins.tag.1 begins.tag.2)
+one_field_fault bytes (NoNumber m v rest begins out) (NoTag g none) = absurd (no_varint bytes begins.tag.0 rest _ none begins.tag.1 begins.tag.2)
+one_field_fault bytes (NoPayload f m v rest begins within wrong) (NoTag g none) = absurd (no_varint bytes begins.tag.0 rest _ none begins.tag.1 begins.tag.2)
+one_field_fault bytes (NoNumber m v rest begins out) (NoNumber n w rest' other out') = refl
+one_field_fault bytes (NoNumber m v rest begins out) (NoPayload g n w rest' other within wrong) =
+    let one = both_tags bytes rest rest' m v n w begins other in absurd (out (rw one.0 within))
+one_field_fault bytes (NoPayload f m v rest begins within wrong) (NoNumber n w rest' other out) =
+    let one = both_tags bytes rest rest' m v n w begins other in absurd (out (rw (← one.0) within))
+one_field_fault bytes (NoPayload f m v rest begins within wrong) (NoPayload g n w rest' other within' wrong') =
+    let one = both_tags bytes rest rest' m v n w begins other in
+    one_payload_fault rest' one.1 (let P : List ℕ → Type 0 = λ xs. IsPayloadFault xs v f in subst P one.2 wrong) wrong'

@@ -1,4 +1,4 @@
-use Rattle.std.proofs.Common.{ℕ, ◌^◌, ◌<◌, List, [], ◌∷◌, ◌++◌, length, refl, sym, ◌∙◌, arith}
+use Rattle.std.proofs.Common.{◌≡◌, ℕ, ◌^◌, ◌<◌, Some, ap, List, [], ◌∷◌, ◌++◌, length, refl, sym, ◌∙◌, arith}
 use Rattle.std.proofs.Math.Nat.{mod-eq_of_lt}
 use Rattle.std.proofs.lemmas.List.{append-nil}
 use Rattle.health_wire.specs.declared.serving.Serving.{Serving}
@@ -8,7 +8,8 @@ use Rattle.health_wire.specs.Varint.{IsVarint, IsShortestVarint}
 use Rattle.health_wire.specs.Field.{WireField, IsField}
 use Rattle.health_wire.specs.Field.Payload.{Varint, Len}
 use Rattle.health_wire.specs.Message.{IsMessage}
-use Rattle.health_wire.specs.Request.{IsRequest, IsRequestBytes}
+use Rattle.health_wire.specs.Request.{IsRequest, IsRequestBytes, service_of, written_service}
+use Rattle.health_wire.proofs.MessageLemmas.{one_message}
 use Rattle.health_wire.specs.Response.{IsResponse, response_bytes}
 
 shortest_is_varint : (bytes : List ℕ) (value : ℕ) → value < 2 ^ 64 → IsShortestVarint bytes value → IsVarint bytes value
@@ -24,22 +25,33 @@ small_varint value small = record {
 lone_field : (bytes : List ℕ) (field : WireField) → IsField bytes field → IsMessage bytes (field ∷ [])
 lone_field bytes field is = (bytes, [], sym (append-nil bytes), is, refl)
 
+named_message : (bytes : List ℕ) (byte : ℕ) (name : List ℕ) → length (byte ∷ name) < 2 ^ 64 → IsRequestBytes bytes (byte ∷ name) → IsMessage bytes (record { number = 1; payload = Len (byte ∷ name) } ∷ [])
+named_message bytes byte name fits (len, parts, len_is) =
+    lone_field bytes (record { number = 1; payload = Len (byte ∷ name) }) (record {
+      tag = 10 ∷ [];
+      rest = len ++ byte ∷ name;
+      parts = parts;
+      tag_is = small_varint 10 (omega arith);
+      number_is = record { least = omega arith; most = omega arith };
+      payload_is = (len, refl, shortest_is_varint len _ fits len_is);
+    })
+
 pub request_again : (bytes name : List ℕ) → length name < 2 ^ 64 → IsRequestBytes bytes name → IsRequest bytes name
 request_again bytes [] fits empty = record { fields = []; message = empty; name_is = refl }
-request_again bytes (byte ∷ name) fits (len, parts, len_is) =
+request_again bytes (byte ∷ name) fits written = record {
+  fields = record { number = 1; payload = Len (byte ∷ name) } ∷ [];
+  message = named_message bytes byte name fits written;
+  name_is = refl;
+}
+
+named_again : (byte : ℕ) (name : List ℕ) (fields : List WireField) → fields ≡ record { number = 1; payload = Len (byte ∷ name) } ∷ [] → service_of fields ≡ Some (byte ∷ name)
+named_again byte name fields is = ap service_of is
+
+pub service_again : (bytes name : List ℕ) (fields : List WireField) → length name < 2 ^ 64 → IsRequestBytes bytes name → IsMessage bytes fields → service_of fields ≡ written_service name
+service_again bytes [] fields fits empty is = ap service_of (one_message bytes fields [] is empty)
+service_again bytes (byte ∷ name) fields fits written is =
     let field : WireField = record { number = 1; payload = Len (byte ∷ name) } in
-    record {
-      fields = field ∷ [];
-      message = lone_field bytes field (record {
-        tag = 10 ∷ [];
-        rest = len ++ byte ∷ name;
-        parts = parts;
-        tag_is = small_varint 10 (omega arith);
-        number_is = record { least = omega arith; most = omega arith };
-        payload_is = (len, refl, shortest_is_varint len _ fits len_is);
-      });
-      name_is = refl;
-    }
+    named_again byte name fields (one_message bytes fields (field ∷ []) is (named_message bytes byte name fits written))
 
 status_again : (number : ℕ) → number < 128 → IsResponse (8 ∷ number ∷ []) number
 status_again number small =

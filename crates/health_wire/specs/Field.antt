@@ -5,6 +5,7 @@ use Rattle.health_wire.specs.declared.fault.WireFault.TheVariants.{Truncated, Ba
 use Rattle.health_wire.specs.declared.field.Field.{Field}
 use Rattle.health_wire.specs.declared.field.Value.{Value}
 use Rattle.health_wire.specs.declared.field.Value.TheVariants.{Varint as VarintValue, Eight as EightValue, Bytes as BytesValue, Four as FourValue}
+use Rattle.health_wire.specs.Parts.{Begins}
 use Rattle.health_wire.specs.Varint.{IsVarint, IsVarintFault}
 
 -- what a field holds, by the guide's names of the wire types
@@ -47,27 +48,33 @@ pub record IsField (bytes : List ℕ) (field : WireField) : Type 0 where
   pub number_is : IsFieldNumber field.number
   pub payload_is : IsPayload rest field.payload
 
--- why no payload of a wire type stands at the front: no payload has that type, or it is cut short
+-- the bytes begin with the tag of this number and wire type
+pub record BeginsWithTag (bytes : List ℕ) (number type_number : ℕ) (rest : List ℕ) : Type 0 where
+  pub low_bits : type_number < 8
+  pub tag : Begins (λ front. IsVarint front (8 * number + type_number)) bytes rest
+
+-- why no payload of a wire type stands at the front: no payload has that type, its varint is wrong, or it is cut
 pub data IsPayloadFault (bytes : List ℕ) : ℕ → WireFault → Type 0 where
   NoType : (type_number : ℕ) → ((payload : Payload) → wire_type payload ≢ type_number) → IsPayloadFault bytes type_number BadTag
   NoVarint : (fault : WireFault) → IsVarintFault bytes fault → IsPayloadFault bytes 0 fault
   CutI64 : length bytes < 8 → IsPayloadFault bytes 1 Truncated
   NoLen : (fault : WireFault) → IsVarintFault bytes fault → IsPayloadFault bytes 2 fault
-  CutLen : (len rest : List ℕ) (count : ℕ) → bytes ≡ len ++ rest → IsVarint len count → length rest < count → IsPayloadFault bytes 2 Truncated
+  CutLen : (count : ℕ) (rest : List ℕ) → Begins (λ len. IsVarint len count) bytes rest → length rest < count → IsPayloadFault bytes 2 Truncated
   CutI32 : length bytes < 4 → IsPayloadFault bytes 5 Truncated
 
 -- why no field stands at the front: there is no tag, its number is out of range, or there is no payload of its type
 pub data IsFieldFault (bytes : List ℕ) : WireFault → Type 0 where
   NoTag : (fault : WireFault) → IsVarintFault bytes fault → IsFieldFault bytes fault
-  NoNumber : (tag rest : List ℕ) (number type_number : ℕ) → bytes ≡ tag ++ rest → IsVarint tag (8 * number + type_number) → type_number < 8 → (IsFieldNumber number → ⊥) → IsFieldFault bytes BadTag
-  NoPayload : (fault : WireFault) (tag rest : List ℕ) (number type_number : ℕ) → bytes ≡ tag ++ rest → IsVarint tag (8 * number + type_number) → type_number < 8 → IsFieldNumber number → IsPayloadFault rest type_number fault → IsFieldFault bytes fault
+  NoNumber : (number type_number : ℕ) (rest : List ℕ) → BeginsWithTag bytes number type_number rest → (IsFieldNumber number → ⊥) → IsFieldFault bytes BadTag
+  NoPayload : (fault : WireFault) (number type_number : ℕ) (rest : List ℕ) → BeginsWithTag bytes number type_number rest → IsFieldNumber number → IsPayloadFault rest type_number fault → IsFieldFault bytes fault
 
--- a read field, apart from where it lies in memory
+-- a payload that was read, apart from where it lies in memory
 abbrev pub payload_of : Value → Payload
 payload_of (VarintValue value) = Varint value
 payload_of (EightValue eight) = I64 eight
 payload_of (BytesValue text) = Len text.now
 payload_of (FourValue four) = I32 four
 
+-- a field that was read, apart from where it lies in memory
 abbrev pub field_of : Field → WireField
 field_of field = record { number = field.number; payload = payload_of field.value }

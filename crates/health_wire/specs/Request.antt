@@ -15,9 +15,11 @@ text_at_1 number (I64 eight) = None
 text_at_1 number (Len text) = if number == 1 then Some text else None
 text_at_1 number (I32 four) = None
 
+-- the name that a field gives
 abbrev pub service_in : WireField → Option (List ℕ)
 service_in field = text_at_1 field.number field.payload
 
+-- the name that the fields give, of which the last one wins
 abbrev pub service_of : List WireField → Option (List ℕ)
 service_of fields = last_given service_in fields
 
@@ -40,3 +42,8 @@ pub data IsRequestFault (bytes : List ℕ) : WireFault → Type 0 where
 abbrev pub IsRequestBytes : List ℕ → List ℕ → Type 0
 IsRequestBytes bytes [] = bytes ≡ []
 IsRequestBytes bytes (byte ∷ name) = (len : List ℕ) × (bytes ≡ 10 ∷ len ++ byte ∷ name) × IsShortestVarint len (length (byte ∷ name))
+
+-- the name that written bytes give: none where it is the default
+abbrev pub written_service : List ℕ → Option (List ℕ)
+written_service [] = None
+written_service (byte ∷ name) = Some (byte ∷ name)

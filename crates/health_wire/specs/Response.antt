@@ -14,6 +14,7 @@ number_at_1 number (I64 eight) = None
 number_at_1 number (Len text) = None
 number_at_1 number (I32 four) = None
 
+-- the number that a field gives
 abbrev pub status_in : WireField → Option ℕ
 status_in field = number_at_1 field.number field.payload
 

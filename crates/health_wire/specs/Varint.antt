@@ -3,6 +3,10 @@ use Rattle.std.specs.Prelude.{◌≡◌, ℕ, ◌+◌, ◌-◌, ◌*◌, ◌%◌
 use Rattle.health_wire.specs.declared.fault.WireFault.{WireFault}
 use Rattle.health_wire.specs.declared.fault.WireFault.TheVariants.{Truncated, BadVarint}
 
+-- each number of the list is a byte
+abbrev pub AreBytes : List ℕ → Type 0
+AreBytes bytes = (k : ℕ) → slice_index bytes k < 256
+
 -- the first so many bytes have their top bit set: a varint goes on after each of them
 abbrev pub AllContinue : List ℕ → ℕ → Type 0
 AllContinue bytes count = (k : ℕ) → k < count → 128 ≤ slice_index bytes k
@@ -24,7 +28,7 @@ pub record IsVarint (bytes : List ℕ) (value : ℕ) : Type 0 where
   pub form : IsVarintForm bytes
   pub value_is : value ≡ groups_value bytes % 2 ^ 64
 
--- the one spelling that drops no bits, and whose last group could not be left out
+-- the shortest spelling of the value: it drops no bits, and its last group could not be left out
 pub record IsShortestVarint (bytes : List ℕ) (value : ℕ) : Type 0 where
   pub form : IsVarintForm bytes
   pub value_is : value ≡ groups_value bytes

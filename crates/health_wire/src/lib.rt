@@ -12,7 +12,7 @@ mod varint;
 
 pub use fault::WireFault;
 pub use field::{Field, Value};
-pub use laws::{one_reading, round_trip};
+pub use laws::{one_reading, one_request, one_spelling, round_trip};
 pub use message::fields;
 pub use request::{read_request, write_request};
 pub use response::{Message, read_response, write_response};

@@ -7,7 +7,7 @@ use Rattle.grpc_frame.specs.Trailers.{block}
 use Rattle.health_wire.specs.declared.serving.Serving.{Serving}
 use Rattle.healthd.specs.declared.ask.Method.TheVariants.{Check}
 use Rattle.healthd.specs.Ask.{Asked, IsAsked, Refused, Checked}
-use Rattle.healthd.specs.Answer.{IsAnswer, status_in}
+use Rattle.healthd.specs.Answer.{IsAnswer, listed_status}
 use Rattle.healthd.specs.Answer.IsAnswer.{TooLarge, Refuses, Answers}
 use Rattle.healthd.specs.Response.{check_body_text}
 
@@ -18,7 +18,7 @@ too_large list body answer over is = rw is (TooLarge over)
 pub refuses : (list : List (String Global × Serving)) (body answer : List ℕ) (code : Code) (text : List ℕ) → length body ≤ 8192 → IsAsked Check body (Refused code text) → answer ≡ frame 128 (block code text) → IsAnswer list body answer
 refuses list body answer code text within asked is = rw is (Refuses code text within asked)
 
-pub answers : (list : List (String Global × Serving)) (body answer name : List ℕ) (status : Option Serving) → length body ≤ 8192 → IsAsked Check body (Checked name) → status ≡ status_in list name → answer ≡ check_body_text status → IsAnswer list body answer
+pub answers : (list : List (String Global × Serving)) (body answer name : List ℕ) (status : Option Serving) → length body ≤ 8192 → IsAsked Check body (Checked name) → status ≡ listed_status list name → answer ≡ check_body_text status → IsAnswer list body answer
 answers list body answer name status within asked found is = rw (is, found) (Answers name within asked)
 
 pub one_answer_to : ((a b : Asked) (body : List ℕ) → IsAsked Check body a → IsAsked Check body b → a ≡ b) → (list : List (String Global × Serving)) (body a b : List ℕ) → IsAnswer list body a → IsAnswer list body b → a ≡ b
@@ -39,4 +39,4 @@ one_answer_to once list body a b (Answers name within asked) (Refuses code text 
 one_answer_to once list body a b (Answers name within asked) (Answers other within' asked') =
     let same : Checked name ≡ Checked other = once _ _ body asked asked' in
     let names_same : name ≡ other = cc in
-    ap (λ n. check_body_text (status_in list n)) names_same
+    ap (λ n. check_body_text (listed_status list n)) names_same

@@ -1,28 +1,18 @@
-use Rattle.std.proofs.Common.{◌≡◌, ℕ, List, Ok, Err, refl, ap, subst, sym, ◌∙◌}
+use Rattle.std.proofs.Common.{◌≡◌, ℕ, List, Ok, Err, refl, ap, subst}
 use Rattle.std.specs.Str.{IsUtf8}
 use Rattle.grpc_frame.specs.declared.fault.FrameFault.{FrameFault}
 use Rattle.grpc_frame.specs.Message.{IsOneMessage, HasOneAnswer}
 use Rattle.health_wire.specs.declared.fault.WireFault.{WireFault}
-use Rattle.health_wire.specs.Field.{WireField}
-use Rattle.health_wire.specs.Message.{IsMessage, IsFault}
-use Rattle.health_wire.specs.Request.{IsRequest, IsRequestFault, name_of}
-use Rattle.health_wire.specs.Request.IsRequestFault.{Wire, Name}
+use Rattle.health_wire.specs.Request.{IsRequest, IsRequestFault}
 use Rattle.healthd.specs.declared.ask.Method.{Method}
 use Rattle.healthd.specs.Ask.{Asked, IsAsked, refusal, asked_for}
 use Rattle.healthd.specs.Ask.IsAsked.{BadFrame, BadMessage, Asks}
 
--- what the layers below say: a body has one answer at most, and bytes have one reading at most
+-- what the layers below say: a body has one answer at most, and bytes are one request at most
 pub record ReadsOnce : Type 0 where
   pub answer : (body : List ℕ) → HasOneAnswer body
-  pub fields : (bytes : List ℕ) (a b : List WireField) → IsMessage bytes a → IsMessage bytes b → a ≡ b
-  pub either : (bytes : List ℕ) (a : List WireField) (b : WireFault) → IsMessage bytes a → IsFault bytes b → ⊥
-
-one_name : ReadsOnce → (bytes a b : List ℕ) → IsRequest bytes a → IsRequest bytes b → a ≡ b
-one_name once bytes a b is_a is_b = is_a.name_is ∙ ap name_of (once.fields bytes is_a.fields is_b.fields is_a.message is_b.message) ∙ sym is_b.name_is
-
-no_name : ReadsOnce → (bytes name : List ℕ) (fault : WireFault) → IsRequestFault bytes fault → IsRequest bytes name → IsUtf8 name → ⊥
-no_name once bytes name fault (Wire f wrong) is text = once.either bytes is.fields f is.message wrong
-no_name once bytes name fault (Name other asked no_text) is text = no_text (let P : List ℕ → Type 0 = λ n. IsUtf8 n in subst P (one_name once bytes name other is asked) text)
+  pub name : (bytes a b : List ℕ) → IsRequest bytes a → IsRequest bytes b → a ≡ b
+  pub either : (bytes name : List ℕ) (fault : WireFault) → IsRequest bytes name → IsUtf8 name → IsRequestFault bytes fault → ⊥
 
 -- a message is one, and is no fault
 same_message : ReadsOnce → (body a b : List ℕ) → IsOneMessage body (Ok a) → IsOneMessage body (Ok b) → a ≡ b
@@ -41,10 +31,10 @@ one_asked once method body a b (BadFrame f is_f) (Asks m name is asked text) = a
 one_asked once method body a b (BadMessage m g is wrong) (BadFrame f is_f) = absurd (not_both once body m f is is_f)
 one_asked once method body a b (BadMessage m f is wrong) (BadMessage n g is_n other) = refl
 one_asked once method body a b (BadMessage m f is wrong) (Asks n name is_n asked text) =
-    absurd (no_name once n name f (let P : List ℕ → Type 0 = λ xs. IsRequestFault xs f in subst P (same_message once body m n is is_n) wrong) asked text)
+    absurd (once.either n name f asked text (let P : List ℕ → Type 0 = λ xs. IsRequestFault xs f in subst P (same_message once body m n is is_n) wrong))
 one_asked once method body a b (Asks m name is asked text) (BadFrame f is_f) = absurd (not_both once body m f is is_f)
 one_asked once method body a b (Asks n name is_n asked text) (BadMessage m f is wrong) =
-    absurd (no_name once n name f (let P : List ℕ → Type 0 = λ xs. IsRequestFault xs f in subst P (same_message once body m n is is_n) wrong) asked text)
+    absurd (once.either n name f asked text (let P : List ℕ → Type 0 = λ xs. IsRequestFault xs f in subst P (same_message once body m n is is_n) wrong))
 one_asked once method body a b (Asks m name is asked text) (Asks n other is_n asked_n text_n) =
     let P : List ℕ → Type 0 = λ xs. IsRequest xs name in
-    ap (asked_for method) (one_name once n name other (subst P (same_message once body m n is is_n) asked) asked_n)
+    ap (asked_for method) (once.name n name other (subst P (same_message once body m n is is_n) asked) asked_n)

@@ -14,11 +14,12 @@ use Rattle.healthd.specs.Ask.{IsAsked, Refused, Checked}
 use Rattle.healthd.specs.Response.{check_body_text}
 
 -- the status in the first pair with this name
-abbrev pub status_in : List (String Global × Serving) → List ℕ → Option Serving
-status_in list name = option_map (λ pair. pair.1) (find (λ pair. bytes_eq (string_bytes pair.0) name) list)
+abbrev pub listed_status : List (String Global × Serving) → List ℕ → Option Serving
+listed_status list name = option_map (λ pair. pair.1) (find (λ pair. bytes_eq (string_bytes pair.0) name) list)
 
--- the answer to the body of a Check: a body over 8,192 bytes is refused unread, and what the body asks is answered from the list
+-- the answer to the body of a Check: one over 8,192 bytes, this server's limit, is refused unread, and another is answered by
+-- what it asks, from the list
 pub data IsAnswer (list : List (String Global × Serving)) (body : List ℕ) : List ℕ → Type 0 where
   TooLarge : 8192 < length body → IsAnswer list body (frame 128 (block ResourceExhausted (codes "request too large")))
   Refuses : (code : Code) (text : List ℕ) → length body ≤ 8192 → IsAsked Check body (Refused code text) → IsAnswer list body (frame 128 (block code text))
-  Answers : (name : List ℕ) → length body ≤ 8192 → IsAsked Check body (Checked name) → IsAnswer list body (check_body_text (status_in list name))
+  Answers : (name : List ℕ) → length body ≤ 8192 → IsAsked Check body (Checked name) → IsAnswer list body (check_body_text (listed_status list name))

@@ -1,5 +1,6 @@
 -- How a request's body is read: the frame of one message (PROTOCOL-WEB.md of grpc), and in it a `HealthCheckRequest`
--- (health.proto). The codes are gRPC's: a server that has no such compression answers Unimplemented (compression.md of grpc).
+-- (health.proto). A server without the compression of a message answers Unimplemented (compression.md of grpc); that all
+-- other faults are Internal is this server's choice.
 use Rattle.std.specs.Prelude.{ℕ, List, codes, Ok, Err}
 use Rattle.std.specs.Str.{IsUtf8}
 use Rattle.grpc_frame.specs.declared.code.Code.{Code}
@@ -21,6 +22,7 @@ pub data Asked : Type 0 where
   Checked : List ℕ → Asked
   Watched : List ℕ → Asked
 
+-- a request that was read, as this
 abbrev pub asked_of : Ask → Asked
 asked_of (Status code text) = Refused code text.now
 asked_of (CheckOf name) = Checked name.now

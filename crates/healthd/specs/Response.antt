@@ -6,7 +6,8 @@ use Rattle.grpc_frame.specs.Trailers.{block}
 use Rattle.health_wire.specs.declared.serving.Serving.{Serving}
 use Rattle.health_wire.specs.Response.{response_bytes}
 
--- the status in one message, or for a name that is not registered the status NOT_FOUND alone (health-checking.md of grpc)
+-- the message of a status and then the trailers of OK; for a name that is not registered, the trailers of NOT_FOUND alone
+-- (health-checking.md of grpc)
 abbrev pub check_body_text : Option Serving → List ℕ
 check_body_text (Some status) = frame 0 (response_bytes status) ++ frame 128 (block Ok [])
 check_body_text None = frame 128 (block NotFound (codes "unknown service"))

@@ -1,7 +1,7 @@
 ghost use Rattle.std.specs.Prelude.{◌≡◌, ℕ, List, IfOk, String};
 ghost use Rattle.std.specs.Global.{Global};
 ghost use Rattle.health_wire.specs.declared.serving.Serving.{Serving};
-ghost use Rattle.healthd.specs.Answer.{IsAnswer, status_in};
+ghost use Rattle.healthd.specs.Answer.{IsAnswer, listed_status};
 
 use crate::ask::{Ask, Method, ask_of, one_ask};
 use crate::response::{check_body, status_body};
@@ -33,7 +33,7 @@ pub fn answer_body(
 }
 
 fn status_of(list: &[(String, Serving)], name: &str) -> Option<Serving>
-    ensures { result ≡ status_in list.now name.now }
+    ensures { result ≡ listed_status list.now name.now }
 {
     list.iter()
         .find(|pair| pair.0.as_str() == name)

@@ -3,7 +3,7 @@ ghost use Rattle.healthd.specs.declared.ask.Method.{Method};
 ghost use Rattle.healthd.specs.Ask.{Asked, IsAsked, asked_of, refusal, HasStatusText};
 
 use grpc_frame::{Code, FrameFault, one_answer, one_message};
-use health_wire::{one_reading, read_request};
+use health_wire::{one_request, read_request};
 
 const COMPRESSED_MESSAGE: &str = "compressed message";
 
@@ -55,5 +55,5 @@ pub fn one_ask()
     ensures { (method : Method) (body : List ℕ) (a b : Asked) → IsAsked method body a → IsAsked method body b → a ≡ b }
 {
     one_answer();
-    one_reading();
+    one_request();
 }
