@@ -1,9 +1,13 @@
--- What is said of a request's body that is not the frame of one message.
+-- The texts of the faults.
 use Rattle.std.specs.Prelude.{ℕ, List, codes}
 use Rattle.grpc_frame.specs.declared.fault.FrameFault.{FrameFault}
 use Rattle.grpc_frame.specs.declared.fault.FrameFault.TheVariants.{Truncated, Compressed, NoMessage, MoreThanOne, TrailerInRequest, BadFlag}
+use Rattle.grpc_frame.specs.declared.fault.SplitFault.{SplitFault}
+use Rattle.grpc_frame.specs.declared.fault.SplitFault.TheVariants.{NoMemory, TooLong}
+use Rattle.grpc_frame.specs.declared.fault.TrailerFault.{TrailerFault}
+use Rattle.grpc_frame.specs.declared.fault.TrailerFault.TheVariants.{NoColon, NoStatus, BadStatus}
 
--- the text of a fault
+-- what is said of a request's body that is not the frame of one message
 abbrev pub text_of : FrameFault → List ℕ
 text_of Truncated = codes "the body ends inside a frame"
 text_of Compressed = codes "the message is compressed"
@@ -11,3 +15,14 @@ text_of NoMessage = codes "the body holds no message"
 text_of MoreThanOne = codes "the body holds more than one message"
 text_of TrailerInRequest = codes "a request has no trailers"
 text_of BadFlag = codes "no frame has this flag"
+
+-- what is said where no frame was taken off a stream
+abbrev pub split_text_of : SplitFault → List ℕ
+split_text_of NoMemory = codes "out of memory"
+split_text_of TooLong = codes "the frame is too long"
+
+-- what is said of trailers that tell no status
+abbrev pub trailer_text_of : TrailerFault → List ℕ
+trailer_text_of NoColon = codes "a line has no colon"
+trailer_text_of NoStatus = codes "no line has a status"
+trailer_text_of BadStatus = codes "the status is no number"

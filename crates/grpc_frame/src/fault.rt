@@ -1,3 +1,4 @@
+use std::alloc::{AllocError, AllocFailed};
 use std::error::Error;
 use std::fmt;
 
@@ -37,3 +38,73 @@ impl fmt::Display for FrameFault {
 }
 
 impl Error for FrameFault {}
+
+/// Why no frame was taken off a stream that may hold one.
+#[derive(Clone, Copy, Debug, PartialEq, Eq, Hash)]
+pub enum SplitFault {
+    NoMemory,
+    TooLong,
+}
+
+impl fmt::Display for SplitFault {
+    ghost use Rattle.std.specs.Prelude.{Some};
+    ghost use Rattle.grpc_frame.specs.Fault.{split_text_of};
+
+    ghost output = { λ fault. Some (split_text_of fault) };
+
+    fn fmt<W: fmt::Write>(&self, f: &mut fmt::Formatter<W>) -> fmt::Result {
+        f.write_str(match self {
+            SplitFault::NoMemory => "out of memory",
+            SplitFault::TooLong => "the frame is too long",
+        })
+    }
+}
+
+impl Error for SplitFault {}
+
+impl From<AllocError> for SplitFault {
+    ghost use Rattle.std.specs.Prelude.{◌≡◌};
+    ghost use Rattle.grpc_frame.specs.declared.fault.SplitFault.TheVariants.{NoMemory};
+
+    ghost from_gives = { λ _ fault. fault ≡ NoMemory };
+
+    fn from(_refused: AllocError) -> SplitFault {
+        SplitFault::NoMemory
+    }
+}
+
+impl<T: Drop> From<AllocFailed<T>> for SplitFault {
+    ghost use Rattle.std.specs.Prelude.{◌≡◌};
+    ghost use Rattle.grpc_frame.specs.declared.fault.SplitFault.TheVariants.{NoMemory};
+
+    ghost from_gives = { λ _ fault. fault ≡ NoMemory };
+
+    fn from(_refused: AllocFailed<T>) -> SplitFault {
+        SplitFault::NoMemory
+    }
+}
+
+/// Why the trailers of a response tell no status.
+#[derive(Clone, Copy, Debug, PartialEq, Eq, Hash)]
+pub enum TrailerFault {
+    NoColon,
+    NoStatus,
+    BadStatus,
+}
+
+impl fmt::Display for TrailerFault {
+    ghost use Rattle.std.specs.Prelude.{Some};
+    ghost use Rattle.grpc_frame.specs.Fault.{trailer_text_of};
+
+    ghost output = { λ fault. Some (trailer_text_of fault) };
+
+    fn fmt<W: fmt::Write>(&self, f: &mut fmt::Formatter<W>) -> fmt::Result {
+        f.write_str(match self {
+            TrailerFault::NoColon => "a line has no colon",
+            TrailerFault::NoStatus => "no line has a status",
+            TrailerFault::BadStatus => "the status is no number",
+        })
+    }
+}
+
+impl Error for TrailerFault {}

@@ -3,6 +3,13 @@ ghost use Rattle.std.specs.Int.{w32, to_be_bytes};
 
 use std::alloc::AllocError;
 
+/// A frame that was taken off a stream.
+#[derive(Debug, Drop, PartialEq, Eq)]
+pub struct Frame {
+    pub flag: u8,
+    pub body: Vec<u8>,
+}
+
 /// Writes a frame's flag and length, and leaves room for its content.
 pub(crate) fn open_frame(out: &mut Vec<u8>, flag: u8, len: usize) -> Result<(), AllocError>
     requires { len < 2 ^ 32 }

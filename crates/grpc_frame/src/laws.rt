@@ -1,6 +1,11 @@
-ghost use Rattle.std.specs.Prelude.{◌^◌, ◌<◌, List, ℕ, ◌++◌, length};
+ghost use Rattle.std.specs.Prelude.{◌≡◌, ◌^◌, ◌<◌, ◌≤◌, List, ℕ, [], ◌++◌, length, Ok};
+ghost use Rattle.grpc_frame.specs.declared.code.Code.{Code};
+ghost use Rattle.grpc_frame.specs.Code.{code_number};
 ghost use Rattle.grpc_frame.specs.Frame.{frame};
+ghost use Rattle.grpc_frame.specs.Lines.{lines, trim, AreLines};
 ghost use Rattle.grpc_frame.specs.Message.{BeginsWith, HasOneFront, IsOneMessage, HasOneAnswer};
+ghost use Rattle.grpc_frame.specs.Split.{BeginsWithFrame, BeginsWithNoFrame, HasOneFirst, BeginsTooLong, AreFrames, HasOneSplit, Step, Run, fed_bytes, taken_frames};
+ghost use Rattle.grpc_frame.specs.Trailers.{block, IsStatusText, written_text, trailers_in};
 
 /// A written frame is split off whole, whatever follows it.
 pub fn whole_frame()
@@ -18,4 +23,43 @@ pub fn read_back()
 /// The rules of `one_message` give each body at most one answer.
 pub fn one_answer()
     ensures { (body : List ℕ) → HasOneAnswer body }
+{}
+
+/// A written frame is taken off whole, whatever follows it, unless it is too long.
+pub fn first_frame()
+    ensures front { (flag : ℕ) (content rest : List ℕ) → length content ≤ 1048576
+        → BeginsWithFrame (frame flag content ++ rest) flag content rest }
+    ensures only { (bytes : List ℕ) → HasOneFirst bytes }
+    ensures too_long { (bytes : List ℕ) → BeginsTooLong bytes → BeginsWithNoFrame bytes }
+{}
+
+/// However a stream is cut into pieces, and whenever frames are taken, they are the stream's frames, and then comes the rest.
+pub fn any_cutting()
+    ensures stream { (steps : List Step) (rest : List ℕ) → Run [] steps rest
+        → AreFrames (fed_bytes steps) (taken_frames steps) rest }
+    ensures only { (bytes : List ℕ) → HasOneSplit bytes }
+
+    // Where two runs were fed the same bytes, and no frame is left to take, they took the same.
+    ensures same { (steps others : List Step) (rest more : List ℕ)
+        → Run [] steps rest → Run [] others more → fed_bytes steps ≡ fed_bytes others
+        → BeginsWithNoFrame rest → BeginsWithNoFrame more
+        → (taken_frames steps ≡ taken_frames others) × (rest ≡ more) }
+{}
+
+/// A rest that begins with a frame that is too long does so for ever, and so each later take answers that.
+pub fn stays_too_long()
+    ensures { (steps : List Step) (old new : List ℕ) → BeginsTooLong old → Run old steps new
+        → BeginsTooLong new }
+{}
+
+/// Each block has just the lines that `lines` gives.
+pub fn one_cut()
+    ensures lines { (block : List ℕ) → AreLines block (lines block) }
+    ensures only { (block : List ℕ) (all : List (List ℕ)) → AreLines block all → all ≡ lines block }
+{}
+
+/// Written trailers are read as their status and text, where no space stands at an end of the text.
+pub fn trailers_read_back()
+    ensures { (code : Code) (text : List ℕ) → IsStatusText text → trim text ≡ text
+        → trailers_in (lines (block code text)) ≡ Ok (code_number code, written_text code text) }
 {}

@@ -1,7 +1,7 @@
 ghost use Rattle.grpc_frame.specs.Trailers.{IsStatusText};
 
 use super::*;
-use std::alloc::Global;
+use std::alloc::{AllocFailed, Global};
 use std::process::Abort;
 use std::test::Fail;
 
@@ -90,4 +90,113 @@ fn appends_the_trailers_of_each_status(rt: HostRuntime) -> Result<(), Fail> {
         assert_eq!(rt; out.get(1..), Some(expected), "at {text}");
     }
     Ok(())
+}
+
+const RESPONSE: &[u8] = b"\0\0\0\0\x02\x08\x01\x80\0\0\0\x0fgrpc-status:0\r\n";
+
+const FRAMES: [(u8, &[u8]); 2] = [(0, b"\x08\x01"), (0x80, b"grpc-status:0\r\n")];
+
+#[test]
+fn takes_the_frames_of_a_response_fed_byte_by_byte(rt: HostRuntime) -> Result<(), Fail> {
+    let mut splitter = Splitter::new(rt.alloc());
+    for byte in RESPONSE {
+        splitter.feed(&[*byte])?;
+    }
+    for (flag, body) in FRAMES {
+        let frame = splitter.take()?.ok_or("no frame")?;
+        assert_eq!(rt; frame.flag, flag);
+        assert_eq!(rt; frame.body.as_slice(), body, "at flag {flag}");
+    }
+    assert_eq!(rt; splitter.take()?, None);
+    assert_eq!(rt; splitter.rest(), b"".as_slice());
+    Ok(())
+}
+
+#[test]
+fn takes_each_frame_as_soon_as_it_is_whole(rt: HostRuntime) -> Result<(), Fail> {
+    let mut splitter = Splitter::new(rt.alloc());
+    let mut ends = Vec::new(rt.alloc());
+    for (i, byte) in RESPONSE.iter().enumerate() {
+        splitter.feed(&[*byte])?;
+        if splitter.take()?.is_some() {
+            ends.push(i)?;
+        }
+    }
+    assert_eq!(rt; ends.as_slice(), [6, 26].as_slice());
+    Ok(())
+}
+
+const STARTS: [(&[u8], Result<bool, SplitFault>); 8] = [
+    (b"", Ok(false)),
+    (b"\x01\0\x10\0", Ok(false)),
+    (b"\0\0\x10\0\0", Ok(false)),
+    (b"\0\0\x10\0\x01", Err(SplitFault::TooLong)),
+    (
+        b"\x80\xff\xff\xff\xffgrpc-status:0",
+        Err(SplitFault::TooLong),
+    ),
+    (b"\0\xff\xff\xff", Ok(false)),
+    (b"\x7f\0\0\0\0", Ok(true)),
+    (b"\0\0\0\0\x02\x08", Ok(false)),
+];
+
+#[test]
+fn takes_a_frame_none_or_refuses_its_length(rt: HostRuntime) -> Result<(), Fail> {
+    for (bytes, expected) in STARTS {
+        let mut splitter = Splitter::new(rt.alloc());
+        splitter.feed(bytes)?;
+        let first = splitter.take().map(|frame| frame.is_some());
+        assert_eq!(rt; first, expected, "at {bytes:?}");
+        if expected == Ok(true) {
+            continue;
+        }
+        let second = splitter.take().map(|frame| frame.is_some());
+        assert_eq!(rt; second, expected, "at {bytes:?}");
+        assert_eq!(rt; splitter.rest(), bytes);
+    }
+    Ok(())
+}
+
+#[test]
+fn tells_want_of_memory(rt: HostRuntime) {
+    let refused = AllocFailed { value: 7u8 };
+    assert_eq!(rt; SplitFault::from(refused), SplitFault::NoMemory);
+}
+
+const BLOCKS: [(&[u8], Result<(u32, &[u8]), TrailerFault>); 18] = [
+    (b"", Err(TrailerFault::NoStatus)),
+    (b"grpc-status:0\r\nab", Err(TrailerFault::NoColon)),
+    (b"grpc-status:0\r\n\r\n", Err(TrailerFault::NoColon)),
+    (b"grpc-status:x\r\nab", Err(TrailerFault::NoColon)),
+    (b"grpc-message:x", Err(TrailerFault::NoStatus)),
+    (b"grpc-status:x", Err(TrailerFault::BadStatus)),
+    (b"grpc-status:", Err(TrailerFault::BadStatus)),
+    (b"grpc-status:+1", Err(TrailerFault::BadStatus)),
+    (b"grpc-status:1234567890", Err(TrailerFault::BadStatus)),
+    (b"grpc-status:1\r", Err(TrailerFault::BadStatus)),
+    (b"grpc-status:999999999", Ok((999_999_999, b""))),
+    (b"grpc-status:000000007", Ok((7, b""))),
+    (b"grpc-status: 0\r\n", Ok((0, b""))),
+    (b"GRPC-Message: x\r\na:b\r\ngrpc-status:\t7", Ok((7, b"x"))),
+    (b"grpc-status:5\r\ngrpc-status:0\r\n", Ok((5, b""))),
+    (
+        b"grpc-status:x\r\ngrpc-status:0\r\n",
+        Err(TrailerFault::BadStatus),
+    ),
+    (
+        b"grpc-message:\t a b: c \t\r\nGrpc-Status: \t14 \r\n",
+        Ok((14, b"a b: c")),
+    ),
+    (
+        b"grpc-status :3\r\ngrpc-status:2\r\ngrpc-message:\n",
+        Ok((2, b"\n")),
+    ),
+];
+
+#[test]
+fn reads_trailers_or_the_first_fault(rt: HostRuntime) {
+    for (block, expected) in BLOCKS {
+        let read = read_trailers(block).map(|read| (read.code, read.text));
+        assert_eq!(rt; read, expected, "at {block:?}");
+    }
 }

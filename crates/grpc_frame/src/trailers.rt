@@ -1,9 +1,14 @@
-ghost use Rattle.std.specs.Prelude.{◌≡◌, ◌+◌, ◌^◌, ◌<◌, ◌≤◌, ◌++◌, length, vec_len, vec_capacity, OnOk, OnErr};
+ghost use Rattle.std.specs.Prelude.{◌≡◌, ◌+◌, ◌^◌, ◌<◌, ◌≤◌, ◌++◌, if◌then◌else◌, length, vec_len, vec_capacity, IsTrue, Some, None, Ok, Err, IfOk, IfErr, OnOk, OnErr};
+ghost use Rattle.std.specs.Char.{is_ascii_digit};
+ghost use Rattle.std.specs.List.{list_all};
+ghost use Rattle.std.specs.Str.Parse.{digits_value};
 ghost use Rattle.grpc_frame.specs.Frame.{frame};
-ghost use Rattle.grpc_frame.specs.Trailers.{line, text_line, block, IsStatusText};
+ghost use Rattle.grpc_frame.specs.Trailers.{line, text_line, block, IsStatusText, is_number, trailers_in};
+ghost use Rattle.grpc_frame.specs.Lines.{lines};
 
-use crate::Code;
 use crate::frame::open_frame;
+use crate::lines::{have_colons, value_of};
+use crate::{Code, TrailerFault};
 use std::alloc::AllocError;
 
 const TRAILERS: u8 = 0x80;
@@ -13,6 +18,13 @@ const STATUS: &[u8] = b"grpc-status:";
 const TEXT: &[u8] = b"grpc-message:";
 
 const LINE_END: &[u8] = b"\r\n";
+
+/// What the trailers of a response tell: the number of a status, and its text.
+#[derive(Clone, Copy, Debug, PartialEq, Eq)]
+pub struct Trailers<'a> {
+    pub code: u32,
+    pub text: &'a [u8],
+}
 
 /// Appends the frame of a response's trailers, which PROTOCOL-WEB.md of grpc puts last in the body. The text of `Ok` is left out.
 pub fn put_trailers(out: &mut Vec<u8>, code: Code, text: &str) -> Result<(), AllocError>
@@ -67,4 +79,57 @@ fn put_line(out: &mut Vec<u8>, name: &[u8], value: &[u8])
     out.extend_from_slice(name).unwrap();
     out.extend_from_slice(value).unwrap();
     out.extend_from_slice(LINE_END).unwrap();
+}
+
+/// Reads the block of lines in the last frame of a response. Lines of other names are skipped, and the first of a name counts.
+pub fn read_trailers(block: &[u8]) -> Result<Trailers<'_>, TrailerFault>
+    ensures value { IfOk result (λ read.
+        trailers_in (lines block.now) ≡ Ok (read.code, read.text.now)) }
+    ensures fault { IfErr result (λ fault. trailers_in (lines block.now) ≡ Err fault) }
+{
+    if !have_colons(block) {
+        return Err(TrailerFault::NoColon);
+    }
+    let Some(digits) = value_of(block, b"grpc-status") else {
+        return Err(TrailerFault::NoStatus);
+    };
+    let Some(code) = number(digits) else {
+        return Err(TrailerFault::BadStatus);
+    };
+    let text = value_of(block, b"grpc-message").unwrap_or(&[]);
+    Ok(Trailers { code, text })
+}
+
+fn number(digits: &[u8]) -> Option<u32>
+    ensures { result ≡ (if is_number digits.now then Some (digits_value 10 digits.now) else None) }
+{
+    if is_number(digits) {
+        Some(value_of_digits(digits))
+    } else {
+        None
+    }
+}
+
+fn is_number(digits: &[u8]) -> bool
+    ensures { result ≡ is_number digits.now }
+{
+    !digits.is_empty() && digits.len() <= 9 && all_digits(digits)
+}
+
+fn all_digits(text: &[u8]) -> bool
+    ensures { result ≡ list_all is_ascii_digit text.now }
+{
+    text.iter().all(|c| c.is_ascii_digit())
+}
+
+fn value_of_digits(digits: &[u8]) -> u32
+    requires digits { IsTrue (list_all is_ascii_digit digits.now) }
+    requires short { length digits.now ≤ 9 }
+    ensures { result ≡ digits_value 10 digits.now }
+{
+    let mut number = 0;
+    for digit in digits {
+        number = number * 10 + u32::from(*digit - b'0');
+    }
+    number
 }

@@ -1,0 +1,9 @@
+use Rattle.std.proofs.Common.{◌≡◌, length}
+use Rattle.grpc_frame.specs.Lines.{trim_start}
+use Rattle.grpc_frame.proofs.lines.trim_start.Given as goal
+
+abbrev pub invariant-loop-trimmed : goal.invariant-loop-trimmed
+invariant-loop-trimmed l = trim_start l.trimmed ≡ trim_start l.bytes
+
+abbrev pub decreases-loop-trimmed : goal.decreases-loop-trimmed
+decreases-loop-trimmed l = length l.trimmed

@@ -1,0 +1,37 @@
+-- What a rule makes of one event, and of a service's memory. A threshold is HAProxy's `fall`.
+use Rattle.std.specs.Prelude.{ℕ, ◌+◌, ◌==◌, min, nat_lt, Bool, true, false}
+use Rattle.probe_core.specs.declared.event.Event.{Event}
+use Rattle.probe_core.specs.declared.event.Event.TheVariants.{Pass, Fail, Up, Down}
+use Rattle.probe_core.specs.declared.rule.Rule.{Rule}
+use Rattle.probe_core.specs.declared.rule.Rule.TheVariants.{Threshold, Manual, Depends}
+
+-- a threshold follows findings, a manual rule settings, and one that depends on others no events at all
+abbrev pub fits : Rule → Event → Bool
+fits (Threshold fall) Pass = true
+fits (Threshold fall) Fail = true
+fits (Threshold fall) Up = false
+fits (Threshold fall) Down = false
+fits Manual Pass = false
+fits Manual Fail = false
+fits Manual Up = true
+fits Manual Down = true
+fits (Depends mask) event = false
+
+-- the memory after one more event: the failures in a row, up to the threshold; whether the last setting was down. An event
+-- that does not fit changes nothing
+abbrev pub memory_next : Rule → Event → ℕ → ℕ
+memory_next (Threshold fall) Pass memory = 0
+memory_next (Threshold fall) Fail memory = min fall (memory + 1)
+memory_next (Threshold fall) Up memory = memory
+memory_next (Threshold fall) Down memory = memory
+memory_next Manual Pass memory = memory
+memory_next Manual Fail memory = memory
+memory_next Manual Up memory = 0
+memory_next Manual Down memory = 1
+memory_next (Depends mask) event memory = memory
+
+-- whether a service with this memory is up
+abbrev pub is_up_at : Rule → ℕ → Bool
+is_up_at (Threshold fall) memory = nat_lt memory fall
+is_up_at Manual memory = memory == 0
+is_up_at (Depends mask) memory = true

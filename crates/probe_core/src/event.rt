@@ -1,0 +1,8 @@
+/// What happens to a service: a finding, `Pass` or `Fail`, or a setting, `Up` or `Down`.
+#[derive(Clone, Copy, Debug, PartialEq, Eq, Hash)]
+pub enum Event {
+    Pass,
+    Fail,
+    Up,
+    Down,
+}

@@ -1,0 +1,22 @@
+//! Probes: what the events of a service make of its status, by its kind.
+#![tactic(auto)]
+
+mod depends;
+mod event;
+mod laws;
+mod manual;
+mod probe;
+mod rule;
+mod threshold;
+pub mod tracked;
+
+pub use depends::Depends;
+pub use event::Event;
+pub use laws::{fall_of_two, memory_tells_status};
+pub use manual::Manual;
+pub use probe::Probe;
+pub use rule::Rule;
+pub use threshold::Threshold;
+
+#[cfg(test)]
+mod tests;
