@@ -7,7 +7,7 @@ use Rattle.grpc_frame.specs.declared.code.Code.{Code}
 use Rattle.grpc_frame.specs.declared.code.Code.TheVariants.{Ok as ok, NotFound, ResourceExhausted, Unimplemented, Internal, Unavailable}
 use Rattle.grpc_frame.specs.Code.{code_number}
 use Rattle.grpc_frame.specs.Lines.{lines, trim, HasNoEnd}
-use Rattle.grpc_frame.specs.Trailers.{line, block, is_unencoded, IsStatusText, written_text, trailers_in}
+use Rattle.grpc_frame.specs.Trailers.{header_line, block, is_unencoded, IsStatusText, written_text, trailers_in}
 use Rattle.grpc_frame.proofs.Cuts.{no_end_before, no_end_empty, line_first}
 use Rattle.grpc_frame.proofs.Digits.{both}
 
@@ -23,9 +23,9 @@ no_end_text (c ∷ text) each =
     no_end_before c text (no_end_text text parts.1) (λ cr lf. not_cr c parts.0 cr)
 
 -- the line of a text is one line
-pub text_line : (text : List ℕ) → list_all is_unencoded text ≡ true → lines (line (codes "grpc-message:") text) ≡ (codes "grpc-message:" ++ text) ∷ []
+pub text_line : (text : List ℕ) → list_all is_unencoded text ≡ true → lines (header_line (codes "grpc-message:") text) ≡ (codes "grpc-message:" ++ text) ∷ []
 text_line text each =
-    ap lines (sym (append-nil (line (codes "grpc-message:") text))) ∙ line_first (codes "grpc-message:" ++ text) [] (no_end_text (codes "grpc-message:" ++ text) each)
+    ap lines (sym (append-nil (header_line (codes "grpc-message:") text))) ∙ line_first (codes "grpc-message:" ++ text) [] (no_end_text (codes "grpc-message:" ++ text) each)
 
 -- a number of two digits
 pub two_digits : (n : ℕ) → 10 ≤ n → n < 100 → decimal n ≡ (48 + n / 10) ∷ (48 + n % 10) ∷ []

@@ -4,14 +4,14 @@ use Rattle.std.proofs.lemmas.List.{append-nil}
 use Rattle.std.proofs.lemmas.List.Elements.{All-nil, All-cons, All-head, All-tail}
 use Rattle.std.specs.Int.{w32, to_be_bytes}
 use Rattle.grpc_frame.specs.Frame.{frame}
-use Rattle.grpc_frame.specs.Split.{BeginsWithFrame, BeginsWithNoFrame, BeginsTooLong, bytes_of, AreFrames, Step, Fed, Took, Stayed, Run, fed_bytes, taken_frames, HasOneFirst, HasOneSplit}
+use Rattle.grpc_frame.specs.Split.{max_content_len, BeginsWithFrame, BeginsWithNoFrame, BeginsTooLong, bytes_of, AreFrames, Step, Fed, Took, Stayed, Run, fed_bytes, taken_frames, HasOneFirst, HasOneSplit}
 use Rattle.grpc_frame.proofs.Fronts.{same_parts, same_length}
 
 -- one more frame before the others
 pub frame_first : (bytes content rest behind more : List ℕ) (frames : List (ℕ × List ℕ)) (flag : ℕ) → BeginsWithFrame bytes flag content rest → AreFrames (rest ++ more) frames behind → AreFrames (bytes ++ more) ((flag, content) ∷ frames) behind
 frame_first bytes content rest behind more frames flag front are =
     record {
-      fit = All-cons (λ (one : ℕ × List ℕ). length one.1 ≤ 1048576) (flag, content) frames front.fits are.fit;
+      fit = All-cons (λ (one : ℕ × List ℕ). length one.1 ≤ max_content_len) (flag, content) frames front.fits are.fit;
       parts = ap (λ (all : List ℕ). all ++ more) front.parts
           ∙ append_assoc (frame flag content) rest more
           ∙ ap (λ (all : List ℕ). frame flag content ++ all) are.parts
@@ -20,7 +20,7 @@ frame_first bytes content rest behind more frames flag front are =
 
 -- whatever the steps, the bytes there were and those that were fed are the frames that were taken, and the rest
 pub run_from : (steps : List Step) (old new : List ℕ) → Run old steps new → AreFrames (old ++ fed_bytes steps) (taken_frames steps) new
-run_from [] old new run = record { fit = All-nil (λ (one : ℕ × List ℕ). length one.1 ≤ 1048576); parts = append-nil old ∙ sym run }
+run_from [] old new run = record { fit = All-nil (λ (one : ℕ × List ℕ). length one.1 ≤ max_content_len); parts = append-nil old ∙ sym run }
 run_from (Fed piece ∷ steps) old new run =
     rw (sym (append_assoc old piece (fed_bytes steps)), ← run.1) (run_from steps run.0 new run.2)
 run_from (Took flag content ∷ steps) old new run =
@@ -51,10 +51,10 @@ one_first bytes flag mark content other rest more one two = one_frame bytes cont
 pub frames_behind : (bytes content rest : List ℕ) (frames : List (ℕ × List ℕ)) (flag : ℕ) → AreFrames bytes ((flag, content) ∷ frames) rest → BeginsWithFrame bytes flag content (bytes_of frames ++ rest) × AreFrames (bytes_of frames ++ rest) frames rest
 frames_behind bytes content rest frames flag are = (
   record {
-    fits = All-head (λ (one : ℕ × List ℕ). length one.1 ≤ 1048576) (flag, content) frames are.fit;
+    fits = All-head (λ (one : ℕ × List ℕ). length one.1 ≤ max_content_len) (flag, content) frames are.fit;
     parts = are.parts ∙ append_assoc (frame flag content) (bytes_of frames) rest;
   },
-  record { fit = All-tail (λ (one : ℕ × List ℕ). length one.1 ≤ 1048576) (flag, content) frames are.fit; parts = refl },
+  record { fit = All-tail (λ (one : ℕ × List ℕ). length one.1 ≤ max_content_len) (flag, content) frames are.fit; parts = refl },
 )
 
 -- bytes that begin with no frame are no list of frames but the empty one

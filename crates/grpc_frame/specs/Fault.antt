@@ -25,4 +25,4 @@ split_text_of TooLong = codes "the frame is too long"
 abbrev pub trailer_text_of : TrailerFault → List ℕ
 trailer_text_of NoColon = codes "a line has no colon"
 trailer_text_of NoStatus = codes "no line has a status"
-trailer_text_of BadStatus = codes "the status is no number"
+trailer_text_of BadStatus = codes "the status is not one to nine digits"

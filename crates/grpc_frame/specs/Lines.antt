@@ -41,11 +41,11 @@ abbrev pub trim_start : List ℕ → List ℕ
 trim_start [] = []
 trim_start (c ∷ rest) = if is_blank c then trim_start rest else c ∷ rest
 
--- the bytes without those at their end
+-- the bytes without the spaces and tabs at their end
 abbrev pub trim_end : List ℕ → List ℕ
 trim_end bytes = reverse (trim_start (reverse bytes))
 
--- the bytes without those at both ends
+-- the bytes without the spaces and tabs at both ends
 abbrev pub trim : List ℕ → List ℕ
 trim bytes = trim_end (trim_start bytes)
 

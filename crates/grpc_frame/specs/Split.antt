@@ -4,9 +4,13 @@ use Rattle.std.specs.List.{flat_map}
 use Rattle.std.specs.Int.{w32, to_be_bytes}
 use Rattle.grpc_frame.specs.Frame.{frame}
 
--- the bytes begin with this frame, whose content is of at most 1,048,576 bytes, and the rest comes behind it
+-- the longest content of a frame that is taken, in bytes, which is this reader's limit
+abbrev pub max_content_len : ℕ
+max_content_len = 1048576
+
+-- the bytes begin with this frame, whose content is within the limit, and the rest comes behind it
 pub record BeginsWithFrame (bytes : List ℕ) (flag : ℕ) (content rest : List ℕ) : Type 0 where
-  pub fits : length content ≤ 1048576
+  pub fits : length content ≤ max_content_len
   pub parts : bytes ≡ frame flag content ++ rest
 
 -- the bytes begin with a whole such frame
@@ -26,12 +30,12 @@ HasOneFirst bytes =
     (flag mark : ℕ) (content other rest more : List ℕ) → BeginsWithFrame bytes flag content rest → BeginsWithFrame bytes mark other more
     → (flag ≡ mark) × (content ≡ other) × (rest ≡ more)
 
--- the bytes begin with all five bytes of a header, whose length is over 1,048,576
+-- the bytes begin with all five bytes of a header, whose length is over the limit
 pub record BeginsTooLong (bytes : List ℕ) : Type 0 where
   pub flag : ℕ
   pub len : ℕ
   pub rest : List ℕ
-  pub over : 1048576 < len
+  pub over : max_content_len < len
   pub fits : len < 2 ^ 32
   pub parts : bytes ≡ flag ∷ to_be_bytes w32 len ++ rest
 
@@ -41,7 +45,7 @@ bytes_of frames = flat_map (λ one. frame one.0 one.1) frames
 
 -- the bytes are these frames, and then the rest
 pub record AreFrames (bytes : List ℕ) (frames : List (ℕ × List ℕ)) (rest : List ℕ) : Type 0 where
-  pub fit : All (λ one. length one.1 ≤ 1048576) frames
+  pub fit : All (λ one. length one.1 ≤ max_content_len) frames
   pub parts : bytes ≡ bytes_of frames ++ rest
 
 -- the bytes are these frames, and then a rest that begins with no frame

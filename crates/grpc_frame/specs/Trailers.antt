@@ -10,16 +10,16 @@ use Rattle.grpc_frame.specs.Code.{code_number}
 use Rattle.grpc_frame.specs.Lines.{has_colon, value_of}
 
 -- a header line: a name with its colon, a value, CR LF
-abbrev pub line : List ℕ → List ℕ → List ℕ
-line name value = name ++ value ++ codes "\r\n"
+abbrev pub header_line : List ℕ → List ℕ → List ℕ
+header_line name value = name ++ value ++ codes "\r\n"
 
 -- the line with the text of a status, which Ok has not
 abbrev pub text_line : Code → List ℕ → List ℕ
-text_line code text = if code_number code == 0 then [] else line (codes "grpc-message:") text
+text_line code text = if code_number code == 0 then [] else header_line (codes "grpc-message:") text
 
 -- the trailers of a status: its number, and its text
 abbrev pub block : Code → List ℕ → List ℕ
-block code text = line (codes "grpc-status:") (decimal (code_number code)) ++ text_line code text
+block code text = header_line (codes "grpc-status:") (decimal (code_number code)) ++ text_line code text
 
 -- a character that a status text has as it is: printable ASCII but for `%` (doc/PROTOCOL-HTTP2.md of grpc, Percent-Byte-Unencoded)
 abbrev pub is_unencoded : ℕ → Bool
@@ -45,7 +45,7 @@ status_of (Some digits) text = if is_number digits then Ok (digits_value 10 digi
 
 -- what the lines of a response's trailers tell. A line without a colon counts before other faults, and no text is the empty one
 abbrev pub trailers_in : List (List ℕ) → Result (ℕ × List ℕ) TrailerFault
-trailers_in lines =
-    if list_all has_colon lines
-    then status_of (value_of (codes "grpc-status") lines) (unwrap_or (value_of (codes "grpc-message") lines) [])
+trailers_in all =
+    if list_all has_colon all
+    then status_of (value_of (codes "grpc-status") all) (unwrap_or (value_of (codes "grpc-message") all) [])
     else Err NoColon

@@ -39,10 +39,12 @@ impl fmt::Display for FrameFault {
 
 impl Error for FrameFault {}
 
-/// Why no frame was taken off a stream that may hold one.
+/// Why a stream gives no frame now.
 #[derive(Clone, Copy, Debug, PartialEq, Eq, Hash)]
 pub enum SplitFault {
+    /// Memory ran out.
     NoMemory,
+    /// The next frame's length is over 1,048,576 bytes, and no more can be read of the stream.
     TooLong,
 }
 
@@ -87,8 +89,11 @@ impl<T: Drop> From<AllocFailed<T>> for SplitFault {
 /// Why the trailers of a response tell no status.
 #[derive(Clone, Copy, Debug, PartialEq, Eq, Hash)]
 pub enum TrailerFault {
+    /// A line has no colon. It counts before the other faults.
     NoColon,
+    /// No line is named `grpc-status`.
     NoStatus,
+    /// The status is not one to nine ASCII digits.
     BadStatus,
 }
 
@@ -102,7 +107,7 @@ impl fmt::Display for TrailerFault {
         f.write_str(match self {
             TrailerFault::NoColon => "a line has no colon",
             TrailerFault::NoStatus => "no line has a status",
-            TrailerFault::BadStatus => "the status is no number",
+            TrailerFault::BadStatus => "the status is not one to nine digits",
         })
     }
 }

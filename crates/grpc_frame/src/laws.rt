@@ -1,10 +1,10 @@
-ghost use Rattle.std.specs.Prelude.{◌≡◌, ◌^◌, ◌<◌, ◌≤◌, List, ℕ, [], ◌++◌, length, Ok};
+ghost use Rattle.std.specs.Prelude.{◌≡◌, ◌^◌, ◌<◌, ◌≤◌, List, ℕ, [], ◌++◌, length, All, Ok};
 ghost use Rattle.grpc_frame.specs.declared.code.Code.{Code};
 ghost use Rattle.grpc_frame.specs.Code.{code_number};
 ghost use Rattle.grpc_frame.specs.Frame.{frame};
 ghost use Rattle.grpc_frame.specs.Lines.{lines, trim, AreLines};
 ghost use Rattle.grpc_frame.specs.Message.{BeginsWith, HasOneFront, IsOneMessage, HasOneAnswer};
-ghost use Rattle.grpc_frame.specs.Split.{BeginsWithFrame, BeginsWithNoFrame, HasOneFirst, BeginsTooLong, AreFrames, HasOneSplit, Step, Run, fed_bytes, taken_frames};
+ghost use Rattle.grpc_frame.specs.Split.{max_content_len, bytes_of, AreAllFrames, BeginsWithFrame, BeginsWithNoFrame, HasOneFirst, BeginsTooLong, AreFrames, HasOneSplit, Step, Run, fed_bytes, taken_frames};
 ghost use Rattle.grpc_frame.specs.Trailers.{block, IsStatusText, written_text, trailers_in};
 
 /// A written frame is split off whole, whatever follows it.
@@ -27,10 +27,16 @@ pub fn one_answer()
 
 /// A written frame is taken off whole, whatever follows it, unless it is too long.
 pub fn first_frame()
-    ensures front { (flag : ℕ) (content rest : List ℕ) → length content ≤ 1048576
+    ensures front { (flag : ℕ) (content rest : List ℕ) → length content ≤ max_content_len
         → BeginsWithFrame (frame flag content ++ rest) flag content rest }
     ensures only { (bytes : List ℕ) → HasOneFirst bytes }
     ensures too_long { (bytes : List ℕ) → BeginsTooLong bytes → BeginsWithNoFrame bytes }
+{}
+
+/// Written frames are taken off one by one, and nothing is left.
+pub fn written_frames()
+    ensures { (frames : List (ℕ × List ℕ)) → All (λ one. length one.1 ≤ max_content_len) frames
+        → AreAllFrames (bytes_of frames) frames [] }
 {}
 
 /// However a stream is cut into pieces, and whenever frames are taken, they are the stream's frames, and then comes the rest.

@@ -15,7 +15,7 @@ pub use fault::{FrameFault, SplitFault, TrailerFault};
 pub use frame::Frame;
 pub use laws::{
     any_cutting, first_frame, one_answer, one_cut, read_back, stays_too_long, trailers_read_back,
-    whole_frame,
+    whole_frame, written_frames,
 };
 pub use message::{one_message, put_message};
 pub use splitter::Splitter;

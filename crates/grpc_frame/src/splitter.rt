@@ -1,4 +1,4 @@
-ghost use Rattle.std.specs.Prelude.{◌≡◌, ◌↔◌, ◌≤◌, ◌++◌, [], drop, vec_len, IsTrue, IfOk, IfSome, IfNone, OnOk, OnErr, IsErrOf};
+ghost use Rattle.std.specs.Prelude.{◌≡◌, ◌↔◌, ◌<◌, ◌≤◌, ◌++◌, [], length, drop, vec_len, IsTrue, IfOk, IfSome, IfNone, OnOk, OnErr, IsErrOf};
 ghost use Rattle.grpc_frame.specs.Split.{BeginsWithFrame, BeginsWhole, BeginsWithNoFrame, BeginsTooLong};
 
 use crate::SplitFault;
@@ -6,6 +6,7 @@ use crate::frame::Frame;
 use std::alloc::{AllocError, Global};
 use std::marker::Model;
 
+/// The longest content of a frame that is taken, in bytes.
 const MAX_LEN: usize = 1_048_576;
 
 /// Takes frames off a stream that comes in pieces. Its value is the rest, the bytes that were fed and not yet taken.
@@ -26,6 +27,7 @@ impl Model for Splitter {
 }
 
 impl Splitter {
+    /// A stream of which nothing was fed. It takes no memory yet.
     pub fn new(alloc: Global) -> Splitter
         ensures { result ≡ [] }
     {
@@ -39,6 +41,7 @@ impl Splitter {
     pub fn feed(&mut self, piece: &[u8]) -> Result<(), AllocError>
         ensures ok { OnOk result (self.new ≡ self.old ++ piece.now) }
         ensures err { OnErr result (self.new ≡ self.old) }
+        ensures some { OnErr result (0 < length piece.now) }
     {
         self.start = without_front(&mut self.buffer, self.start);
         self.buffer.extend_from_slice(piece)
@@ -46,7 +49,7 @@ impl Splitter {
 
     /// Takes the first frame of the rest, of whatever flag. A fault leaves the rest as it was.
     pub fn take(&mut self) -> Result<Option<Frame>, SplitFault>
-        // TooLong counts before None, and None before NoMemory.
+        // TooLong counts before None, and None before NoMemory. So None is of a front that is cut.
         ensures frame { IfOk result (λ taken. IfSome taken (λ first.
             BeginsWithFrame self.old first.flag first.body.items self.new)) }
         ensures none { IfOk result (λ taken. IfNone taken (BeginsWithNoFrame self.old)) }
@@ -67,6 +70,7 @@ impl Splitter {
         Ok(Some(Frame { flag, body }))
     }
 
+    /// What was fed and not taken.
     pub fn rest(&self) -> &[u8]
         ensures { result.now ≡ self.now }
     {

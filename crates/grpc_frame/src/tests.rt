@@ -158,13 +158,28 @@ fn takes_a_frame_none_or_refuses_its_length(rt: HostRuntime) -> Result<(), Fail>
 }
 
 #[test]
+fn stays_too_long_whatever_is_fed(rt: HostRuntime) -> Result<(), Fail> {
+    let mut splitter = Splitter::new(rt.alloc());
+    splitter.feed(b"\0\0\x10\0\x01")?;
+    assert_eq!(rt; splitter.take(), Err(SplitFault::TooLong));
+    splitter.feed(b"\0\0\0\0\0")?;
+    assert_eq!(rt; splitter.take(), Err(SplitFault::TooLong));
+    Ok(())
+}
+
+#[test]
 fn tells_want_of_memory(rt: HostRuntime) {
     let refused = AllocFailed { value: 7u8 };
     assert_eq!(rt; SplitFault::from(refused), SplitFault::NoMemory);
 }
 
-const BLOCKS: [(&[u8], Result<(u32, &[u8]), TrailerFault>); 18] = [
+const BLOCKS: [(&[u8], Result<(u32, &[u8]), TrailerFault>); 20] = [
     (b"", Err(TrailerFault::NoStatus)),
+    (b"\r\n", Err(TrailerFault::NoColon)),
+    (
+        b"grpc-message:a\r\ngrpc-message:b\r\ngrpc-status:2",
+        Ok((2, b"a")),
+    ),
     (b"grpc-status:0\r\nab", Err(TrailerFault::NoColon)),
     (b"grpc-status:0\r\n\r\n", Err(TrailerFault::NoColon)),
     (b"grpc-status:x\r\nab", Err(TrailerFault::NoColon)),

@@ -3,7 +3,7 @@ ghost use Rattle.std.specs.Char.{is_ascii_digit};
 ghost use Rattle.std.specs.List.{list_all};
 ghost use Rattle.std.specs.Str.Parse.{digits_value};
 ghost use Rattle.grpc_frame.specs.Frame.{frame};
-ghost use Rattle.grpc_frame.specs.Trailers.{line, text_line, block, IsStatusText, is_number, trailers_in};
+ghost use Rattle.grpc_frame.specs.Trailers.{header_line, text_line, block, IsStatusText, is_number, trailers_in};
 ghost use Rattle.grpc_frame.specs.Lines.{lines};
 
 use crate::frame::open_frame;
@@ -72,8 +72,8 @@ fn put_text(out: &mut Vec<u8>, code: Code, text: &str)
 }
 
 fn put_line(out: &mut Vec<u8>, name: &[u8], value: &[u8])
-    requires { vec_len out.old + length (line name.now value.now) ≤ vec_capacity out.old }
-    ensures items { out.new.items ≡ out.old.items ++ line name.now value.now }
+    requires { vec_len out.old + length (header_line name.now value.now) ≤ vec_capacity out.old }
+    ensures items { out.new.items ≡ out.old.items ++ header_line name.now value.now }
     ensures capacity { vec_capacity out.old ≤ vec_capacity out.new }
 {
     out.extend_from_slice(name).unwrap();

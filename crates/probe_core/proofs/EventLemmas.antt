@@ -1,11 +1,11 @@
-use Rattle.std.proofs.Common.{◌≡◌, ℕ, zero, suc, ◌+◌, ◌<◌, ◌≤◌, ◌&&◌, min, not, nat_le, nat_lt, Bool, true, false, List, [], ◌∷◌, length, take, refl, sym, ap, ◌∙◌, inl, inr, arith}
+use Rattle.std.proofs.Common.{◌≡◌, ℕ, zero, suc, ◌<◌, ◌≤◌, ◌&&◌, min, not, nat_le, nat_lt, Bool, true, false, List, [], ◌∷◌, length, take, refl, sym, ap, ◌∙◌, inl, inr, arith}
 use Rattle.std.specs.List.{list_all, prefix_len}
 use Rattle.std.proofs.lemmas.Bool.{cases_lt, lt-ltb, le-ltb, le-leb, lt-leb}
 use Rattle.probe_core.specs.declared.event.Event.{Event}
 use Rattle.probe_core.specs.declared.event.Event.TheVariants.{Pass, Fail, Up, Down}
 use Rattle.probe_core.specs.declared.rule.Rule.{Rule}
 use Rattle.probe_core.specs.declared.rule.Rule.TheVariants.{Threshold, Manual, Depends}
-use Rattle.probe_core.specs.Rule.{fits, is_up_at}
+use Rattle.probe_core.specs.Rule.{is_up_at}
 use Rattle.probe_core.specs.Events.{all_fit, is_fail, is_up, memory_after}
 
 suc_le : (a b : ℕ) → nat_le (suc a) (suc b) ≡ nat_le a b

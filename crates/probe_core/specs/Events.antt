@@ -1,4 +1,4 @@
--- What a rule makes of all events that a service heard. A list of events has the newest first.
+-- What a rule makes of all events that a service heard: events that fit, for no other is heard. A list has the newest first.
 use Rattle.std.specs.Prelude.{ℕ, ◌&&◌, min, nat_le, not, Bool, true, false, List, [], ◌∷◌, length, take}
 use Rattle.std.specs.List.{list_all, prefix_len}
 use Rattle.probe_core.specs.declared.event.Event.{Event}
@@ -25,8 +25,8 @@ is_up_setting Down = false
 abbrev pub all_fit : Rule → List Event → Bool
 all_fit rule events = list_all (fits rule) events
 
--- a threshold is up unless its newest so many events are all failures; a manual rule is up where the newest setting is up, or
--- there is none; one that depends on others is always up by itself
+-- a threshold is down where it heard at least so many events and the newest so many are all failures; a manual rule where the
+-- newest setting is down; one that depends on others is up by itself
 abbrev pub is_up : Rule → List Event → Bool
 is_up (Threshold fall) events = not (nat_le fall (length events) && list_all is_fail (take fall events))
 is_up Manual [] = true

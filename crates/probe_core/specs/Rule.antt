@@ -17,6 +17,10 @@ fits Manual Up = true
 fits Manual Down = true
 fits (Depends mask) event = false
 
+-- the memory of a service that heard nothing
+abbrev pub opening_memory : Rule → ℕ
+opening_memory rule = 0
+
 -- the memory after one more event: the failures in a row, up to the threshold; whether the last setting was down. An event
 -- that does not fit changes nothing
 abbrev pub memory_next : Rule → Event → ℕ → ℕ

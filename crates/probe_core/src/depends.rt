@@ -4,7 +4,7 @@ use crate::event::Event;
 use crate::probe::Probe;
 use crate::rule::Rule;
 
-/// A service that is up where those that it needs are serving, as a front end needs its database. It hears no events.
+/// A service that is up where those that it needs are serving, as a front end needs its database. It hears no events, and is up by itself.
 #[derive(Debug, Drop)]
 pub struct Depends {
     mask: u16,
@@ -12,11 +12,12 @@ pub struct Depends {
 
 impl Depends {
     ghost use Rattle.probe_core.specs.declared.rule.Rule.TheVariants as rules;
+    ghost use Rattle.probe_core.specs.Rule.{opening_memory};
 
-    /// Bit i of the mask is slot i. A desk takes a mask of slots before the service's own.
+    /// Bit i of the mask is slot i. A registry takes a mask of slots before the service's own.
     pub fn new(mask: u16) -> Depends
         ensures rule { ⟦<Depends as Probe>⟧.rule result ≡ rules.Depends mask }
-        ensures memory { ⟦<Depends as Probe>⟧.memory result ≡ 0 }
+        ensures memory { ⟦<Depends as Probe>⟧.memory result ≡ opening_memory (rules.Depends mask) }
     {
         Depends { mask }
     }

@@ -12,11 +12,12 @@ pub struct Manual {
 
 impl Manual {
     ghost use Rattle.probe_core.specs.declared.rule.Rule.TheVariants as rules;
+    ghost use Rattle.probe_core.specs.Rule.{opening_memory};
 
-    /// A service that is up.
+    /// A service that was not set yet, which is up.
     pub fn new() -> Manual
         ensures rule { ⟦<Manual as Probe>⟧.rule result ≡ rules.Manual }
-        ensures memory { ⟦<Manual as Probe>⟧.memory result ≡ 0 }
+        ensures memory { ⟦<Manual as Probe>⟧.memory result ≡ opening_memory rules.Manual }
     {
         Manual { is_down: false }
     }

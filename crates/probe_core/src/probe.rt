@@ -1,5 +1,3 @@
-ghost use Rattle.std.specs.Prelude.{◌≡◌, ℕ};
-
 use crate::event::Event;
 use crate::rule::Rule;
 
@@ -9,7 +7,7 @@ use crate::rule::Rule;
 pub trait Probe: Drop {
     ghost use Rattle.std.specs.Prelude.{◌≡◌, ℕ};
     ghost use Rattle.probe_core.specs.declared.rule.Rule.{Rule};
-    ghost use Rattle.probe_core.specs.Rule.{fits, memory_next, is_up_at};
+    ghost use Rattle.probe_core.specs.Rule.{fits, opening_memory, memory_next, is_up_at};
 
     ghost rule: { Self → Rule };
 
@@ -31,7 +29,7 @@ pub trait Probe: Drop {
     /// Goes back to the opening state.
     fn reset(&mut self)
         ensures rule { rule self.new ≡ rule self.old }
-        ensures memory { memory self.new ≡ 0 };
+        ensures memory { memory self.new ≡ opening_memory (rule self.old) };
 }
 
 impl Probe for Box<dyn Probe + Send> {

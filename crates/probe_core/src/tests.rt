@@ -17,6 +17,12 @@ const FALL_OF_TWO: [Heard; 6] = [
     (Event::Up, false, false),
 ];
 
+const FALL_OF_ONE: [Heard; 3] = [
+    (Event::Fail, true, false),
+    (Event::Pass, true, true),
+    (Event::Fail, true, false),
+];
+
 const SETTINGS: [Heard; 5] = [
     (Event::Down, true, false),
     (Event::Pass, false, false),
@@ -54,6 +60,12 @@ fn hears_what_fits_its_rule(rt: HostRuntime) -> Result<(), Fail> {
         Rule::Threshold(2),
         &FALL_OF_TWO,
     );
+    assert_hears(
+        &rt,
+        &mut Threshold::new(1),
+        Rule::Threshold(1),
+        &FALL_OF_ONE,
+    );
     assert_hears(&rt, &mut Manual::new(), Rule::Manual, &SETTINGS);
     assert_hears(&rt, &mut Depends::new(1), Rule::Depends(1), &NOTHING_FITS);
     assert_hears(&rt, &mut Tracked::new(drops), Rule::Manual, &SETTINGS);
@@ -83,20 +95,22 @@ fn goes_down(probe: &mut dyn Probe) -> bool {
 fn hears_through_a_reference_to_any_kind(rt: HostRuntime) {
     assert!(rt; goes_down(&mut Manual::new()));
     assert!(rt; !goes_down(&mut Threshold::new(1)));
+    assert!(rt; !goes_down(&mut Depends::new(1)));
 }
 
 #[test]
 fn counts_a_dropped_probe_once(rt: HostRuntime) -> Result<(), Fail> {
     let alloc = rt.alloc();
     let drops = Arc::new(alloc, AtomicU64::new(0))?;
-    let probe: Box<dyn Probe + Send> = Box::new(alloc, Tracked::new(drops.clone()?))?;
+    let mut probe: Box<dyn Probe + Send> = Box::new(alloc, Tracked::new(drops.clone()?))?;
+    assert_hears(&rt, &mut probe, Rule::Manual, &SETTINGS);
     assert_eq!(rt; drops.load(Ordering::SeqCst), 0);
     drop(probe);
     assert_eq!(rt; drops.load(Ordering::SeqCst), 1);
     Ok(())
 }
 
-/// A kind of a caller's own: set from outside, and last shown to a counter when it is dropped.
+/// A kind of a caller's own: it stores how it stood when it was dropped, 1 for up and 2 for down.
 struct Latched {
     manual: Manual,
     seen: Arc<AtomicU64>,

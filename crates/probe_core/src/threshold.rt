@@ -4,7 +4,7 @@ use crate::event::Event;
 use crate::probe::Probe;
 use crate::rule::Rule;
 
-/// A service that is checked: down after `fall` failed checks in a row, which is HAProxy's `fall`, and up again at the first that passes.
+/// A service that is checked: down after `fall` failed checks in a row, and up again at the first that passes. These are HAProxy's `fall`, and a `rise` of 1.
 #[derive(Debug, Drop)]
 pub struct Threshold {
     fall: u32,
@@ -13,11 +13,12 @@ pub struct Threshold {
 
 impl Threshold {
     ghost use Rattle.probe_core.specs.declared.rule.Rule.TheVariants as rules;
+    ghost use Rattle.probe_core.specs.Rule.{opening_memory};
 
-    /// A service that is up. A desk takes a `fall` from 1 to 1,000.
+    /// A service that was not checked yet, which is up. A registry takes a `fall` from 1 to 1,000.
     pub fn new(fall: u32) -> Threshold
         ensures rule { ⟦<Threshold as Probe>⟧.rule result ≡ rules.Threshold fall }
-        ensures memory { ⟦<Threshold as Probe>⟧.memory result ≡ 0 }
+        ensures memory { ⟦<Threshold as Probe>⟧.memory result ≡ opening_memory (rules.Threshold fall) }
     {
         Threshold { fall, failures: 0 }
     }

@@ -17,11 +17,12 @@ pub struct Tracked {
 
 impl Tracked {
     ghost use Rattle.probe_core.specs.declared.rule.Rule.TheVariants as rules;
+    ghost use Rattle.probe_core.specs.Rule.{opening_memory};
 
-    /// A service that is up, and a counter that the caller keeps a share of.
+    /// A service that was not set yet, and a counter that the caller keeps a share of.
     pub fn new(drops: Arc<AtomicU64>) -> Tracked
         ensures rule { ⟦<Tracked as Probe>⟧.rule result ≡ rules.Manual }
-        ensures memory { ⟦<Tracked as Probe>⟧.memory result ≡ 0 }
+        ensures memory { ⟦<Tracked as Probe>⟧.memory result ≡ opening_memory rules.Manual }
     {
         Tracked {
             manual: Manual::new(),
