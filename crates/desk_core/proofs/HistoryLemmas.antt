@@ -1,0 +1,282 @@
+use Rattle.std.proofs.Common.{◌≡◌, ℕ, ◌<◌, ◌==◌, ◌&&◌, not, if◌then◌else◌, Bool, true, false, Option, None, Some, unwrap_or, is_some, List, [], ◌∷◌, ◌++◌, length, zero, suc, map, get_or, set, inl, inr, refl, sym, ap, subst, ◌∙◌, arith}
+use Rattle.std.specs.Option.{option_map, option_or}
+use Rattle.std.proofs.lemmas.List.{reverse-append, length_push, get_or-set_same, get_or-set_other, set_past, get_or_past}
+use Rattle.std.proofs.lemmas.Bool.{eqb-true, eqb-false, cases_lt}
+use Rattle.probe_core.specs.declared.event.Event.{Event}
+use Rattle.probe_core.specs.declared.event.Event.TheVariants.{Pass, Fail, Up, Down}
+use Rattle.probe_core.specs.declared.rule.Rule.{Rule}
+use Rattle.probe_core.specs.declared.rule.Rule.TheVariants.{Threshold, Manual, Depends}
+use Rattle.probe_core.specs.Rule.{fits, memory_next, opening_memory}
+use Rattle.probe_core.specs.Events.{memory_after}
+use Rattle.desk_core.specs.declared.call.Call.{Call}
+use Rattle.desk_core.specs.declared.call.Call.TheVariants.{Register, Retire, Observe, Set, Shutdown, Resume}
+use Rattle.desk_core.specs.declared.entry.Entry.{Entry}
+use Rattle.desk_core.specs.declared.reply.Reply.{Reply}
+use Rattle.desk_core.specs.declared.reply.Reply.TheVariants.{Done, Replaced, WrongKind, Ignored}
+use Rattle.desk_core.specs.Past.{past, last_said}
+use Rattle.desk_core.specs.Shut.{is_shut}
+use Rattle.desk_core.specs.Present.{says_rule, rule_at, is_present, is_lawful}
+use Rattle.desk_core.specs.Heard.{heard, with_event, event_of_finding, event_of_setting}
+use Rattle.desk_core.specs.Reply.{reply_to, reply_to_event}
+use Rattle.desk_core.specs.Legal.{IsLegal, IsLawfulCall}
+use Rattle.desk_core.specs.Slots.{noted, was_reset, HasSame}
+use Rattle.desk_core.specs.Desk.{Keeps, probe_at, Brings}
+
+-- the newest entry stands first in the past
+pub past_more : (journal : List Entry) (entry : Entry) → past (journal ++ entry ∷ []) ≡ entry ∷ past journal
+past_more journal entry = reverse-append journal (entry ∷ [])
+
+-- one more legal entry, and parts that are as it says
+pub keeps_more : (slots after : List (Option (Rule × ℕ))) (shut now : Bool) (journal new : List Entry) (max_entries : ℕ) (entry : Entry) → Keeps slots shut journal max_entries → length journal < max_entries → new ≡ journal ++ entry ∷ [] → entry.reply ≡ reply_to (past journal) entry.call → IsLawfulCall entry.call → now ≡ is_shut (entry ∷ past journal) → ((i : ℕ) → i < 16 → get_or after i None ≡ probe_at (entry ∷ past journal) i) → Keeps after now new max_entries
+keeps_more slots after shut now journal new max_entries entry keeps below is reply lawful shut_is each =
+    let later : past new ≡ entry ∷ past journal = ap past is ∙ past_more journal entry in
+    let Legal : List Entry → Type 0 = λ entries. IsLegal entries in
+    let Shut : List Entry → Type 0 = λ entries. now ≡ is_shut entries in
+    let Each : List Entry → Type 0 = λ entries. (i : ℕ) → i < 16 → get_or after i None ≡ probe_at entries i in
+    record {
+      legal = subst Legal (sym later) (keeps.legal, reply, lawful);
+      shut_is = subst Shut (sym later) shut_is;
+      each = subst Each (sym later) each;
+      room = omega (arith, ap length is, length_push journal entry);
+      limit = keeps.limit;
+    }
+
+-- a write to one slot: that slot holds the new value, and the others what they held
+pub set_cases : (xs : List (Option (Rule × ℕ))) (slot i : ℕ) (value : Option (Rule × ℕ)) → slot < length xs → get_or (set xs slot value) i None ≡ (if slot == i then value else get_or xs i None)
+set_cases xs slot i value below = by_test (slot == i) refl
+  where
+    by_test : (b : Bool) → (slot == i) ≡ b → get_or (set xs slot value) i None ≡ (if b then value else get_or xs i None)
+    by_test true is = let same : slot ≡ i = eqb-true slot i is in ap (λ k. get_or (set xs slot value) k None) (sym same) ∙ get_or-set_same xs slot value None below
+    by_test false is = get_or-set_other xs slot i value None (λ same. eqb-false slot i is (sym same))
+
+-- after a registration
+pub probe_at-register : (seat slot i : ℕ) (rule : Rule) (reply : Reply) (older : List Entry) → probe_at (record { seat = seat; call = Register slot rule; reply = reply } ∷ older) i ≡ (if slot == i then Some (rule, memory_after rule []) else probe_at older i)
+probe_at-register seat slot i rule reply older = by_test (slot == i)
+  where
+    by_test : (b : Bool) → option_map (λ r. (r, memory_after r (if b then [] else heard older i r))) (unwrap_or (option_or (if b then Some (Some rule) else None) (last_said (says_rule i) older)) None) ≡ (if b then Some (rule, memory_after rule []) else probe_at older i)
+    by_test true = refl
+    by_test false = refl
+
+-- a slot is registered where it has a probe
+is_some-probe_at : (entries : List Entry) (i : ℕ) → is_some (probe_at entries i) ≡ is_present entries i
+is_some-probe_at entries i = by_rule (rule_at entries i)
+  where
+    by_rule : (o : Option Rule) → is_some {T = Rule × ℕ} (option_map (λ rule. (rule, memory_after rule (heard entries i rule))) o) ≡ is_some o
+    by_rule None = refl
+    by_rule (Some rule) = refl
+
+opening_state : (rule : Rule) → memory_after rule [] ≡ opening_memory rule
+opening_state (Threshold fall) = omega arith
+opening_state Manual = refl
+opening_state (Depends mask) = refl
+
+pub keeps_register : (slots room after : List (Option (Rule × ℕ))) (shut : Bool) (journal new : List Entry) (max_entries seat slot : ℕ) (rule : Rule) (reply : Reply) (state : Rule × ℕ)
+    → Keeps slots shut journal max_entries → length journal < max_entries → slot < 16 → HasSame slots room → slot < length room
+    → is_lawful slot rule ≡ true → reply ≡ (if is_some (get_or room slot None) then Replaced else Done) → state ≡ (rule, opening_memory rule)
+    → new ≡ journal ++ record { seat = seat; call = Register slot rule; reply = reply } ∷ [] → after ≡ set room slot (Some state)
+    → Keeps after shut new max_entries
+keeps_register slots room after shut journal new max_entries seat slot rule reply state keeps below in_range same within lawful reply_is state_is is write =
+    let present : is_some (get_or room slot None) ≡ is_present (past journal) slot = ap is_some (same slot ∙ keeps.each slot in_range) ∙ is_some-probe_at (past journal) slot in
+    keeps_more slots after shut shut journal new max_entries (record { seat = seat; call = Register slot rule; reply = reply }) keeps below is
+    (reply_is ∙ ap (λ b. if b then Replaced else Done) present)
+    lawful
+    keeps.shut_is
+    (λ i few.
+    let value : Some state ≡ Some (rule, memory_after rule []) = ap Some (state_is ∙ ap (λ m. (rule, m)) (sym (opening_state rule))) in
+    ap (λ xs. get_or xs i None) write
+    ∙ set_cases room slot i (Some state) within
+    ∙ ap (λ o. if slot == i then o else get_or room i None) value
+    ∙ ap (λ o. if slot == i then Some (rule, memory_after rule []) else o) (same i ∙ keeps.each i few)
+    ∙ sym (probe_at-register seat slot i rule reply (past journal)))
+
+-- a write of a value that none becomes none: past the end nothing is written, and nothing stands there
+set_by_cases : (change : Option (Rule × ℕ) → Option (Rule × ℕ)) → change None ≡ None → (xs : List (Option (Rule × ℕ))) (slot i : ℕ) → get_or (set xs slot (change (get_or xs slot None))) i None ≡ (if slot == i then change (get_or xs i None) else get_or xs i None)
+set_by_cases change none xs slot i = by_test (slot == i) refl
+  where
+    by_test : (b : Bool) → (slot == i) ≡ b → get_or (set xs slot (change (get_or xs slot None))) i None ≡ (if b then change (get_or xs i None) else get_or xs i None)
+    by_test true is =
+        let same : slot ≡ i = eqb-true slot i is in
+        ap (λ k. get_or (set xs slot (change (get_or xs slot None))) k None) (sym same)
+        ∙ elim (cases_lt slot (length xs)) as (λ _. get_or (set xs slot (change (get_or xs slot None))) slot None ≡ change (get_or xs slot None)) [
+          | inl within ↦ get_or-set_same xs slot (change (get_or xs slot None)) None within
+          | inr past ↦
+              ap (λ ys. get_or ys slot None) (set_past xs slot (change (get_or xs slot None)) past)
+              ∙ get_or_past xs slot None past
+              ∙ sym (ap change (get_or_past xs slot None past) ∙ none)
+        ]
+        ∙ ap (λ k. change (get_or xs k None)) same
+    by_test false is = get_or-set_other xs slot i (change (get_or xs slot None)) None (λ same. eqb-false slot i is (sym same))
+
+-- after a retirement
+probe_at-retire : (seat slot i : ℕ) (reply : Reply) (older : List Entry) → probe_at (record { seat = seat; call = Retire slot; reply = reply } ∷ older) i ≡ (if slot == i then None else probe_at older i)
+probe_at-retire seat slot i reply older = by_test (slot == i)
+  where
+    by_test : (b : Bool) → option_map (λ r. (r, memory_after r (heard older i r))) (unwrap_or (option_or (if b then Some None else None) (last_said (says_rule i) older)) None) ≡ (if b then None else probe_at older i)
+    by_test true = refl
+    by_test false = refl
+
+-- after a resume
+probe_at-resume : (seat i : ℕ) (older : List Entry) → probe_at (record { seat = seat; call = Resume; reply = Done } ∷ older) i ≡ was_reset (probe_at older i)
+probe_at-resume seat i older = by_rule (rule_at older i)
+  where
+    by_rule : (o : Option Rule) → option_map (λ r. (r, memory_after r [])) o ≡ was_reset (option_map (λ r. (r, memory_after r (heard older i r))) o)
+    by_rule None = refl
+    by_rule (Some rule) = ap (λ m. Some (rule, m)) (opening_state rule)
+
+reset_at : (xs : List (Option (Rule × ℕ))) (i : ℕ) → get_or (map was_reset xs) i None ≡ was_reset (get_or xs i None)
+reset_at [] i = refl
+reset_at (x ∷ xs) zero = refl
+reset_at (x ∷ xs) (suc i) = reset_at xs i
+
+pub keeps_resume : (slots after : List (Option (Rule × ℕ))) (shut : Bool) (journal new : List Entry) (max_entries seat : ℕ)
+    → Keeps slots shut journal max_entries → length journal < max_entries
+    → new ≡ journal ++ record { seat = seat; call = Resume; reply = Done } ∷ [] → after ≡ map was_reset slots
+    → Keeps after false new max_entries
+keeps_resume slots after shut journal new max_entries seat keeps below is reset =
+    keeps_more slots after shut false journal new max_entries (record { seat = seat; call = Resume; reply = Done }) keeps below is refl tt refl
+    (λ i few. ap (λ xs. get_or xs i None) reset ∙ reset_at slots i ∙ ap was_reset (keeps.each i few) ∙ sym (probe_at-resume seat i (past journal)))
+
+-- one more event that fits is one more step of the memory
+memory_more : (rule : Rule) (event : Event) (events : List Event) → fits rule event ≡ true → memory_after rule (event ∷ events) ≡ memory_next rule event (memory_after rule events)
+memory_more (Threshold fall) Pass events fit = omega arith
+memory_more (Threshold fall) Fail events fit = omega arith
+memory_more (Threshold fall) Up events fit = let never : false ≡ true = fit in cc
+memory_more (Threshold fall) Down events fit = let never : false ≡ true = fit in cc
+memory_more Manual Pass events fit = let never : false ≡ true = fit in cc
+memory_more Manual Fail events fit = let never : false ≡ true = fit in cc
+memory_more Manual Up events fit = refl
+memory_more Manual Down events fit = refl
+memory_more (Depends mask) event events fit = let never : false ≡ true = fit in cc
+
+-- the probe of a slot of this rule that heard these events
+abbrev pub state_of : Rule → List Event → Rule × ℕ
+state_of rule events = (rule, memory_after rule events)
+
+abbrev states : (Rule → List Event) → Option Rule → Option (Rule × ℕ)
+states events o = option_map (λ rule. state_of rule (events rule)) o
+
+-- an event that is answered Done is heard by its slot alone
+heard_done : (slot i : ℕ) (event : Event) (older : List Entry) → reply_to_event (rule_at older slot) (is_shut older) event ≡ Done
+    → states (λ r. with_event r (is_shut older) (if slot == i then Some event else None) (heard older i r)) (rule_at older i) ≡ (if slot == i then noted event (probe_at older i) else probe_at older i)
+heard_done slot i event older replied = by_test (slot == i) refl
+  where
+    by_fit : (rule : Rule) (fit shut : Bool) → fits rule event ≡ fit → (if fit then (if shut then Ignored else Done) else WrongKind) ≡ Done → state_of rule (if not shut && fit then event ∷ heard older i rule else heard older i rule) ≡ (rule, memory_next rule event (memory_after rule (heard older i rule)))
+    by_fit rule true true fit_is is = cc
+    by_fit rule true false fit_is is = ap (λ m. (rule, m)) (memory_more rule event (heard older i rule) fit_is)
+    by_fit rule false shut fit_is is = cc
+
+    at_slot : (o : Option Rule) (shut : Bool) → reply_to_event o shut event ≡ Done → states (λ r. with_event r shut (Some event) (heard older i r)) o ≡ noted event (states (heard older i) o)
+    at_slot None shut is = refl
+    at_slot (Some rule) shut is = ap Some (by_fit rule (fits rule event) shut refl is)
+
+    by_test : (b : Bool) → (slot == i) ≡ b → states (λ r. with_event r (is_shut older) (if b then Some event else None) (heard older i r)) (rule_at older i) ≡ (if b then noted event (probe_at older i) else probe_at older i)
+    by_test true is = let same : slot ≡ i = eqb-true slot i is in at_slot (rule_at older i) (is_shut older) (rw (← same) replied)
+    by_test false is = refl
+
+-- an event with another answer is heard by none
+heard_by_none : (slot i : ℕ) (event : Event) (older : List Entry) → (reply_to_event (rule_at older slot) (is_shut older) event ≡ Done → ⊥)
+    → states (λ r. with_event r (is_shut older) (if slot == i then Some event else None) (heard older i r)) (rule_at older i) ≡ probe_at older i
+heard_by_none slot i event older replied = by_test (slot == i) refl
+  where
+    by_fit : (rule : Rule) (fit shut : Bool) → ((if fit then (if shut then Ignored else Done) else WrongKind) ≡ Done → ⊥) → state_of rule (if not shut && fit then event ∷ heard older i rule else heard older i rule) ≡ state_of rule (heard older i rule)
+    by_fit rule true true not_done = refl
+    by_fit rule true false not_done = absurd (not_done refl)
+    by_fit rule false true not_done = refl
+    by_fit rule false false not_done = refl
+
+    at_slot : (o : Option Rule) (shut : Bool) → (reply_to_event o shut event ≡ Done → ⊥) → states (λ r. with_event r shut (Some event) (heard older i r)) o ≡ states (heard older i) o
+    at_slot None shut not_done = refl
+    at_slot (Some rule) shut not_done = ap Some (by_fit rule (fits rule event) shut not_done)
+
+    by_test : (b : Bool) → (slot == i) ≡ b → states (λ r. with_event r (is_shut older) (if b then Some event else None) (heard older i r)) (rule_at older i) ≡ probe_at older i
+    by_test true is = let same : slot ≡ i = eqb-true slot i is in at_slot (rule_at older i) (is_shut older) (λ done. replied (rw same done))
+    by_test false is = refl
+
+-- what a call that brings an event says: the reply to it
+brings_reply : (call : Call) (slot : ℕ) (event : Event) (older : List Entry) → Brings call slot event → reply_to older call ≡ reply_to_event (rule_at older slot) (is_shut older) event
+brings_reply (Observe at finding) slot event older brings = ap (λ s. reply_to_event (rule_at older s) (is_shut older) (event_of_finding finding)) brings.0 ∙ ap (reply_to_event (rule_at older slot) (is_shut older)) brings.1
+brings_reply (Set at setting) slot event older brings = ap (λ s. reply_to_event (rule_at older s) (is_shut older) (event_of_setting setting)) brings.0 ∙ ap (reply_to_event (rule_at older slot) (is_shut older)) brings.1
+brings_reply (Register at rule) slot event older brings = absurd brings
+brings_reply (Retire at) slot event older brings = absurd brings
+brings_reply Shutdown slot event older brings = absurd brings
+brings_reply Resume slot event older brings = absurd brings
+
+-- it brings its event to its slot, and changes nothing else
+brings_event : (seat slot i : ℕ) (call : Call) (reply : Reply) (event : Event) (older : List Entry) → Brings call slot event
+    → probe_at (record { seat = seat; call = call; reply = reply } ∷ older) i ≡ states (λ r. with_event r (is_shut older) (if slot == i then Some event else None) (heard older i r)) (rule_at older i)
+brings_event seat slot i (Observe at finding) reply event older brings =
+    ap (λ s. states (λ r. with_event r (is_shut older) (if s == i then Some (event_of_finding finding) else None) (heard older i r)) (rule_at older i)) brings.0
+    ∙ ap (λ e. states (λ r. with_event r (is_shut older) (if slot == i then Some e else None) (heard older i r)) (rule_at older i)) brings.1
+brings_event seat slot i (Set at setting) reply event older brings =
+    ap (λ s. states (λ r. with_event r (is_shut older) (if s == i then Some (event_of_setting setting) else None) (heard older i r)) (rule_at older i)) brings.0
+    ∙ ap (λ e. states (λ r. with_event r (is_shut older) (if slot == i then Some e else None) (heard older i r)) (rule_at older i)) brings.1
+brings_event seat slot i (Register at rule) reply event older brings = absurd brings
+brings_event seat slot i (Retire at) reply event older brings = absurd brings
+brings_event seat slot i Shutdown reply event older brings = absurd brings
+brings_event seat slot i Resume reply event older brings = absurd brings
+
+brings_shut : (seat slot : ℕ) (call : Call) (reply : Reply) (event : Event) (older : List Entry) → Brings call slot event → is_shut older ≡ is_shut (record { seat = seat; call = call; reply = reply } ∷ older)
+brings_shut seat slot (Observe at finding) reply event older brings = refl
+brings_shut seat slot (Set at setting) reply event older brings = refl
+brings_shut seat slot (Register at rule) reply event older brings = absurd brings
+brings_shut seat slot (Retire at) reply event older brings = absurd brings
+brings_shut seat slot Shutdown reply event older brings = absurd brings
+brings_shut seat slot Resume reply event older brings = absurd brings
+
+brings_lawful : (slot : ℕ) (call : Call) (event : Event) → Brings call slot event → IsLawfulCall call
+brings_lawful slot (Observe at finding) event brings = tt
+brings_lawful slot (Set at setting) event brings = tt
+brings_lawful slot (Register at rule) event brings = absurd brings
+brings_lawful slot (Retire at) event brings = absurd brings
+brings_lawful slot Shutdown event brings = absurd brings
+brings_lawful slot Resume event brings = absurd brings
+
+-- the rule in force is that of the slot's probe
+rule_of_probe : (entries : List Entry) (i : ℕ) → option_map (λ state. state.0) (probe_at entries i) ≡ rule_at entries i
+rule_of_probe entries i = by_rule (rule_at entries i)
+  where
+    by_rule : (o : Option Rule) → option_map (λ state. state.0) (states (heard entries i) o) ≡ o
+    by_rule None = refl
+    by_rule (Some rule) = refl
+
+-- the reply that the parts give is that of the journal
+pub reply_of_parts : (slots : List (Option (Rule × ℕ))) (shut : Bool) (journal : List Entry) (max_entries slot : ℕ) (call : Call) (event : Event) (reply : Reply)
+    → Keeps slots shut journal max_entries → slot < 16 → Brings call slot event
+    → reply ≡ reply_to_event (option_map (λ state. state.0) (get_or slots slot None)) shut event
+    → reply ≡ reply_to (past journal) call
+reply_of_parts slots shut journal max_entries slot call event reply keeps in_range brings is =
+    is
+    ∙ ap (λ o. reply_to_event (option_map (λ (state : Rule × ℕ). state.0) o) shut event) (keeps.each slot in_range)
+    ∙ ap (λ o. reply_to_event o shut event) (rule_of_probe (past journal) slot)
+    ∙ ap (λ b. reply_to_event (rule_at (past journal) slot) b event) keeps.shut_is
+    ∙ sym (brings_reply call slot event (past journal) brings)
+
+pub keeps_heard : (slots after : List (Option (Rule × ℕ))) (shut : Bool) (journal new : List Entry) (max_entries seat slot : ℕ) (call : Call) (event : Event) (reply : Reply)
+    → Keeps slots shut journal max_entries → length journal < max_entries → slot < 16 → Brings call slot event
+    → reply ≡ reply_to_event (option_map (λ state. state.0) (get_or slots slot None)) shut event → reply ≡ Done
+    → new ≡ journal ++ record { seat = seat; call = call; reply = reply } ∷ [] → after ≡ set slots slot (noted event (get_or slots slot None))
+    → Keeps after shut new max_entries
+keeps_heard slots after shut journal new max_entries seat slot call event reply keeps below in_range brings replied done is write =
+    let reply_is = reply_of_parts slots shut journal max_entries slot call event reply keeps in_range brings replied in
+    keeps_more slots after shut shut journal new max_entries (record { seat = seat; call = call; reply = reply }) keeps below is reply_is (brings_lawful slot call event brings)
+    (keeps.shut_is ∙ brings_shut seat slot call reply event (past journal) brings)
+    (λ i few.
+    ap (λ xs. get_or xs i None) write
+    ∙ set_by_cases (noted event) refl slots slot i
+    ∙ ap (λ o. if slot == i then noted event o else o) (keeps.each i few)
+    ∙ sym (heard_done slot i event (past journal) (sym (brings_reply call slot event (past journal) brings) ∙ sym reply_is ∙ done))
+    ∙ sym (brings_event seat slot i call reply event (past journal) brings))
+
+pub keeps_unheard : (slots : List (Option (Rule × ℕ))) (shut : Bool) (journal new : List Entry) (max_entries seat slot : ℕ) (call : Call) (event : Event) (reply : Reply)
+    → Keeps slots shut journal max_entries → length journal < max_entries → slot < 16 → Brings call slot event
+    → reply ≡ reply_to_event (option_map (λ state. state.0) (get_or slots slot None)) shut event → (reply ≡ Done → ⊥)
+    → new ≡ journal ++ record { seat = seat; call = call; reply = reply } ∷ []
+    → Keeps slots shut new max_entries
+keeps_unheard slots shut journal new max_entries seat slot call event reply keeps below in_range brings replied not_done is =
+    let reply_is = reply_of_parts slots shut journal max_entries slot call event reply keeps in_range brings replied in
+    keeps_more slots slots shut shut journal new max_entries (record { seat = seat; call = call; reply = reply }) keeps below is reply_is (brings_lawful slot call event brings)
+    (keeps.shut_is ∙ brings_shut seat slot call reply event (past journal) brings)
+    (λ i few.
+    keeps.each i few
+    ∙ sym (heard_by_none slot i event (past journal) (λ done. not_done (reply_is ∙ brings_reply call slot event (past journal) brings ∙ done)))
+    ∙ sym (brings_event seat slot i call reply event (past journal) brings))

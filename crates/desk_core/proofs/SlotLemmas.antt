@@ -1,0 +1,33 @@
+use Rattle.std.proofs.Common.{◌&&◌, ◌||◌, not, true, add-one, refl, ◌≡◌, ℕ, ◌+◌, ◌<◌, Option, List, [], ◌∷◌, ◌++◌, length, take, drop, map, get_or, set, sym, ap, ◌∙◌, arith, append_assoc}
+use Rattle.std.proofs.lemmas.List.{drop_more, map_more, get_or_at, set_at, length-map, length-take-le}
+use Rattle.probe_core.specs.declared.rule.Rule.{Rule}
+use Rattle.health_wire.specs.declared.serving.Serving.{Serving}
+use Rattle.desk_core.specs.Status.{has_slot, is_serving}
+use Rattle.desk_core.specs.Slots.{was_reset, covers_below}
+
+-- the places below the index were reset, and the others are as they were
+abbrev pub HasReset : List (Option (Rule × ℕ)) → List (Option (Rule × ℕ)) → ℕ → Type 0
+HasReset old new index = new ≡ map was_reset (take index old) ++ drop index old
+
+pub reset_more : (old now new : List (Option (Rule × ℕ))) (index : ℕ) (default : Option (Rule × ℕ)) → index < length old → HasReset old now index → new ≡ set now index (was_reset (get_or now index default)) → HasReset old new (index + 1)
+reset_more old now new index default below reset is =
+    let front = map was_reset (take index old) in
+    let place = get_or old index default in
+    let rest = drop (index + 1) old in
+    let len : length (map was_reset (take index old)) ≡ index = length-map (take index old) was_reset ∙ length-take-le index old (omega arith) in
+    let whole : now ≡ map was_reset (take index old) ++ (get_or old index default ∷ drop (index + 1) old) = reset ∙ ap (λ xs. map was_reset (take index old) ++ xs) (drop_more old index default below) in
+    let read : get_or now index default ≡ get_or old index default = ap (λ xs. get_or xs index default) whole ∙ get_or_at front place rest default index len in
+    is
+    ∙ ap (λ x. set now index (was_reset x)) read
+    ∙ ap (λ xs. set xs index (was_reset place)) whole
+    ∙ set_at front place rest (was_reset place) index len
+    ∙ sym (append_assoc front (was_reset place ∷ []) rest)
+    ∙ ap (λ xs. xs ++ rest) (sym (map_more was_reset old index default below))
+
+pub covers-none : (statuses : ℕ → Option Serving) (mask : ℕ) → covers_below statuses 0 mask ≡ true
+unfolding covers_below
+covers-none statuses mask = refl
+
+pub covers-more : (statuses : ℕ → Option Serving) (n mask : ℕ) → covers_below statuses (n + 1) mask ≡ (covers_below statuses n mask && (not (has_slot mask n) || is_serving (statuses n)))
+unfolding covers_below
+covers-more statuses n mask = rw add-one refl

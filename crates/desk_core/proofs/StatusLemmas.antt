@@ -1,0 +1,153 @@
+use Rattle.std.proofs.Common.{◌≡◌, ℕ, zero, suc, ◌+◌, ◌-◌, ◌^◌, ◌<◌, ◌==◌, ◌&&◌, ◌||◌, not, if◌then◌else◌, Bool, true, false, Option, None, Some, unwrap_or, List, [], ◌∷◌, length, get_or, set, inl, inr, refl, sym, ap, subst, ◌∙◌, arith, ltb-true}
+use Rattle.std.specs.Option.{option_map, option_or}
+use Rattle.std.proofs.Math.Nat.{div-eq_of_lt}
+use Rattle.std.proofs.lemmas.Bool.{eqb-true, cases_lt}
+use Rattle.std.proofs.lemmas.List.{get_or-set_same, get_or-set_other}
+use Rattle.health_wire.specs.declared.serving.Serving.{Serving}
+use Rattle.health_wire.specs.declared.serving.Serving.TheVariants.{NotServing}
+use Rattle.probe_core.specs.declared.event.Event.{Event}
+use Rattle.probe_core.specs.declared.rule.Rule.{Rule}
+use Rattle.probe_core.specs.declared.rule.Rule.TheVariants.{Threshold, Manual, Depends}
+use Rattle.probe_core.specs.Rule.{fits, is_up_at}
+use Rattle.probe_core.specs.Events.{all_fit, is_up, memory_after}
+use Rattle.desk_core.specs.declared.call.Call.{Call}
+use Rattle.desk_core.specs.declared.call.Call.TheVariants.{Register, Retire, Observe, Set, Shutdown, Resume}
+use Rattle.desk_core.specs.declared.entry.Entry.{Entry}
+use Rattle.desk_core.specs.Shut.{is_shut}
+use Rattle.desk_core.specs.Past.{past, last_said}
+use Rattle.desk_core.specs.Present.{says_rule, rule_at, IsLawful}
+use Rattle.desk_core.specs.Heard.{heard, with_event, forgets, event_for}
+use Rattle.desk_core.specs.Status.{status_by, status_at, all_serving, has_slot, is_serving, serving_if, opinion}
+use Rattle.desk_core.specs.Legal.{IsLegal, IsLawfulCall}
+use Rattle.desk_core.specs.Slots.{covers_below, is_up_by, status_from}
+use Rattle.desk_core.specs.Desk.{Keeps, probe_at}
+use Rattle.desk_core.proofs.HistoryLemmas.{state_of}
+
+-- every slot of a mask below the n-th is serving where their statuses say so
+pub all_serving-covers : (entries : List Entry) (n mask : ℕ) → all_serving entries n mask ≡ covers_below (status_at entries) n mask
+unfolding all_serving covers_below
+all_serving-covers entries zero mask = refl
+all_serving-covers entries (suc n) mask = ap (λ b. b && (not (has_slot mask n) || is_serving (status_at entries n))) (all_serving-covers entries n mask)
+
+-- the same statuses cover the same masks
+covers_same : (f g : ℕ → Option Serving) (n mask : ℕ) → ((i : ℕ) → i < n → f i ≡ g i) → covers_below f n mask ≡ covers_below g n mask
+unfolding covers_below
+covers_same f g zero mask same = refl
+covers_same f g (suc n) mask same =
+    ap (λ b. b && (not (has_slot mask n) || is_serving (f n))) (covers_same f g n mask (λ i below. same i (omega arith)))
+    ∙ ap (λ o. covers_below g n mask && (not (has_slot mask n) || is_serving o)) (same n (omega arith))
+
+pow_more : (n more mask : ℕ) → mask < 2 ^ n → mask < 2 ^ (n + more)
+pow_more n zero mask small = let same : n + zero ≡ n = omega arith in rw same small
+pow_more n (suc more) mask small =
+    let next : n + suc more ≡ suc (n + more) = omega arith in
+    let rest = pow_more n more mask small in
+    rw next (omega (arith, rest))
+
+-- a mask has no slot that is too high for its number
+pub no_slot_above : (mask n : ℕ) → mask < 2 ^ n → has_slot mask n ≡ false
+no_slot_above mask n small = rw (div-eq_of_lt small) refl
+
+and_true : (b : Bool) → (b && true) ≡ b
+and_true true = refl
+and_true false = refl
+
+-- the slots above a mask's own do not count
+covers_short : (f : ℕ → Option Serving) (n more mask : ℕ) → mask < 2 ^ n → covers_below f (n + more) mask ≡ covers_below f n mask
+unfolding covers_below
+covers_short f n zero mask small = let same : n + zero ≡ n = omega arith in rw same refl
+covers_short f n (suc more) mask small =
+    let next : n + suc more ≡ suc (n + more) = omega arith in
+    let clear : has_slot mask (n + more) ≡ false = no_slot_above mask (n + more) (pow_more n more mask small) in
+    rw next (rw clear (and_true (covers_below f (n + more) mask) ∙ covers_short f n more mask small))
+
+-- one more call keeps the rule in force lawful
+lawful_more : (i : ℕ) (rule : Rule) (call : Call) (before : Option (Option Rule)) → (unwrap_or before None ≡ Some rule → IsLawful i rule) → IsLawfulCall call → unwrap_or (option_or (says_rule i call) before) None ≡ Some rule → IsLawful i rule
+lawful_more i rule (Register slot other) before until lawful named = by_test (slot == i) refl named
+  where
+    by_test : (b : Bool) → (slot == i) ≡ b → unwrap_or (option_or (if b then Some (Some other) else None) before) None ≡ Some rule → IsLawful i rule
+    by_test true at said =
+        let same : slot ≡ i = eqb-true slot i at in
+        let rules : other ≡ rule = (let both : Some other ≡ Some rule = said in cc) in
+        let At : ℕ → Type 0 = λ s. IsLawful s other in
+        let Of : Rule → Type 0 = λ r. IsLawful i r in
+        subst Of rules (subst At same lawful)
+    by_test false at said = until said
+lawful_more i rule (Retire slot) before until lawful named = by_test (slot == i) named
+  where
+    by_test : (b : Bool) → unwrap_or (option_or (if b then Some None else None) before) None ≡ Some rule → IsLawful i rule
+    by_test true said = let none : None ≡ Some rule = said in cc
+    by_test false said = until said
+lawful_more i rule (Observe slot finding) before until lawful named = until named
+lawful_more i rule (Set slot setting) before until lawful named = until named
+lawful_more i rule Shutdown before until lawful named = until named
+lawful_more i rule Resume before until lawful named = until named
+
+-- the rule in force of a legal history is lawful
+pub lawful_rule : (entries : List Entry) (i : ℕ) (rule : Rule) → IsLegal entries → rule_at entries i ≡ Some rule → IsLawful i rule
+lawful_rule [] i rule legal is = let none : None ≡ Some rule = is in cc
+lawful_rule (entry ∷ older) i rule legal is =
+    lawful_more i rule entry.call (last_said (says_rule i) older) (λ before. lawful_rule older i rule legal.0 before) legal.2 is
+
+-- one more event keeps what was heard to what fits
+fits_more : (rule : Rule) (events : List Event) (event : Event) (fit shut : Bool) → all_fit rule events ≡ true → fits rule event ≡ fit → all_fit rule (if not shut && fit then event ∷ events else events) ≡ true
+fits_more rule events event true true until is = until
+fits_more rule events event true false until is = ap (λ b. b && all_fit rule events) is ∙ until
+fits_more rule events event false true until is = until
+fits_more rule events event false false until is = until
+
+fits_with : (rule : Rule) (events : List Event) (b : Bool) (event : Option Event) (shut : Bool) → all_fit rule events ≡ true → all_fit rule (if b then [] else with_event rule shut event events) ≡ true
+fits_with rule events true event shut until = refl
+fits_with rule events false None shut until = until
+fits_with rule events false (Some event) shut until = fits_more rule events event (fits rule event) shut until refl
+
+-- what was heard fits
+heard_fits : (entries : List Entry) (i : ℕ) (rule : Rule) → all_fit rule (heard entries i rule) ≡ true
+heard_fits [] i rule = refl
+heard_fits (entry ∷ older) i rule = fits_with rule (heard older i rule) (forgets i entry.call) (event_for i entry.call) (is_shut older) (heard_fits older i rule)
+
+-- the probe of a slot gives its status, by the statuses of the slots before it
+pub status_of_probe : ((rule : Rule) (events : List Event) → all_fit rule events ≡ true → is_up_at rule (memory_after rule events) ≡ is_up rule events)
+    → (entries : List Entry) (i : ℕ) (below : ℕ → Option Serving) → IsLegal entries → i < 16 → ((j : ℕ) → j < i → below j ≡ status_at entries j)
+    → option_map (status_from (covers_below below 16) (is_shut entries)) (probe_at entries i) ≡ status_at entries i
+status_of_probe tells entries i below legal in_range known = by_rule (rule_at entries i) refl
+  where
+    opinion_of : (rule : Rule) → rule_at entries i ≡ Some rule → serving_if (is_up_by (covers_below below 16) rule (memory_after rule (heard entries i rule))) ≡ opinion (all_serving entries i) (heard entries i rule) rule
+    opinion_of (Threshold fall) is = ap serving_if (tells (Threshold fall) (heard entries i (Threshold fall)) (heard_fits entries i (Threshold fall)))
+    opinion_of Manual is = ap serving_if (tells Manual (heard entries i Manual) (heard_fits entries i Manual))
+    opinion_of (Depends mask) is =
+        let small : mask < 2 ^ i = ltb-true mask (2 ^ i) (lawful_rule entries i (Depends mask) legal is) in
+        let whole : i + (16 - i) ≡ 16 = omega arith in
+        ap serving_if (
+        ap (λ n. covers_below below n mask) (sym whole)
+        ∙ covers_short below i (16 - i) mask small
+        ∙ covers_same below (status_at entries) i mask known
+        ∙ sym (all_serving-covers entries i mask))
+
+    by_rule : (o : Option Rule) → rule_at entries i ≡ o → option_map (status_from (covers_below below 16) (is_shut entries)) (option_map (λ rule. state_of rule (heard entries i rule)) o) ≡ status_by (all_serving entries i) entries i o
+    by_rule None is = refl
+    by_rule (Some rule) is = ap (λ status. Some (if is_shut entries then NotServing else status)) (opinion_of rule is)
+
+-- the parts of a desk give the status that its journal gives
+pub status_of_parts : ((rule : Rule) (events : List Event) → all_fit rule events ≡ true → is_up_at rule (memory_after rule events) ≡ is_up rule events)
+    → (slots : List (Option (Rule × ℕ))) (shut : Bool) (journal seen : List Entry) (max_entries slot : ℕ) (below : ℕ → Option Serving) (status : Option Serving)
+    → Keeps slots shut journal max_entries → journal ≡ seen → slot < 16 → ((j : ℕ) → j < slot → below j ≡ status_at (past seen) j)
+    → status ≡ option_map (status_from (covers_below below 16) shut) (get_or slots slot None)
+    → status ≡ status_at (past seen) slot
+status_of_parts tells slots shut journal seen max_entries slot below status keeps same in_range known is =
+    let P : List Entry → Type 0 = λ entries. IsLegal (past entries) in
+    is
+    ∙ ap (option_map (status_from (covers_below below 16) shut)) (keeps.each slot in_range)
+    ∙ ap (λ b. option_map (status_from (covers_below below 16) b) (probe_at (past journal) slot)) keeps.shut_is
+    ∙ ap (λ entries. option_map (status_from (covers_below below 16) (is_shut (past entries))) (probe_at (past entries) slot)) same
+    ∙ status_of_probe tells (past seen) slot below (subst P same keeps.legal) in_range known
+
+-- statuses known below a slot, and that of the slot
+pub known_more : (old : List (Option Serving)) (n : ℕ) (status : Option Serving) (wanted : ℕ → Option Serving) → n < length old → ((i : ℕ) → i < n → get_or old i None ≡ wanted i) → status ≡ wanted n → (i : ℕ) → i < n + 1 → get_or (set old n status) i None ≡ wanted i
+known_more old n status wanted within known is i below =
+    elim (cases_lt i n) [
+      | inl before ↦ get_or-set_other old n i status None (λ same. omega (arith, same)) ∙ known i before
+      | inr past_it ↦
+          let same : n ≡ i = omega arith in
+          ap (λ k. get_or (set old n status) k None) (sym same) ∙ get_or-set_same old n status None within ∙ is ∙ ap wanted same
+    ]

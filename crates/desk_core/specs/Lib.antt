@@ -1,0 +1,14 @@
+pub mod Board
+pub mod Catalogue
+pub mod Desk
+pub mod Fault
+pub mod Heard
+pub mod Legal
+pub mod Past
+pub mod Present
+pub mod Refusal
+pub mod Reply
+pub mod Seats
+pub mod Shut
+pub mod Slots
+pub mod Status

@@ -1,0 +1,58 @@
+ghost use Rattle.std.specs.Prelude.{◌≡◌, ◌≤◌, ◌↔◌, List, ℕ, Some, None, true, false, [], ◌∷◌, ◌++◌, length, All, Contains};
+ghost use Rattle.desk_core.specs.declared.call.Call.{Call};
+ghost use Rattle.desk_core.specs.declared.call.Call.TheVariants.{Shutdown, Resume};
+ghost use Rattle.desk_core.specs.declared.entry.Entry.{Entry};
+ghost use Rattle.desk_core.specs.Past.{past};
+ghost use Rattle.desk_core.specs.Shut.{is_shut, says_shut};
+ghost use Rattle.desk_core.specs.Status.{status_at, AllServe};
+ghost use Rattle.desk_core.specs.Present.{rule_at};
+ghost use Rattle.desk_core.specs.Reply.{reply_to};
+ghost use Rattle.health_wire.specs.declared.serving.Serving.TheVariants.{Serving as IsServing};
+ghost use Rattle.probe_core.specs.declared.rule.Rule.TheVariants.{Depends};
+ghost use Rattle.desk_core.specs.Legal.{IsLegal, IsLawfulCall};
+ghost use Rattle.desk_core.specs.Catalogue.{IsCatalogue, HasNoDouble, slot_of, name_at, has_too_long, has_double, has_empty_name};
+ghost use Rattle.desk_core.specs.Fault.{fault_in};
+
+/// In a catalogue a name and its slot lead to one another.
+pub fn slots_and_names()
+    ensures { (names : List (List ℕ)) (name : List ℕ) (slot : ℕ) → IsCatalogue names
+        → ((slot_of names name ≡ Some slot) ↔ (name_at names slot ≡ Some name)) }
+{}
+
+/// Names without a fault are a catalogue, and no others are.
+pub fn faultless_names()
+    ensures faultless { (names : List (List ℕ)) → ((fault_in names ≡ None) ↔ IsCatalogue names) }
+
+    // Each test tells one fact of a catalogue.
+    ensures short { (names : List (List ℕ))
+        → ((has_too_long names ≡ false) ↔ All (λ name. length name ≤ 128) names) }
+    ensures distinct { (names : List (List ℕ))
+        → ((has_double names ≡ false) ↔ HasNoDouble names) }
+    ensures has_empty { (names : List (List ℕ))
+        → ((has_empty_name names ≡ true) ↔ Contains names []) }
+{}
+
+/// The last Shutdown or Resume decides whether the server is shut down, and before the first it is not.
+pub fn last_call_decides()
+    ensures none { is_shut [] ≡ false }
+    ensures shutdown { (entry : Entry) (older : List Entry) → entry.call ≡ Shutdown → is_shut (entry ∷ older) ≡ true }
+    ensures resume { (entry : Entry) (older : List Entry) → entry.call ≡ Resume → is_shut (entry ∷ older) ≡ false }
+    ensures others { (entry : Entry) (older : List Entry) → says_shut entry.call ≡ None → is_shut (entry ∷ older) ≡ is_shut older }
+{}
+
+/// A service that depends on others is serving exactly where each slot of its mask is, while the server is not shut down.
+pub fn depends_on_all()
+    ensures { (entries : List Entry) (i mask : ℕ) → IsLegal entries → rule_at entries i ≡ Some (Depends mask) → is_shut entries ≡ false
+        → ((status_at entries i ≡ Some IsServing) ↔ AllServe entries mask) }
+{}
+
+/// One more entry with the reply that the history gives keeps it legal.
+pub fn legal_growth()
+    ensures { (journal : List Entry) (entry : Entry) → IsLegal (past journal) → entry.reply ≡ reply_to (past journal) entry.call
+        → IsLawfulCall entry.call → IsLegal (past (journal ++ entry ∷ [])) }
+{}
+
+/// A front of a legal history is legal.
+pub fn legal_fronts()
+    ensures { (journal more : List Entry) → IsLegal (past (journal ++ more)) → IsLegal (past journal) }
+{}

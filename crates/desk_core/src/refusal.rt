@@ -1,0 +1,33 @@
+use std::error::Error;
+use std::fmt;
+
+/// Why a change was not taken. It leaves no entry, and changes nothing.
+#[derive(Clone, Copy, Debug, PartialEq, Eq, Hash)]
+pub enum Refusal {
+    /// A threshold is outside 1 to 1,000, or a mask has the service's own slot or a later one.
+    BadRule,
+    /// The journal has as many entries as it may have.
+    Full,
+    /// Memory ran out.
+    NoMemory,
+    /// The name is not in the catalogue.
+    NotListed,
+}
+
+impl fmt::Display for Refusal {
+    ghost use Rattle.std.specs.Prelude.{Some};
+    ghost use Rattle.desk_core.specs.Refusal.{refusal_text};
+
+    ghost output = { λ refusal. Some (refusal_text refusal) };
+
+    fn fmt<W: fmt::Write>(&self, f: &mut fmt::Formatter<W>) -> fmt::Result {
+        f.write_str(match self {
+            Refusal::BadRule => "the rule is not lawful",
+            Refusal::Full => "the journal is full",
+            Refusal::NoMemory => "out of memory",
+            Refusal::NotListed => "the name is not in the catalogue",
+        })
+    }
+}
+
+impl Error for Refusal {}

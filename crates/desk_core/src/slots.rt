@@ -1,0 +1,113 @@
+ghost use Rattle.std.specs.Prelude.{◌≡◌};
+ghost use Rattle.desk_core.specs.Slots.{noted, was_reset};
+
+use crate::owned::Owned;
+use crate::slot::Slot;
+use probe_core::{Event, Probe, Rule};
+use std::alloc::{AllocError, Global};
+
+/// The probes of all slots. A slot past the end of the places has none.
+#[derive(Drop)]
+pub(crate) struct Slots<P: Probe> {
+    places: Vec<Option<Owned<P>>>,
+}
+
+impl<P: Probe> Slots<P> {
+    ghost use Rattle.std.specs.Prelude.{◌≡◌, ◌<◌, ℕ, [], None, Some, length, slice_index_or, slice_set, map, is_some, OnOk};
+    ghost use Rattle.std.specs.Option.{option_copied, option_map};
+    ghost use Rattle.desk_core.specs.Slots.{noted, was_reset, HasSame};
+
+    pub(crate) fn new(alloc: Global) -> Slots<P>
+        ensures { result.places.items ≡ [] }
+    {
+        Slots {
+            places: Vec::new(alloc),
+        }
+    }
+
+    /// Takes the memory for a probe in any slot.
+    pub(crate) fn reserve(&mut self) -> Result<(), AllocError>
+        ensures same { HasSame self.old.places.items self.new.places.items }
+        ensures room { OnOk result (15 < length self.new.places.items) }
+    {
+        while self.places.len() < 16 {
+            self.places.push(None)?;
+        }
+        Ok(())
+    }
+
+    pub(crate) fn get(&self, slot: Slot) -> Option<&Owned<P>>
+        ensures { option_copied result ≡ slice_index_or self.now.places.items slot None }
+    {
+        match self.places.get(usize::from(slot.number())) {
+            Some(place) => place.as_ref(),
+            None => None,
+        }
+    }
+
+    pub(crate) fn has(&self, slot: Slot) -> bool
+        ensures { result ≡ is_some (slice_index_or self.now.places.items slot None) }
+    {
+        self.get(slot).is_some()
+    }
+
+    pub(crate) fn rule(&self, slot: Slot) -> Option<Rule>
+        ensures { result ≡ option_map (λ state. state.0) (slice_index_or self.now.places.items slot None) }
+    {
+        self.get(slot).map(|owned| owned.rule())
+    }
+
+    /// Puts a probe into the slot, and gives the old one back.
+    pub(crate) fn replace(&mut self, slot: Slot, owned: Owned<P>) -> Option<Owned<P>>
+        requires { slot < length self.old.places.items }
+        ensures old { result ≡ slice_index_or self.old.places.items slot None }
+        ensures after { self.new.places.items ≡ slice_set self.old.places.items slot (Some owned) }
+    {
+        self.places[usize::from(slot.number())].replace(owned)
+    }
+
+    pub(crate) fn take(&mut self, slot: Slot) -> Option<Owned<P>>
+        ensures old { result ≡ slice_index_or self.old.places.items slot None }
+        ensures after { self.new.places.items ≡ slice_set self.old.places.items slot None }
+    {
+        match self.places.get_mut(usize::from(slot.number())) {
+            Some(place) => place.take(),
+            None => None,
+        }
+    }
+
+    /// Lets the slot's probe hear an event.
+    pub(crate) fn note(&mut self, slot: Slot, event: Event)
+        ensures { self.new.places.items ≡ slice_set self.old.places.items slot (noted event (slice_index_or self.old.places.items slot None)) }
+    {
+        let index = usize::from(slot.number());
+        if index < self.places.len() {
+            note_place(&mut self.places[index], event);
+        }
+    }
+
+    /// Takes all probes back to their opening state.
+    pub(crate) fn reset(&mut self)
+        ensures { self.new.places.items ≡ map was_reset self.old.places.items }
+    {
+        for index in 0..self.places.len() {
+            reset_place(&mut self.places[index]);
+        }
+    }
+}
+
+fn note_place<P: Probe>(place: &mut Option<Owned<P>>, event: Event)
+    ensures { place.new ≡ noted event place.old }
+{
+    if let Some(owned) = place {
+        owned.note(event);
+    }
+}
+
+fn reset_place<P: Probe>(place: &mut Option<Owned<P>>)
+    ensures { place.new ≡ was_reset place.old }
+{
+    if let Some(owned) = place {
+        owned.reset();
+    }
+}
