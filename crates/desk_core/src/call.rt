@@ -1,7 +1,7 @@
 use crate::slot::Slot;
 use probe_core::{Event, Rule};
 
-/// What a check of a service found.
+/// What a look at a service found.
 #[derive(Clone, Copy, Debug, PartialEq, Eq, Hash)]
 pub enum Finding {
     Pass,

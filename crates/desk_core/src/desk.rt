@@ -163,7 +163,7 @@ impl<P: Probe> Desk<P> {
     fn hear(&mut self, seat: u16, slot: Slot, call: Call, event: Event) -> Result<Reply, Refusal>
         requires { Brings call slot event }
         ensures entry { IfOk result (λ reply. self.new ≡ with_entry self.old seat call reply) }
-        ensures reply { IfOk result (λ reply. reply ≡ reply_to (past self.old.journal) (call)) }
+        ensures reply { IfOk result (λ reply. reply ≡ reply_to (past self.old.journal) call) }
         ensures unchanged { OnErr result (self.new ≡ self.old) }
         ensures full { IsErrOf result Refusal.Full ↔ (length self.old.journal ≡ self.old.max_entries) }
         ensures no_memory { IfErr result (λ refusal. (refusal ≡ Refusal.Full) ⊎ (refusal ≡ Refusal.NoMemory)) }
@@ -182,7 +182,7 @@ impl<P: Probe> Desk<P> {
         Ok(reply)
     }
 
-    /// Shows every registered service as not serving, until it is resumed.
+    /// Shows every registered service as not serving, until the next resume.
     pub fn shutdown(&mut self, seat: u16) -> Result<Reply, Refusal>
         ensures entry { IfOk result (λ reply. self.new ≡ with_entry self.old seat Call.Shutdown reply) }
         ensures reply { IfOk result (λ reply. reply ≡ reply_to (past self.old.journal) Call.Shutdown) }

@@ -23,7 +23,7 @@ pub fn slots_and_names()
 pub fn faultless_names()
     ensures faultless { (names : List (List ℕ)) → ((fault_in names ≡ None) ↔ IsCatalogue names) }
 
-    // Each test tells one fact of a catalogue.
+    // What each look at the names in `fault_in` says of them.
     ensures short { (names : List (List ℕ))
         → ((has_too_long names ≡ false) ↔ All (λ name. length name ≤ 128) names) }
     ensures distinct { (names : List (List ℕ))

@@ -1,7 +1,7 @@
 use crate::call::{Finding, Setting};
 use crate::name::Name;
 
-/// A change by name, of those that a server takes while it runs.
+/// A change that a server takes while it runs, with the name of its service.
 #[derive(Debug, Drop)]
 pub enum Order {
     Observe(Name, Finding),

@@ -172,6 +172,16 @@ fn fills<P: Probe>(rt: &impl Abort, alloc: Global, a: P, b: P, c: P, fourth: P) 
     assert_eq!(rt; handed.refusal, Refusal::Full);
     assert_eq!(rt; handed.probe.rule(), Rule::Manual);
     assert_eq!(rt; status(rt, &desk, 0), Some(Serving::Serving));
+    assert!(rt;
+        desk.retire(0, slot(rt, 1))
+            .is_err_and(|refusal| refusal == Refusal::Full)
+    );
+    assert_eq!(rt;
+        desk.observe(0, slot(rt, 0), Finding::Fail),
+        Err(Refusal::Full)
+    );
+    assert_eq!(rt; desk.set(0, slot(rt, 1), Setting::Up), Err(Refusal::Full));
+    assert_eq!(rt; desk.resume(0), Err(Refusal::Full));
     assert_eq!(rt; desk.board(), 12_884_901_909);
     let mut none = Desk::new(alloc, 0);
     let handed = none
@@ -270,8 +280,7 @@ fn takes_lawful_rules_alone(rt: HostRuntime) {
     takes_the_rule(&rt, alloc, Threshold::new(1_000));
 }
 
-/// Probes with counters of their own, so that another of the same rule and memory, as `retire_makes_its_own_box` would
-/// hand out, is counted elsewhere.
+/// Each probe has a counter of its own, so that a desk which handed out another of the same rule and memory would be seen.
 #[test]
 fn gives_the_very_probe_back(rt: HostRuntime) -> Result<(), Fail> {
     let alloc = rt.alloc();
@@ -308,6 +317,31 @@ fn gives_the_very_probe_back(rt: HostRuntime) -> Result<(), Fail> {
     assert_eq!(rt; drops(), (0, 1, 2));
     drop(desk);
     assert_eq!(rt; drops(), (1, 1, 2));
+    Ok(())
+}
+
+#[test]
+fn refuses_an_unlawful_rule_before_a_full_journal(rt: HostRuntime) {
+    let mut desk = Desk::new(rt.alloc(), 0);
+    let handed = desk
+        .register(0, slot(&rt, 1), Threshold::new(0))
+        .err()
+        .expect(&rt, "a refusal");
+    assert_eq!(rt; handed.refusal, Refusal::BadRule);
+}
+
+const REFUSALS: [(Refusal, &str); 4] = [
+    (Refusal::BadRule, "the rule is not lawful"),
+    (Refusal::Full, "the journal is full"),
+    (Refusal::NoMemory, "out of memory"),
+    (Refusal::NotListed, "the name is not in the catalogue"),
+];
+
+#[test]
+fn tells_each_refusal(rt: HostRuntime) -> Result<(), Fail> {
+    for (refusal, text) in REFUSALS {
+        assert_eq!(rt; refusal.to_string(rt.alloc())?.as_str(), text);
+    }
     Ok(())
 }
 

@@ -13,10 +13,9 @@ fn refuses_in_turn<P: Probe>(rt: &impl Abort, alloc: Global, scarcity: &Scarcity
             Ok(_) => {
                 assert!(rt; desk.journal().len() == 1);
                 assert!(rt; status(rt, &desk, 2) == Some(Serving::Serving));
-                let Ok((Reply::Done, Some(back))) = desk.retire(7, slot(rt, 2)) else {
-                    return;
-                };
-                probe = back;
+                let (reply, old) = desk.retire(7, slot(rt, 2)).ok().expect(rt, "a reply");
+                assert!(rt; reply == Reply::Done);
+                probe = old.expect(rt, "a probe");
                 whole = whole.wrapping_add(1);
             }
             Err(handed) => {
