@@ -5,3 +5,4 @@ pub mod KeyLemmas
 pub mod LawLemmas
 pub mod SlotLemmas
 pub mod StatusLemmas
+pub mod WatchLemmas

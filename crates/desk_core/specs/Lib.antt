@@ -1,5 +1,6 @@
 pub mod Board
 pub mod Catalogue
+pub mod Changes
 pub mod Desk
 pub mod Fault
 pub mod Heard
@@ -12,3 +13,4 @@ pub mod Seats
 pub mod Shut
 pub mod Slots
 pub mod Status
+pub mod Watch

@@ -1,4 +1,4 @@
-ghost use Rattle.std.specs.Prelude.{◌≡◌, ◌≤◌, ◌↔◌, List, ℕ, Some, None, true, false, [], ◌∷◌, ◌++◌, length, All, Contains};
+ghost use Rattle.std.specs.Prelude.{◌≡◌, ◌≤◌, ◌↔◌, List, ℕ, Option, take, Some, None, true, false, [], ◌∷◌, ◌++◌, length, All, Contains};
 ghost use Rattle.desk_core.specs.declared.call.Call.{Call};
 ghost use Rattle.desk_core.specs.declared.call.Call.TheVariants.{Shutdown, Resume};
 ghost use Rattle.desk_core.specs.declared.entry.Entry.{Entry};
@@ -7,6 +7,8 @@ ghost use Rattle.desk_core.specs.Shut.{is_shut, says_shut};
 ghost use Rattle.desk_core.specs.Status.{status_at, AllServe};
 ghost use Rattle.desk_core.specs.Present.{rule_at};
 ghost use Rattle.desk_core.specs.Reply.{reply_to};
+ghost use Rattle.desk_core.specs.Changes.{changes_of};
+ghost use Rattle.desk_core.specs.Watch.{IsOlder, GoOn, last_of, opened, walk, cursor_past, story};
 ghost use Rattle.health_wire.specs.declared.serving.Serving.TheVariants.{Serving as IsServing};
 ghost use Rattle.probe_core.specs.declared.rule.Rule.TheVariants.{Depends};
 ghost use Rattle.desk_core.specs.Legal.{IsLegal, IsLawfulCall};
@@ -55,4 +57,21 @@ pub fn legal_growth()
 /// A front of a legal history is legal.
 pub fn legal_fronts()
     ensures { (journal more : List Entry) → IsLegal (past (journal ++ more)) → IsLegal (past journal) }
+{}
+
+/// Where one history goes on from another, its changes begin with those of the other.
+pub fn changes_grow()
+    ensures { (older entries : List Entry) → IsOlder older entries
+        → take (length (changes_of older)) (changes_of entries) ≡ changes_of older }
+{}
+
+/// The steps of a watcher, taken while the journal grows, tell its service's changes from its opening up to where its
+/// cursor then stands: each once, in order, and none left out.
+pub fn walks_tell_the_story()
+    ensures story { (entries : List Entry) (later : List (List Entry)) (slot : Option ℕ) → GoOn entries later
+        → walk (opened (changes_of entries) slot) later
+        ≡ story (changes_of (last_of entries later)) slot (length (changes_of entries)) (cursor_past (opened (changes_of entries) slot) later) }
+    ensures range { (entries : List Entry) (later : List (List Entry)) (slot : Option ℕ) → GoOn entries later
+        → (length (changes_of entries) ≤ cursor_past (opened (changes_of entries) slot) later)
+        × (cursor_past (opened (changes_of entries) slot) later ≤ length (changes_of (last_of entries later))) }
 {}

@@ -4,6 +4,7 @@
 mod board;
 mod call;
 mod catalogue;
+mod change;
 mod desk;
 mod entry;
 mod journal;
@@ -21,10 +22,12 @@ mod status;
 
 pub use call::{Call, Finding, Setting};
 pub use catalogue::{Catalogue, CatalogueFault};
+pub use change::Change;
 pub use desk::Desk;
 pub use entry::Entry;
 pub use laws::{
-    depends_on_all, faultless_names, last_call_decides, legal_fronts, legal_growth, slots_and_names,
+    changes_grow, depends_on_all, faultless_names, last_call_decides, legal_fronts, legal_growth,
+    slots_and_names, walks_tell_the_story,
 };
 pub use name::Name;
 pub use order::Order;

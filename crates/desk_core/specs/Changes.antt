@@ -1,0 +1,24 @@
+-- What watchers are shown: each change of a service's status (Watch of health-checking.md of grpc).
+use Rattle.std.specs.Prelude.{ℕ, zero, suc, ◌==◌, Bool, if◌then◌else◌, Some, List, [], ◌∷◌, ◌++◌, length}
+use Rattle.health_wire.specs.declared.serving.Serving.{Serving}
+use Rattle.health_wire.specs.Serving.{serving_number}
+use Rattle.desk_core.specs.declared.change.Change.{Change}
+use Rattle.desk_core.specs.declared.entry.Entry.{Entry}
+use Rattle.desk_core.specs.Status.{shown}
+
+-- the two are the same status
+abbrev pub is_same : Serving → Serving → Bool
+is_same a b = serving_number a == serving_number b
+
+-- of the slots 0 to n - 1, in their order, those that are shown otherwise after the newest entry than before it
+unfoldable pub changed : List Entry → List Entry → ℕ → List Change
+changed entries older zero = []
+changed entries older (suc n) =
+    changed entries older n
+    ++ (if is_same (shown entries (Some n)) (shown older (Some n)) then []
+    else record { at = length older; slot = n; status = shown entries (Some n) } ∷ [])
+
+-- the changes of a history in all slots, by the place of their entry, the oldest first, and then by slot
+abbrev pub changes_of : List Entry → List Change
+changes_of [] = []
+changes_of (entry ∷ older) = changes_of older ++ changed (entry ∷ older) older 16
