@@ -12,7 +12,7 @@ use Rattle.desk_core.specs.declared.call.Call.{Call}
 use Rattle.desk_core.specs.declared.call.Call.TheVariants.{Register, Retire, Observe, Set, Shutdown, Resume}
 use Rattle.desk_core.specs.declared.entry.Entry.{Entry}
 use Rattle.desk_core.specs.declared.reply.Reply.{Reply}
-use Rattle.desk_core.specs.declared.reply.Reply.TheVariants.{Done, Replaced, WrongKind, Ignored}
+use Rattle.desk_core.specs.declared.reply.Reply.TheVariants.{Done, Replaced, Missing, WrongKind, Ignored}
 use Rattle.desk_core.specs.Past.{past, last_said}
 use Rattle.desk_core.specs.Shut.{is_shut}
 use Rattle.desk_core.specs.Present.{says_rule, rule_at, is_present, is_lawful}
@@ -122,6 +122,30 @@ probe_at-resume seat i older = by_rule (rule_at older i)
     by_rule : (o : Option Rule) → option_map (λ r. (r, memory_after r [])) o ≡ was_reset (option_map (λ r. (r, memory_after r (heard older i r))) o)
     by_rule None = refl
     by_rule (Some rule) = ap (λ m. Some (rule, m)) (opening_state rule)
+
+-- a shutdown leaves all probes as they are
+pub keeps_shutdown : (slots : List (Option (Rule × ℕ))) (shut : Bool) (journal new : List Entry) (max_entries seat : ℕ)
+    → Keeps slots shut journal max_entries → length journal < max_entries
+    → new ≡ journal ++ record { seat = seat; call = Shutdown; reply = Done } ∷ []
+    → Keeps slots true new max_entries
+keeps_shutdown slots shut journal new max_entries seat keeps below is =
+    keeps_more slots slots shut true journal new max_entries (record { seat = seat; call = Shutdown; reply = Done }) keeps below is refl tt refl keeps.each
+
+-- a retirement takes one probe away
+pub keeps_retire : (slots after : List (Option (Rule × ℕ))) (shut : Bool) (journal new : List Entry) (max_entries seat slot : ℕ) (reply : Reply)
+    → Keeps slots shut journal max_entries → length journal < max_entries → slot < 16
+    → reply ≡ (if is_some (get_or slots slot None) then Done else Missing)
+    → new ≡ journal ++ record { seat = seat; call = Retire slot; reply = reply } ∷ [] → after ≡ set slots slot None
+    → Keeps after shut new max_entries
+keeps_retire slots after shut journal new max_entries seat slot reply keeps below in_range reply_is is write =
+    let present : is_some (get_or slots slot None) ≡ is_present (past journal) slot = ap is_some (keeps.each slot in_range) ∙ is_some-probe_at (past journal) slot in
+    keeps_more slots after shut shut journal new max_entries (record { seat = seat; call = Retire slot; reply = reply }) keeps below is
+    (reply_is ∙ ap (λ b. if b then Done else Missing) present) tt keeps.shut_is
+    (λ i few.
+    ap (λ xs. get_or xs i None) write
+    ∙ set_by_cases (λ _. None) refl slots slot i
+    ∙ ap (λ o. if slot == i then None else o) (keeps.each i few)
+    ∙ sym (probe_at-retire seat slot i reply (past journal)))
 
 reset_at : (xs : List (Option (Rule × ℕ))) (i : ℕ) → get_or (map was_reset xs) i None ≡ was_reset (get_or xs i None)
 reset_at [] i = refl
@@ -251,7 +275,7 @@ reply_of_parts slots shut journal max_entries slot call event reply keeps in_ran
     ∙ ap (λ b. reply_to_event (rule_at (past journal) slot) b event) keeps.shut_is
     ∙ sym (brings_reply call slot event (past journal) brings)
 
-pub keeps_heard : (slots after : List (Option (Rule × ℕ))) (shut : Bool) (journal new : List Entry) (max_entries seat slot : ℕ) (call : Call) (event : Event) (reply : Reply)
+keeps_heard : (slots after : List (Option (Rule × ℕ))) (shut : Bool) (journal new : List Entry) (max_entries seat slot : ℕ) (call : Call) (event : Event) (reply : Reply)
     → Keeps slots shut journal max_entries → length journal < max_entries → slot < 16 → Brings call slot event
     → reply ≡ reply_to_event (option_map (λ state. state.0) (get_or slots slot None)) shut event → reply ≡ Done
     → new ≡ journal ++ record { seat = seat; call = call; reply = reply } ∷ [] → after ≡ set slots slot (noted event (get_or slots slot None))
@@ -267,7 +291,7 @@ keeps_heard slots after shut journal new max_entries seat slot call event reply 
     ∙ sym (heard_done slot i event (past journal) (sym (brings_reply call slot event (past journal) brings) ∙ sym reply_is ∙ done))
     ∙ sym (brings_event seat slot i call reply event (past journal) brings))
 
-pub keeps_unheard : (slots : List (Option (Rule × ℕ))) (shut : Bool) (journal new : List Entry) (max_entries seat slot : ℕ) (call : Call) (event : Event) (reply : Reply)
+keeps_unheard : (slots : List (Option (Rule × ℕ))) (shut : Bool) (journal new : List Entry) (max_entries seat slot : ℕ) (call : Call) (event : Event) (reply : Reply)
     → Keeps slots shut journal max_entries → length journal < max_entries → slot < 16 → Brings call slot event
     → reply ≡ reply_to_event (option_map (λ state. state.0) (get_or slots slot None)) shut event → (reply ≡ Done → ⊥)
     → new ≡ journal ++ record { seat = seat; call = call; reply = reply } ∷ []
@@ -280,3 +304,27 @@ keeps_unheard slots shut journal new max_entries seat slot call event reply keep
     keeps.each i few
     ∙ sym (heard_by_none slot i event (past journal) (λ done. not_done (reply_is ∙ brings_reply call slot event (past journal) brings ∙ done)))
     ∙ sym (brings_event seat slot i call reply event (past journal) brings))
+
+-- whatever the reply, the slot hears the event where it is Done
+pub keeps_event : (slots after : List (Option (Rule × ℕ))) (shut : Bool) (journal new : List Entry) (max_entries seat slot : ℕ) (call : Call) (event : Event) (reply : Reply)
+    → Keeps slots shut journal max_entries → length journal < max_entries → slot < 16 → Brings call slot event
+    → reply ≡ reply_to_event (option_map (λ state. state.0) (get_or slots slot None)) shut event
+    → new ≡ journal ++ record { seat = seat; call = call; reply = reply } ∷ []
+    → (reply ≡ Done → after ≡ set slots slot (noted event (get_or slots slot None))) → ((reply ≡ Done → ⊥) → after ≡ slots)
+    → Keeps after shut new max_entries
+keeps_event slots after shut journal new max_entries seat slot call event reply keeps below in_range brings replied is done others = by_reply reply refl
+  where
+    heard_it : reply ≡ Done → Keeps after shut new max_entries
+    heard_it said = keeps_heard slots after shut journal new max_entries seat slot call event reply keeps below in_range brings replied said is (done said)
+
+    heard_none : (reply ≡ Done → ⊥) → Keeps after shut new max_entries
+    heard_none said =
+        let Kept : List (Option (Rule × ℕ)) → Type 0 = λ xs. Keeps xs shut new max_entries in
+        subst Kept (sym (others said)) (keeps_unheard slots shut journal new max_entries seat slot call event reply keeps below in_range brings replied said is)
+
+    by_reply : (r : Reply) → reply ≡ r → Keeps after shut new max_entries
+    by_reply Done said = heard_it said
+    by_reply Replaced said = heard_none (λ same. let both : Replaced ≡ Done = sym said ∙ same in cc)
+    by_reply Missing said = heard_none (λ same. let both : Missing ≡ Done = sym said ∙ same in cc)
+    by_reply WrongKind said = heard_none (λ same. let both : WrongKind ≡ Done = sym said ∙ same in cc)
+    by_reply Ignored said = heard_none (λ same. let both : Ignored ≡ Done = sym said ∙ same in cc)

@@ -1,3 +1,4 @@
+mod ChangeLemmas
 pub mod BoardLemmas
 pub mod CatalogueLemmas
 pub mod HistoryLemmas

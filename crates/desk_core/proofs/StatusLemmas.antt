@@ -130,17 +130,15 @@ status_of_probe tells entries i below legal in_range known = by_rule (rule_at en
 
 -- the parts of a desk give the status that its journal gives
 pub status_of_parts : ((rule : Rule) (events : List Event) → all_fit rule events ≡ true → is_up_at rule (memory_after rule events) ≡ is_up rule events)
-    → (slots : List (Option (Rule × ℕ))) (shut : Bool) (journal seen : List Entry) (max_entries slot : ℕ) (below : ℕ → Option Serving) (status : Option Serving)
-    → Keeps slots shut journal max_entries → journal ≡ seen → slot < 16 → ((j : ℕ) → j < slot → below j ≡ status_at (past seen) j)
+    → (slots : List (Option (Rule × ℕ))) (shut : Bool) (journal : List Entry) (max_entries slot : ℕ) (below : ℕ → Option Serving) (status : Option Serving)
+    → Keeps slots shut journal max_entries → slot < 16 → ((j : ℕ) → j < slot → below j ≡ status_at (past journal) j)
     → status ≡ option_map (status_from (covers_below below 16) shut) (get_or slots slot None)
-    → status ≡ status_at (past seen) slot
-status_of_parts tells slots shut journal seen max_entries slot below status keeps same in_range known is =
-    let P : List Entry → Type 0 = λ entries. IsLegal (past entries) in
+    → status ≡ status_at (past journal) slot
+status_of_parts tells slots shut journal max_entries slot below status keeps in_range known is =
     is
     ∙ ap (option_map (status_from (covers_below below 16) shut)) (keeps.each slot in_range)
     ∙ ap (λ b. option_map (status_from (covers_below below 16) b) (probe_at (past journal) slot)) keeps.shut_is
-    ∙ ap (λ entries. option_map (status_from (covers_below below 16) (is_shut (past entries))) (probe_at (past entries) slot)) same
-    ∙ status_of_probe tells (past seen) slot below (subst P same keeps.legal) in_range known
+    ∙ status_of_probe tells (past journal) slot below keeps.legal in_range known
 
 -- statuses known below a slot, and that of the slot
 pub known_more : (old : List (Option Serving)) (n : ℕ) (status : Option Serving) (wanted : ℕ → Option Serving) → n < length old → ((i : ℕ) → i < n → get_or old i None ≡ wanted i) → status ≡ wanted n → (i : ℕ) → i < n + 1 → get_or (set old n status) i None ≡ wanted i

@@ -9,20 +9,20 @@ use Rattle.std.proofs.Math.Nat.{le-max_left, max-eq_right}
 use Rattle.std.proofs.Math.Seq.{take-length, drop-length}
 use Rattle.desk_core.specs.declared.change.Change.{Change}
 use Rattle.desk_core.specs.declared.entry.Entry.{Entry}
-use Rattle.desk_core.specs.Changes.{changes_of, changed}
+use Rattle.desk_core.specs.Changes.{changes_of, changed, shown_at}
 use Rattle.desk_core.specs.Watch.{IsOlder, WatchState, is_of, answer_of, cursor_after, stepped, story, told, opened, walk, cursor_past, GoOn, last_of}
 use Rattle.health_wire.specs.declared.serving.Serving.{Serving}
 
 -- the changes that newer entries add
 changes_since : List Entry → List Entry → List Change
 changes_since [] older = []
-changes_since (entry ∷ newer) older = changes_since newer older ++ changed (entry ∷ (newer ++ older)) (newer ++ older) 16
+changes_since (entry ∷ newer) older = changes_since newer older ++ changed (length (newer ++ older)) (shown_at (newer ++ older)) (shown_at (entry ∷ (newer ++ older))) 16
 
 grown : (newer older : List Entry) → changes_of (newer ++ older) ≡ changes_of older ++ changes_since newer older
 unfolding changes_since
 grown [] older = sym (append-nil (changes_of older))
 grown (entry ∷ newer) older =
-    let more : List Change = changed (entry ∷ (newer ++ older)) (newer ++ older) 16 in
+    let more : List Change = changed (length (newer ++ older)) (shown_at (newer ++ older)) (shown_at (entry ∷ (newer ++ older))) 16 in
     ap (λ cs. cs ++ more) (grown newer older) ∙ append_assoc (changes_of older) (changes_since newer older) more
 
 pub front_stays : (older entries : List Entry) → IsOlder older entries → take (length (changes_of older)) (changes_of entries) ≡ changes_of older

@@ -10,15 +10,19 @@ use Rattle.desk_core.specs.Status.{shown}
 abbrev pub is_same : Serving → Serving → Bool
 is_same a b = serving_number a == serving_number b
 
--- of the slots 0 to n - 1, in their order, those that are shown otherwise after the newest entry than before it
-unfoldable pub changed : List Entry → List Entry → ℕ → List Change
-changed entries older zero = []
-changed entries older (suc n) =
-    changed entries older n
-    ++ (if is_same (shown entries (Some n)) (shown older (Some n)) then []
-    else record { at = length older; slot = n; status = shown entries (Some n) } ∷ [])
+-- of the slots 0 to n - 1, in their order, those that are shown otherwise after the entry at this place than before it
+unfoldable pub changed : ℕ → (ℕ → Serving) → (ℕ → Serving) → ℕ → List Change
+changed at before after zero = []
+changed at before after (suc n) =
+    changed at before after n
+    ++ (if is_same (before n) (after n) then [] else record { at = at; slot = n; status = after n } ∷ [])
+
+-- what each slot is shown as
+abbrev pub shown_at : List Entry → ℕ → Serving
+shown_at entries slot = shown entries (Some slot)
 
 -- the changes of a history in all slots, by the place of their entry, the oldest first, and then by slot
 abbrev pub changes_of : List Entry → List Change
 changes_of [] = []
-changes_of (entry ∷ older) = changes_of older ++ changed (entry ∷ older) older 16
+changes_of (entry ∷ older) =
+    changes_of older ++ changed (length older) (shown_at older) (shown_at (entry ∷ older)) 16

@@ -6,6 +6,7 @@ use Rattle.probe_core.specs.declared.rule.Rule.{Rule}
 use Rattle.probe_core.specs.Events.{memory_after}
 use Rattle.desk_core.specs.declared.call.Call.{Call}
 use Rattle.desk_core.specs.declared.call.Call.TheVariants.{Register, Retire, Observe, Set, Shutdown, Resume}
+use Rattle.desk_core.specs.declared.change.Change.{Change}
 use Rattle.desk_core.specs.declared.entry.Entry.{Entry}
 use Rattle.desk_core.specs.declared.reply.Reply.{Reply}
 use Rattle.desk_core.specs.Past.{past}
@@ -13,6 +14,7 @@ use Rattle.desk_core.specs.Shut.{is_shut}
 use Rattle.desk_core.specs.Present.{rule_at}
 use Rattle.desk_core.specs.Heard.{heard, event_of_finding, event_of_setting}
 use Rattle.desk_core.specs.Legal.{IsLegal}
+use Rattle.desk_core.specs.Changes.{changes_of}
 
 -- a desk: its journal, the oldest entry first, and how many entries it may have
 pub record State : Type 0 where
@@ -46,3 +48,8 @@ pub record Keeps (slots : List (Option (Rule × ℕ))) (shut : Bool) (journal : 
   pub each : (i : ℕ) → i < 16 → slice_index_or slots i None ≡ probe_at (past journal) i
   pub room : length journal ≤ max_entries
   pub limit : max_entries < 2 ^ 32
+
+-- what a desk keeps: with its parts, the list of what the journal changed
+pub record IsDesk (slots : List (Option (Rule × ℕ))) (shut : Bool) (journal : List Entry) (changes : List Change) (max_entries : ℕ) : Type 0 where
+  pub parts : Keeps slots shut journal max_entries
+  pub told : changes ≡ changes_of (past journal)

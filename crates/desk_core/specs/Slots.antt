@@ -1,8 +1,8 @@
 -- What the slots hold: for each a probe, seen as its rule and its memory, or none. A slot past the end has none. This is how
 -- a desk keeps what it promises, and no part of the promise.
-use Rattle.std.specs.Prelude.{◌≡◌, ℕ, zero, suc, ◌&&◌, ◌||◌, not, Bool, true, if◌then◌else◌, Option, None, Some, List, slice_index_or}
+use Rattle.std.specs.Prelude.{◌≡◌, ℕ, zero, suc, ◌&&◌, ◌||◌, not, Bool, true, if◌then◌else◌, Option, None, Some, unwrap_or, List, slice_index_or}
 use Rattle.health_wire.specs.declared.serving.Serving.{Serving}
-use Rattle.health_wire.specs.declared.serving.Serving.TheVariants.{NotServing}
+use Rattle.health_wire.specs.declared.serving.Serving.TheVariants.{NotServing, ServiceUnknown}
 use Rattle.probe_core.specs.declared.event.Event.{Event}
 use Rattle.probe_core.specs.declared.rule.Rule.{Rule}
 use Rattle.probe_core.specs.declared.rule.Rule.TheVariants.{Threshold, Manual, Depends}
@@ -37,3 +37,7 @@ is_up_by covers (Depends mask) memory = covers mask
 -- the status of a registered service, by its probe
 abbrev pub status_from : (ℕ → Bool) → Bool → Rule × ℕ → Serving
 status_from covers shut state = if shut then NotServing else serving_if (is_up_by covers state.0 state.1)
+
+-- what a watcher of a slot is shown, by a list of the statuses of all slots
+abbrev pub shown_in : List (Option Serving) → ℕ → Serving
+shown_in statuses i = unwrap_or (slice_index_or statuses i None) ServiceUnknown

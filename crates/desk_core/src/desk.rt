@@ -1,5 +1,6 @@
 use crate::board::packed;
 use crate::call::{Call, Finding, Setting};
+use crate::change::{Change, shown, tell};
 use crate::entry::Entry;
 use crate::journal::append;
 use crate::lawful::is_lawful;
@@ -9,9 +10,10 @@ use crate::registered::{Handed, Registered};
 use crate::reply::{Reply, reply_to_event, reply_to_register, reply_to_retire};
 use crate::slot::Slot;
 use crate::slots::Slots;
-use crate::status::{Statuses, status_of};
+use crate::status::Statuses;
+use crate::watch::Watch;
 use health_wire::Serving;
-use probe_core::{Event, Probe, Rule, memory_tells_status};
+use probe_core::{Event, Probe};
 use std::alloc::Global;
 use std::marker::Model;
 
@@ -21,17 +23,18 @@ pub struct Desk<P: Probe> {
     slots: Slots<P>,
     is_shut: bool,
     journal: Vec<Entry>,
+    changes: Vec<Change>,
     max_entries: u32,
 }
 
 impl<P: Probe> Model for Desk<P> {
-    ghost use Rattle.desk_core.specs.Desk.{State, Keeps};
+    ghost use Rattle.desk_core.specs.Desk.{State, IsDesk};
 
     ghost Value = { State };
 
     ghost view = { λ desk. record { journal = desk.journal.items; max_entries = desk.max_entries } };
 
-    ghost invariant = { λ desk. Keeps desk.slots.places.items desk.is_shut desk.journal.items desk.max_entries };
+    ghost invariant = { λ desk. IsDesk desk.slots.places.items desk.is_shut desk.journal.items desk.changes.items desk.max_entries };
 }
 
 impl<P: Probe> Desk<P> {
@@ -42,7 +45,9 @@ impl<P: Probe> Desk<P> {
     ghost use Rattle.desk_core.specs.Present.{is_lawful};
     ghost use Rattle.desk_core.specs.Reply.{reply_to};
     ghost use Rattle.desk_core.specs.Legal.{IsLegal};
-    ghost use Rattle.desk_core.specs.Status.{status_at, checked};
+    ghost use Rattle.desk_core.specs.Status.{status_at, checked, shown};
+    ghost use Rattle.desk_core.specs.Changes.{changes_of};
+    ghost use Rattle.desk_core.specs.Watch.{opened, stepped};
     ghost use Rattle.desk_core.specs.Board.{board_of};
     ghost use Rattle.desk_core.specs.Desk.{Brings, probe_at, with_entry};
 
@@ -54,6 +59,7 @@ impl<P: Probe> Desk<P> {
             slots: Slots::new(alloc),
             is_shut: false,
             journal: Vec::new(alloc),
+            changes: Vec::new(alloc),
             max_entries,
         }
     }
@@ -97,6 +103,8 @@ impl<P: Probe> Desk<P> {
                 probe,
             });
         }
+        let before = self.slots.statuses(self.is_shut);
+        let at = self.journal.len() as u32;
         if let Err(_) = self.slots.reserve() {
             return Err(Handed {
                 refusal: Refusal::NoMemory,
@@ -104,7 +112,13 @@ impl<P: Probe> Desk<P> {
             });
         }
         let reply = reply_to_register(self.slots.has(slot));
-        if let Err(_) = append(&mut self.journal, seat, Call::Register(slot, rule), reply) {
+        if let Err(_) = append(
+            &mut self.journal,
+            &mut self.changes,
+            seat,
+            Call::Register(slot, rule),
+            reply,
+        ) {
             return Err(Handed {
                 refusal: Refusal::NoMemory,
                 probe,
@@ -112,6 +126,8 @@ impl<P: Probe> Desk<P> {
         }
         probe.reset();
         let old = self.slots.replace(slot, Owned::new(probe));
+        let after = self.slots.statuses(self.is_shut);
+        tell(&mut self.changes, at, &before, &after);
         Ok(Registered {
             reply,
             old: old.map(Owned::into_inner),
@@ -130,11 +146,21 @@ impl<P: Probe> Desk<P> {
         if self.is_full() {
             return Err(Refusal::Full);
         }
+        let before = self.slots.statuses(self.is_shut);
+        let at = self.journal.len() as u32;
         let reply = reply_to_retire(self.slots.has(slot));
-        if let Err(_) = append(&mut self.journal, seat, Call::Retire(slot), reply) {
+        if let Err(_) = append(
+            &mut self.journal,
+            &mut self.changes,
+            seat,
+            Call::Retire(slot),
+            reply,
+        ) {
             return Err(Refusal::NoMemory);
         }
         let old = self.slots.take(slot);
+        let after = self.slots.statuses(self.is_shut);
+        tell(&mut self.changes, at, &before, &after);
         Ok((reply, old.map(Owned::into_inner)))
     }
 
@@ -171,14 +197,15 @@ impl<P: Probe> Desk<P> {
         if self.is_full() {
             return Err(Refusal::Full);
         }
+        let before = self.slots.statuses(self.is_shut);
+        let at = self.journal.len() as u32;
         let reply = reply_to_event(self.slots.rule(slot), self.is_shut, event);
-        if let Err(_) = append(&mut self.journal, seat, call, reply) {
+        if let Err(_) = append(&mut self.journal, &mut self.changes, seat, call, reply) {
             return Err(Refusal::NoMemory);
         }
-        let Reply::Done = reply else {
-            return Ok(reply);
-        };
-        self.slots.note(slot, event);
+        self.slots.hear(slot, event, reply);
+        let after = self.slots.statuses(self.is_shut);
+        tell(&mut self.changes, at, &before, &after);
         Ok(reply)
     }
 
@@ -193,10 +220,20 @@ impl<P: Probe> Desk<P> {
         if self.is_full() {
             return Err(Refusal::Full);
         }
-        if let Err(_) = append(&mut self.journal, seat, Call::Shutdown, Reply::Done) {
+        let before = self.slots.statuses(self.is_shut);
+        let at = self.journal.len() as u32;
+        if let Err(_) = append(
+            &mut self.journal,
+            &mut self.changes,
+            seat,
+            Call::Shutdown,
+            Reply::Done,
+        ) {
             return Err(Refusal::NoMemory);
         }
         self.is_shut = true;
+        let after = self.slots.statuses(self.is_shut);
+        tell(&mut self.changes, at, &before, &after);
         Ok(Reply::Done)
     }
 
@@ -211,11 +248,21 @@ impl<P: Probe> Desk<P> {
         if self.is_full() {
             return Err(Refusal::Full);
         }
-        if let Err(_) = append(&mut self.journal, seat, Call::Resume, Reply::Done) {
+        let before = self.slots.statuses(self.is_shut);
+        let at = self.journal.len() as u32;
+        if let Err(_) = append(
+            &mut self.journal,
+            &mut self.changes,
+            seat,
+            Call::Resume,
+            Reply::Done,
+        ) {
             return Err(Refusal::NoMemory);
         }
         self.is_shut = false;
         self.slots.reset();
+        let after = self.slots.statuses(self.is_shut);
+        tell(&mut self.changes, at, &before, &after);
         Ok(Reply::Done)
     }
 
@@ -239,19 +286,40 @@ impl<P: Probe> Desk<P> {
         (entries << 32) + packed(&statuses)
     }
 
-    /// The statuses of all slots, computed anew from the first slot up.
+    /// What is shown of the slot now, or of a name that has none, and a watch of what changes from now on.
+    pub fn open(&self, slot: Option<Slot>) -> (Watch, Serving)
+        ensures watch { result.0 ≡ opened (changes_of (past self.now.journal)) slot }
+        ensures status { result.1 ≡ shown (past self.now.journal) slot }
+        ensures legal { IsLegal (past self.now.journal) }
+    {
+        let watch = Watch::new(self.changes.as_slice(), slot);
+        let status = shown(self.check(watch.slot()));
+        (watch, status)
+    }
+
+    /// The next change of the watch's service, which the watch is past from then on. The cost is that of the changes of other
+    /// services that it passes over.
+    pub fn step(&self, watch: &mut Watch) -> Option<Serving>
+        ensures status { result ≡ (stepped (changes_of (past self.now.journal)) watch.old).0 }
+        ensures watch { watch.new ≡ (stepped (changes_of (past self.now.journal)) watch.old).1 }
+        ensures legal { IsLegal (past self.now.journal) }
+    {
+        watch.step(self.changes.as_slice())
+    }
+
+    /// What the entries of the journal changed for watchers, the oldest first, and for one entry by slot.
+    pub fn changes(&self) -> &[Change]
+        ensures changes { result.now ≡ changes_of (past self.now.journal) }
+        ensures legal { IsLegal (past self.now.journal) }
+    {
+        self.changes.as_slice()
+    }
+
     fn statuses(&self) -> Statuses
         ensures each { (i : ℕ) → i < 16 → slice_index_or result i None ≡ status_at (past self.now.journal) i }
         ensures legal { IsLegal (past self.now.journal) }
     {
-        memory_tells_status();
-        let is_shut = self.is_shut;
-        let mut statuses = [None; 16];
-        for number in 0..Slot::COUNT {
-            let owned = self.slots.get(Slot::at(number));
-            statuses[usize::from(number)] = status_of(owned, is_shut, &statuses);
-        }
-        statuses
+        self.slots.statuses(self.is_shut)
     }
 
     fn is_full(&self) -> bool

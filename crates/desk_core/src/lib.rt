@@ -19,6 +19,7 @@ mod reply;
 mod slot;
 mod slots;
 mod status;
+mod watch;
 
 pub use call::{Call, Finding, Setting};
 pub use catalogue::{Catalogue, CatalogueFault};
@@ -35,6 +36,7 @@ pub use refusal::Refusal;
 pub use registered::{Handed, Registered};
 pub use reply::Reply;
 pub use slot::Slot;
+pub use watch::Watch;
 
 #[cfg(test)]
 mod tests;

@@ -2,8 +2,10 @@ ghost use Rattle.std.specs.Prelude.{◌≡◌};
 ghost use Rattle.desk_core.specs.Slots.{noted, was_reset};
 
 use crate::owned::Owned;
+use crate::reply::Reply;
 use crate::slot::Slot;
-use probe_core::{Event, Probe, Rule};
+use crate::status::{Statuses, status_of};
+use probe_core::{Event, Probe, Rule, memory_tells_status};
 use std::alloc::{AllocError, Global};
 
 /// The probes of all slots. A slot past the end of the places has none.
@@ -13,9 +15,13 @@ pub(crate) struct Slots<P: Probe> {
 }
 
 impl<P: Probe> Slots<P> {
-    ghost use Rattle.std.specs.Prelude.{◌≡◌, ◌<◌, ℕ, [], None, Some, length, slice_index_or, slice_set, map, is_some, OnOk};
+    ghost use Rattle.std.specs.Prelude.{◌≡◌, ◌≢◌, ◌<◌, ℕ, List, [], None, Some, length, slice_index_or, slice_set, map, is_some, OnOk};
     ghost use Rattle.std.specs.Option.{option_copied, option_map};
+    ghost use Rattle.desk_core.specs.declared.entry.Entry.{Entry};
+    ghost use Rattle.desk_core.specs.Past.{past};
+    ghost use Rattle.desk_core.specs.Status.{status_at};
     ghost use Rattle.desk_core.specs.Slots.{noted, was_reset, HasSame};
+    ghost use Rattle.desk_core.specs.Desk.{Keeps};
 
     pub(crate) fn new(alloc: Global) -> Slots<P>
         ensures { result.places.items ≡ [] }
@@ -76,10 +82,14 @@ impl<P: Probe> Slots<P> {
         }
     }
 
-    /// Lets the slot's probe hear an event.
-    pub(crate) fn note(&mut self, slot: Slot, event: Event)
-        ensures { self.new.places.items ≡ slice_set self.old.places.items slot (noted event (slice_index_or self.old.places.items slot None)) }
+    /// Lets the slot's probe hear an event that was answered with `Done`.
+    pub(crate) fn hear(&mut self, slot: Slot, event: Event, reply: Reply)
+        ensures done { reply ≡ Reply.Done → self.new.places.items ≡ slice_set self.old.places.items slot (noted event (slice_index_or self.old.places.items slot None)) }
+        ensures others { reply ≢ Reply.Done → self.new.places.items ≡ self.old.places.items }
     {
+        let Reply::Done = reply else {
+            return;
+        };
         let index = usize::from(slot.number());
         if index < self.places.len() {
             note_place(&mut self.places[index], event);
@@ -93,6 +103,20 @@ impl<P: Probe> Slots<P> {
         for index in 0..self.places.len() {
             reset_place(&mut self.places[index]);
         }
+    }
+
+    /// The statuses of all slots, computed anew from the first slot up.
+    pub(crate) fn statuses(&self, is_shut: bool) -> Statuses
+        ensures { (journal : List Entry) (max_entries : ℕ) → Keeps self.now.places.items is_shut journal max_entries
+            → (i : ℕ) → i < 16 → slice_index_or result i None ≡ status_at (past journal) i }
+    {
+        memory_tells_status();
+        let mut statuses = [None; 16];
+        for number in 0..Slot::COUNT {
+            let owned = self.get(Slot::at(number));
+            statuses[usize::from(number)] = status_of(owned, is_shut, &statuses);
+        }
+        statuses
     }
 }
 

@@ -10,6 +10,7 @@ use std::test::Fail;
 
 mod counted;
 mod memory;
+mod watches;
 
 fn slot(rt: &impl Abort, number: u8) -> Slot {
     Slot::new(number).expect(rt, "a slot")

@@ -1,21 +1,24 @@
 use super::*;
 use scarce::Scarcity;
 
-/// Refuses each growth of a change in turn, and looks at the desk after each refusal.
-fn refuses_in_turn<P: Probe>(rt: &impl Abort, alloc: Global, scarcity: &Scarcity, mut probe: P) {
+#[test]
+fn refuses_each_growth_of_a_registration(rt: HostRuntime) -> Result<(), Fail> {
+    let alloc = rt.alloc();
+    let scarcity = Scarcity::new(alloc, 16_384)?;
     let mut refused = 0u32;
     let mut whole = 0u32;
     for step in 0..512usize {
         let filler = scarcity.leave(16 * step);
         assert!(rt; filler.is_ok());
+        let mut probe = Manual::new();
+        probe.note(probe_core::Event::Down);
         let mut desk = Desk::new(alloc, 100);
-        match desk.register(7, slot(rt, 2), probe) {
-            Ok(_) => {
+        match desk.register(7, slot(&rt, 2), probe) {
+            Ok(taken) => {
+                assert!(rt; taken.reply == Reply::Done);
                 assert!(rt; desk.journal().len() == 1);
-                assert!(rt; status(rt, &desk, 2) == Some(Serving::Serving));
-                let (reply, old) = desk.retire(7, slot(rt, 2)).ok().expect(rt, "a reply");
-                assert!(rt; reply == Reply::Done);
-                probe = old.expect(rt, "a probe");
+                assert!(rt; desk.changes().len() == 1);
+                assert!(rt; status(&rt, &desk, 2) == Some(Serving::Serving));
                 whole = whole.wrapping_add(1);
             }
             Err(handed) => {
@@ -23,24 +26,14 @@ fn refuses_in_turn<P: Probe>(rt: &impl Abort, alloc: Global, scarcity: &Scarcity
                 assert!(rt; handed.probe.rule() == Rule::Manual);
                 assert!(rt; !handed.probe.is_up());
                 assert!(rt; desk.journal().is_empty());
-                assert!(rt; status(rt, &desk, 2).is_none());
-                probe = handed.probe;
+                assert!(rt; desk.changes().is_empty());
+                assert!(rt; status(&rt, &desk, 2).is_none());
                 refused = refused.wrapping_add(1);
             }
         }
-        probe.note(probe_core::Event::Down);
     }
-    assert!(rt; refused > 1);
+    assert!(rt; refused > 2);
     assert!(rt; whole > 0);
-}
-
-#[test]
-fn refuses_each_growth_of_a_registration(rt: HostRuntime) -> Result<(), Fail> {
-    let alloc = rt.alloc();
-    let mut probe = Manual::new();
-    probe.note(probe_core::Event::Down);
-    let scarcity = Scarcity::new(alloc, 16_384)?;
-    refuses_in_turn(&rt, alloc, &scarcity, probe);
     Ok(())
 }
 
@@ -49,6 +42,7 @@ fn refuses_the_other_changes<P: Probe>(rt: &impl Abort, desk: &mut Desk<P>) -> u
     let mut refused = 0u32;
     for _ in 0..64u32 {
         let len = desk.journal().len();
+        let changes = desk.changes().len();
         let board = desk.board();
         if desk.set(7, slot(rt, 2), Setting::Down).is_err() {
             assert!(rt; desk.journal().len() == len);
@@ -61,6 +55,7 @@ fn refuses_the_other_changes<P: Probe>(rt: &impl Abort, desk: &mut Desk<P>) -> u
                     .is_err_and(|refusal| refusal == Refusal::NoMemory)
             );
             assert!(rt; desk.journal().len() == len);
+            assert!(rt; desk.changes().len() == changes);
             assert!(rt; desk.board() == board);
             refused = refused.wrapping_add(1);
         }

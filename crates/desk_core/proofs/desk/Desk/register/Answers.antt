@@ -1,10 +1,12 @@
 use Rattle.std.proofs.Common.{◌<◌, length, rules}
 use Rattle.desk_core.proofs.HistoryLemmas.{keeps_register}
+use Rattle.desk_core.proofs.ChangeLemmas.{is_desk_more}
 use Rattle.desk_core.proofs.desk.Desk.register.Goals as goal
 
 pub invariant_of-self-2 : goal.invariant_of-self-2
 invariant_of-self-2 g c =
     let below : length c.self.inside.journal.items < c.self.inside.max_entries = search rules in
     let in_range : c.args.slot < 16 = search rules in
-    keeps_register _ _ _ _ _ _ _ c.args.seat c.args.slot c.rule-rule.result c.reply_to_register-reply.result _ c.self.invariant below in_range c.in_default.ensures.same
-    (search rules) (search rules) (search rules) (search rules) c.in_default-append.ensures.ok c.replace-old.ensures.after
+    let keeps = keeps_register _ _ _ _ _ _ _ c.args.seat c.args.slot c.rule-rule.result c.reply_to_register-reply.result _ c.self.invariant.parts below in_range c.in_default.ensures.same
+    (search rules) (search rules) (search rules) (search rules) c.in_default-append.ensures.ok c.replace-old.ensures.after in
+    is_desk_more _ _ _ _ _ _ _ _ _ _ _ _ _ _ c.self.invariant keeps c.in_default-append.ensures.ok (search rules) c.append.ensures.changes c.statuses-before.ensures c.statuses-after.ensures c.tell.ensures

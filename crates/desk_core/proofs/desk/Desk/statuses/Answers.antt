@@ -1,23 +1,9 @@
-use Rattle.std.proofs.Common.{◌<◌, None, length, get_or, ap, ◌∙◌, arith}
-use Rattle.std.proofs.lemmas.List.{length-set}
-use Rattle.std.specs.Option.{option_map}
+use Rattle.std.proofs.Common.{ap, ◌∙◌}
 use Rattle.desk_core.specs.Past.{past}
 use Rattle.desk_core.specs.Status.{status_at}
-use Rattle.desk_core.specs.Slots.{covers_below, status_from}
-use Rattle.desk_core.proofs.StatusLemmas.{known_more, status_of_parts}
 use Rattle.desk_core.proofs.desk.Desk.statuses.Goals as goal
 
-pub loop-number-preserved : goal.loop-number-preserved
-loop-number-preserved g c =
-    let within : c.loop-number.number < length c.loop-number.statuses = omega (arith, c.loop-number.invariant.whole) in
-    let found = c.get-owned.ensures ∙ ap (λ k. get_or c.self.inside.slots.places.items k None) c.at.ensures in
-    let status = status_of_parts c.memory_tells_status.ensures.status c.self.inside.slots.places.items c.self.inside.is_shut c.self.inside.journal.items c.args.self.now.journal c.self.inside.max_entries c.loop-number.number (λ i. get_or c.loop-number.statuses i None) c.status_of.result
-    c.self.invariant (ap (λ state. state.journal) c.self.view_is) (omega arith) c.loop-number.invariant.known
-    (c.status_of.ensures ∙ ap (option_map (status_from (covers_below (λ i. get_or c.loop-number.statuses i None) 16) c.self.inside.is_shut)) found) in
-    record {
-      whole = length-set c.loop-number.statuses c.from.result c.status_of.result ∙ c.loop-number.invariant.whole;
-      known = rw c.from.ensures (known_more c.loop-number.statuses c.loop-number.number c.status_of.result (status_at (past c.args.self.now.journal)) within c.loop-number.invariant.known status);
-    }
-
 pub returns-clause-each : goal.returns-clause-each
-returns-clause-each g c i below = c.loop-number.invariant.known i (omega arith)
+returns-clause-each g c i below =
+    c.statuses.ensures c.self.inside.journal.items c.self.inside.max_entries c.self.invariant.parts i below
+    ∙ ap (λ state. status_at (past state.journal) i) c.self.view_is
