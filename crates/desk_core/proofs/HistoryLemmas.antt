@@ -1,4 +1,4 @@
-use Rattle.std.proofs.Common.{◌≡◌, ℕ, ◌<◌, ◌==◌, ◌&&◌, not, if◌then◌else◌, Bool, true, false, Option, None, Some, unwrap_or, is_some, List, [], ◌∷◌, ◌++◌, length, zero, suc, map, get_or, set, inl, inr, refl, sym, ap, subst, ◌∙◌, arith}
+use Rattle.std.proofs.Common.{◌≡◌, ℕ, ◌^◌, ◌<◌, ◌==◌, ◌&&◌, not, if◌then◌else◌, Bool, true, false, Option, None, Some, unwrap_or, is_some, List, [], ◌∷◌, ◌++◌, length, zero, suc, map, get_or, set, inl, inr, refl, sym, ap, subst, ◌∙◌, arith}
 use Rattle.std.specs.Option.{option_map, option_or}
 use Rattle.std.proofs.lemmas.List.{reverse-append, length_push, get_or-set_same, get_or-set_other, set_past, get_or_past}
 use Rattle.std.proofs.lemmas.Bool.{eqb-true, eqb-false, cases_lt}
@@ -256,7 +256,7 @@ brings_lawful slot Shutdown event brings = absurd brings
 brings_lawful slot Resume event brings = absurd brings
 
 -- the rule in force is that of the slot's probe
-rule_of_probe : (entries : List Entry) (i : ℕ) → option_map (λ state. state.0) (probe_at entries i) ≡ rule_at entries i
+pub rule_of_probe : (entries : List Entry) (i : ℕ) → option_map (λ state. state.0) (probe_at entries i) ≡ rule_at entries i
 rule_of_probe entries i = by_rule (rule_at entries i)
   where
     by_rule : (o : Option Rule) → option_map (λ state. state.0) (states (heard entries i) o) ≡ o
@@ -328,3 +328,7 @@ keeps_event slots after shut journal new max_entries seat slot call event reply 
     by_reply Missing said = heard_none (λ same. let both : Missing ≡ Done = sym said ∙ same in cc)
     by_reply WrongKind said = heard_none (λ same. let both : WrongKind ≡ Done = sym said ∙ same in cc)
     by_reply Ignored said = heard_none (λ same. let both : Ignored ≡ Done = sym said ∙ same in cc)
+
+-- no entries, and no probes
+pub keeps_none : (max_entries : ℕ) → max_entries < 2 ^ 32 → Keeps [] false [] max_entries
+keeps_none max_entries small = record { legal = tt; shut_is = refl; each = λ i few. refl; room = omega arith; limit = small }

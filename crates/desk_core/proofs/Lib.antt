@@ -1,9 +1,14 @@
-mod ChangeLemmas
+pub mod CaughtUpLemmas
+pub mod ChangeLemmas
 pub mod BoardLemmas
+pub mod CacheLemmas
 pub mod CatalogueLemmas
+pub mod DeskLemmas
 pub mod HistoryLemmas
 pub mod KeyLemmas
 pub mod LawLemmas
+pub mod RefreshLemmas
 pub mod SlotLemmas
 pub mod StatusLemmas
+pub mod ToldLemmas
 pub mod WatchLemmas

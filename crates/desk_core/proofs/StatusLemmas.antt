@@ -1,8 +1,7 @@
-use Rattle.std.proofs.Common.{◌≡◌, ℕ, zero, suc, ◌+◌, ◌-◌, ◌^◌, ◌<◌, ◌==◌, ◌&&◌, ◌||◌, not, if◌then◌else◌, Bool, true, false, Option, None, Some, unwrap_or, List, [], ◌∷◌, length, get_or, set, inl, inr, refl, sym, ap, subst, ◌∙◌, arith, ltb-true}
+use Rattle.std.proofs.Common.{◌≡◌, ℕ, zero, suc, ◌+◌, ◌-◌, ◌^◌, ◌<◌, ◌==◌, ◌&&◌, ◌||◌, not, if◌then◌else◌, Bool, true, false, Option, None, Some, unwrap_or, List, [], ◌∷◌, get_or, inl, inr, ◌⊎◌, ◌≤◌, refl, sym, ap, subst, ◌∙◌, arith, ltb-true}
 use Rattle.std.specs.Option.{option_map, option_or}
 use Rattle.std.proofs.Math.Nat.{div-eq_of_lt}
 use Rattle.std.proofs.lemmas.Bool.{eqb-true, cases_lt}
-use Rattle.std.proofs.lemmas.List.{get_or-set_same, get_or-set_other}
 use Rattle.health_wire.specs.declared.serving.Serving.{Serving}
 use Rattle.health_wire.specs.declared.serving.Serving.TheVariants.{NotServing}
 use Rattle.probe_core.specs.declared.event.Event.{Event}
@@ -19,9 +18,11 @@ use Rattle.desk_core.specs.Present.{says_rule, rule_at, IsLawful}
 use Rattle.desk_core.specs.Heard.{heard, with_event, forgets, event_for}
 use Rattle.desk_core.specs.Status.{status_by, status_at, all_serving, has_slot, is_serving, serving_if, opinion}
 use Rattle.desk_core.specs.Legal.{IsLegal, IsLawfulCall}
-use Rattle.desk_core.specs.Slots.{covers_below, is_up_by, status_from}
+use Rattle.desk_core.specs.Board.{packed, status_in}
+use Rattle.desk_core.specs.Slots.{covers_below, is_up_by, status_from, with_status}
 use Rattle.desk_core.specs.Desk.{Keeps, probe_at}
 use Rattle.desk_core.proofs.HistoryLemmas.{state_of}
+use Rattle.desk_core.proofs.BoardLemmas.{IsKept, read_same, read_other}
 
 -- every slot of a mask below the n-th is serving where their statuses say so
 pub all_serving-covers : (entries : List Entry) (n mask : ℕ) → all_serving entries n mask ≡ covers_below (status_at entries) n mask
@@ -140,12 +141,24 @@ status_of_parts tells slots shut journal max_entries slot below status keeps in_
     ∙ ap (λ b. option_map (status_from (covers_below below 16) b) (probe_at (past journal) slot)) keeps.shut_is
     ∙ status_of_probe tells (past journal) slot below keeps.legal in_range known
 
+-- what a probe gives can stand in a word
+pub kept_from : (covers : ℕ → Bool) (shut : Bool) (o : Option (Rule × ℕ)) → IsKept (option_map (status_from covers shut) o)
+kept_from covers shut None = refl
+kept_from covers true (Some state) = refl
+kept_from covers false (Some state) = by_opinion (is_up_by covers state.0 state.1)
+  where
+    by_opinion : (b : Bool) → IsKept (Some (serving_if b))
+    by_opinion true = refl
+    by_opinion false = refl
+
 -- statuses known below a slot, and that of the slot
-pub known_more : (old : List (Option Serving)) (n : ℕ) (status : Option Serving) (wanted : ℕ → Option Serving) → n < length old → ((i : ℕ) → i < n → get_or old i None ≡ wanted i) → status ≡ wanted n → (i : ℕ) → i < n + 1 → get_or (set old n status) i None ≡ wanted i
-known_more old n status wanted within known is i below =
-    elim (cases_lt i n) [
-      | inl before ↦ get_or-set_other old n i status None (λ same. omega (arith, same)) ∙ known i before
-      | inr past_it ↦
-          let same : n ≡ i = omega arith in
-          ap (λ k. get_or (set old n status) k None) (sym same) ∙ get_or-set_same old n status None within ∙ is ∙ ap wanted same
-    ]
+pub known_more : (old new n : ℕ) (status : Option Serving) (wanted : ℕ → Option Serving) → n < 16 → IsKept status
+    → new ≡ packed (with_status (status_in old) n status) 16 → ((i : ℕ) → i < n → status_in old i ≡ wanted i) → status ≡ wanted n
+    → (i : ℕ) → i < n + 1 → status_in new i ≡ wanted i
+known_more old new n status wanted few kept set known is i below = by_place (cases_lt i n)
+  where
+    by_place : (i < n) ⊎ (n ≤ i) → status_in new i ≡ wanted i
+    by_place (inl before) = read_other old new n i status set kept (omega (arith, below, few)) (λ same. omega (arith, same, before)) ∙ known i before
+    by_place (inr past) =
+        let same : i ≡ n = omega (arith, past, below) in
+        ap (status_in new) same ∙ read_same old new n status set kept few ∙ is ∙ ap wanted (sym same)

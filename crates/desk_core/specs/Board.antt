@@ -1,11 +1,11 @@
 -- The board: how many entries there are, and the status of each slot, in one word.
-use Rattle.std.specs.Prelude.{ℕ, zero, suc, ◌+◌, ◌*◌, ◌^◌, Option, None, Some, List, length}
+use Rattle.std.specs.Prelude.{ℕ, zero, suc, ◌+◌, ◌*◌, ◌/◌, ◌%◌, ◌^◌, Option, None, Some, List, length}
 use Rattle.health_wire.specs.declared.serving.Serving.{Serving}
 use Rattle.health_wire.specs.declared.serving.Serving.TheVariants.{Unknown, NotServing, ServiceUnknown, Serving as IsServing}
 use Rattle.desk_core.specs.declared.entry.Entry.{Entry}
 use Rattle.desk_core.specs.Status.{status_at}
 
--- two bits for a status; a slot is never shown as an unknown service
+-- two bits for a status; no slot has the status of an unknown service
 abbrev pub code_of : Option Serving → ℕ
 code_of None = 0
 code_of (Some IsServing) = 1
@@ -17,6 +17,17 @@ code_of (Some ServiceUnknown) = 0
 unfoldable pub packed : (ℕ → Option Serving) → ℕ → ℕ
 packed statuses zero = 0
 packed statuses (suc n) = packed statuses n + code_of (statuses n) * 4 ^ n
+
+-- the status that a code stands for
+abbrev pub status_of_code : ℕ → Option Serving
+status_of_code zero = None
+status_of_code (suc zero) = Some IsServing
+status_of_code (suc (suc zero)) = Some NotServing
+status_of_code (suc (suc (suc n))) = Some Unknown
+
+-- the status of a slot in such a word
+abbrev pub status_in : ℕ → ℕ → Option Serving
+status_in word i = status_of_code (word / 4 ^ i % 4)
 
 -- the number of entries in the upper half of the word, and the statuses in the lower
 abbrev pub board_of : List Entry → ℕ

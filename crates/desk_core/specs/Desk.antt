@@ -15,6 +15,9 @@ use Rattle.desk_core.specs.Present.{rule_at}
 use Rattle.desk_core.specs.Heard.{heard, event_of_finding, event_of_setting}
 use Rattle.desk_core.specs.Legal.{IsLegal}
 use Rattle.desk_core.specs.Changes.{changes_of}
+use Rattle.desk_core.specs.Status.{status_at}
+use Rattle.desk_core.specs.Board.{packed}
+use Rattle.desk_core.specs.Cache.{HasDependents, Leaves}
 
 -- a desk: its journal, the oldest entry first, and how many entries it may have
 pub record State : Type 0 where
@@ -49,7 +52,17 @@ pub record Keeps (slots : List (Option (Rule × ℕ))) (shut : Bool) (journal : 
   pub room : length journal ≤ max_entries
   pub limit : max_entries < 2 ^ 32
 
--- what a desk keeps: with its parts, the list of what the journal changed
-pub record IsDesk (slots : List (Option (Rule × ℕ))) (shut : Bool) (journal : List Entry) (changes : List Change) (max_entries : ℕ) : Type 0 where
+-- what a desk keeps: its parts, the list of what the journal changed, the statuses that it led to, and for each slot the
+-- registered slots that depend on it
+pub record IsDesk (slots : List (Option (Rule × ℕ))) (shut : Bool) (journal : List Entry) (changes : List Change) (statuses : ℕ) (dependents : List ℕ) (max_entries : ℕ) : Type 0 where
   pub parts : Keeps slots shut journal max_entries
   pub told : changes ≡ changes_of (past journal)
+  pub cached : statuses ≡ packed (status_at (past journal)) 16
+  pub related : HasDependents (rule_at (past journal)) dependents
+
+-- a word of statuses was made new after a change that touched these slots: where it was that of the journal for which the old
+-- probes were kept, it is that of the journal for which the probes are kept now
+abbrev pub IsShown : ℕ → List (Option (Rule × ℕ)) → Bool → List ℕ → ℕ → ℕ → Type 0
+IsShown touched slots shut dependents old new = (was : List (Option (Rule × ℕ))) (was_shut : Bool) (older journal : List Entry) (max_entries : ℕ)
+    → Keeps was was_shut older max_entries → Keeps slots shut journal max_entries → HasDependents (rule_at (past journal)) dependents
+    → Leaves touched was was_shut slots shut → old ≡ packed (status_at (past older)) 16 → new ≡ packed (status_at (past journal)) 16

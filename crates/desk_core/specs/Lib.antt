@@ -1,4 +1,5 @@
 pub mod Board
+pub mod Cache
 pub mod Catalogue
 pub mod Changes
 pub mod Desk

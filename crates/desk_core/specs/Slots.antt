@@ -1,6 +1,6 @@
 -- What the slots hold: for each a probe, seen as its rule and its memory, or none. A slot past the end has none. This is how
 -- a desk keeps what it promises, and no part of the promise.
-use Rattle.std.specs.Prelude.{◌≡◌, ℕ, zero, suc, ◌&&◌, ◌||◌, not, Bool, true, if◌then◌else◌, Option, None, Some, unwrap_or, List, slice_index_or}
+use Rattle.std.specs.Prelude.{◌≡◌, ℕ, zero, suc, ◌==◌, ◌&&◌, ◌||◌, not, Bool, true, if◌then◌else◌, Option, None, Some, unwrap_or, List, slice_index_or}
 use Rattle.health_wire.specs.declared.serving.Serving.{Serving}
 use Rattle.health_wire.specs.declared.serving.Serving.TheVariants.{NotServing, ServiceUnknown}
 use Rattle.probe_core.specs.declared.event.Event.{Event}
@@ -8,6 +8,7 @@ use Rattle.probe_core.specs.declared.rule.Rule.{Rule}
 use Rattle.probe_core.specs.declared.rule.Rule.TheVariants.{Threshold, Manual, Depends}
 use Rattle.probe_core.specs.Rule.{is_up_at, memory_next, opening_memory}
 use Rattle.desk_core.specs.Status.{has_slot, is_serving, serving_if}
+use Rattle.desk_core.specs.Board.{status_in}
 
 -- each slot holds what it held
 abbrev pub HasSame : List (Option (Rule × ℕ)) → List (Option (Rule × ℕ)) → Type 0
@@ -38,6 +39,10 @@ is_up_by covers (Depends mask) memory = covers mask
 abbrev pub status_from : (ℕ → Bool) → Bool → Rule × ℕ → Serving
 status_from covers shut state = if shut then NotServing else serving_if (is_up_by covers state.0 state.1)
 
--- what a watcher of a slot is shown, by a list of the statuses of all slots
-abbrev pub shown_in : List (Option Serving) → ℕ → Serving
-shown_in statuses i = unwrap_or (slice_index_or statuses i None) ServiceUnknown
+-- the same statuses, but for one slot
+abbrev pub with_status : (ℕ → Option Serving) → ℕ → Option Serving → ℕ → Option Serving
+with_status statuses slot status i = if i == slot then status else statuses i
+
+-- what a watcher of a slot is shown, by a word of statuses
+abbrev pub shown_in : ℕ → ℕ → Serving
+shown_in word i = unwrap_or (status_in word i) ServiceUnknown

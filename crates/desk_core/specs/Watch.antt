@@ -1,8 +1,9 @@
 -- Watchers: after its first status (`shown`) each is told its service's later changes, each once and in order.
-use Rattle.std.specs.Prelude.{◌≡◌, ℕ, suc, ◌+◌, ◌==◌, Bool, Option, None, Some, List, [], ◌∷◌, ◌++◌, length, map, take, drop, slice_get, max, unwrap_or}
-use Rattle.std.specs.List.{position, filter}
+use Rattle.std.specs.Prelude.{◌≡◌, ℕ, suc, ◌+◌, ◌==◌, Bool, Option, None, Some, List, [], ◌∷◌, ◌++◌, length, map, take, drop, reverse, slice_get, max, unwrap_or}
+use Rattle.std.specs.List.{position, filter, find}
 use Rattle.std.specs.Option.{option_map, option_and_then}
 use Rattle.health_wire.specs.declared.serving.Serving.{Serving}
+use Rattle.health_wire.specs.declared.serving.Serving.TheVariants.{ServiceUnknown}
 use Rattle.desk_core.specs.declared.change.Change.{Change}
 use Rattle.desk_core.specs.declared.entry.Entry.{Entry}
 use Rattle.desk_core.specs.Changes.{changes_of}
@@ -47,6 +48,11 @@ abbrev pub story : List Change → Option ℕ → ℕ → ℕ → List Serving
 story changes None start cursor = []
 story changes (Some slot) start cursor =
     map (λ change. change.status) (filter (is_of slot) (drop start (take cursor changes)))
+
+-- the status of the slot's last change, or that of an unknown service where it has none
+abbrev pub last_told : List Change → ℕ → Serving
+last_told changes slot =
+    unwrap_or (option_map (λ change. change.status) (find (is_of slot) (reverse changes))) ServiceUnknown
 
 -- an answer as the statuses that are told
 abbrev pub told : Option Serving → List Serving

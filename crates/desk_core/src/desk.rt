@@ -1,8 +1,9 @@
-use crate::board::packed;
+ghost use Rattle.std.specs.Prelude.{◌≡◌, ◌<◌, ◌+◌, ◌*◌, ◌^◌};
+
+use crate::book::Book;
 use crate::call::{Call, Finding, Setting};
-use crate::change::{Change, shown, tell};
+use crate::change::{Change, shown};
 use crate::entry::Entry;
-use crate::journal::append;
 use crate::lawful::is_lawful;
 use crate::owned::Owned;
 use crate::refusal::Refusal;
@@ -10,7 +11,7 @@ use crate::registered::{Handed, Registered};
 use crate::reply::{Reply, reply_to_event, reply_to_register, reply_to_retire};
 use crate::slot::Slot;
 use crate::slots::Slots;
-use crate::status::Statuses;
+use crate::statuses::Statuses;
 use crate::watch::Watch;
 use health_wire::Serving;
 use probe_core::{Event, Probe};
@@ -22,8 +23,7 @@ use std::marker::Model;
 pub struct Desk<P: Probe> {
     slots: Slots<P>,
     is_shut: bool,
-    journal: Vec<Entry>,
-    changes: Vec<Change>,
+    book: Book,
     max_entries: u32,
 }
 
@@ -32,9 +32,9 @@ impl<P: Probe> Model for Desk<P> {
 
     ghost Value = { State };
 
-    ghost view = { λ desk. record { journal = desk.journal.items; max_entries = desk.max_entries } };
+    ghost view = { λ desk. record { journal = desk.book.journal.items; max_entries = desk.max_entries } };
 
-    ghost invariant = { λ desk. IsDesk desk.slots.places.items desk.is_shut desk.journal.items desk.changes.items desk.max_entries };
+    ghost invariant = { λ desk. IsDesk desk.slots.places.items desk.is_shut desk.book.journal.items desk.book.changes.items desk.book.cache.statuses desk.book.cache.dependents desk.max_entries };
 }
 
 impl<P: Probe> Desk<P> {
@@ -58,19 +58,18 @@ impl<P: Probe> Desk<P> {
         Desk {
             slots: Slots::new(alloc),
             is_shut: false,
-            journal: Vec::new(alloc),
-            changes: Vec::new(alloc),
+            book: Book::new(alloc),
             max_entries,
         }
     }
 
-    /// All changes, the oldest first.
+    /// All entries, the oldest first.
     pub fn journal(&self) -> &[Entry]
         ensures entries { result.now ≡ self.now.journal }
         ensures legal { IsLegal (past result.now) }
         ensures room { length result.now ≤ self.now.max_entries }
     {
-        self.journal.as_slice()
+        self.book.journal.as_slice()
     }
 
     /// Puts a probe, in its opening state, into the slot.
@@ -103,8 +102,6 @@ impl<P: Probe> Desk<P> {
                 probe,
             });
         }
-        let before = self.slots.statuses(self.is_shut);
-        let at = self.journal.len() as u32;
         if let Err(_) = self.slots.reserve() {
             return Err(Handed {
                 refusal: Refusal::NoMemory,
@@ -112,22 +109,16 @@ impl<P: Probe> Desk<P> {
             });
         }
         let reply = reply_to_register(self.slots.has(slot));
-        if let Err(_) = append(
-            &mut self.journal,
-            &mut self.changes,
-            seat,
-            Call::Register(slot, rule),
-            reply,
-        ) {
+        let Ok(at) = self.book.append(seat, Call::Register(slot, rule), reply) else {
             return Err(Handed {
                 refusal: Refusal::NoMemory,
                 probe,
             });
-        }
+        };
         probe.reset();
         let old = self.slots.replace(slot, Owned::new(probe));
-        let after = self.slots.statuses(self.is_shut);
-        tell(&mut self.changes, at, &before, &after);
+        self.book.cache.relate(slot, Some(rule));
+        self.book.show(&self.slots, self.is_shut, only(slot), at);
         Ok(Registered {
             reply,
             old: old.map(Owned::into_inner),
@@ -146,21 +137,13 @@ impl<P: Probe> Desk<P> {
         if self.is_full() {
             return Err(Refusal::Full);
         }
-        let before = self.slots.statuses(self.is_shut);
-        let at = self.journal.len() as u32;
         let reply = reply_to_retire(self.slots.has(slot));
-        if let Err(_) = append(
-            &mut self.journal,
-            &mut self.changes,
-            seat,
-            Call::Retire(slot),
-            reply,
-        ) {
+        let Ok(at) = self.book.append(seat, Call::Retire(slot), reply) else {
             return Err(Refusal::NoMemory);
-        }
+        };
         let old = self.slots.take(slot);
-        let after = self.slots.statuses(self.is_shut);
-        tell(&mut self.changes, at, &before, &after);
+        self.book.cache.relate(slot, None);
+        self.book.show(&self.slots, self.is_shut, only(slot), at);
         Ok((reply, old.map(Owned::into_inner)))
     }
 
@@ -197,15 +180,12 @@ impl<P: Probe> Desk<P> {
         if self.is_full() {
             return Err(Refusal::Full);
         }
-        let before = self.slots.statuses(self.is_shut);
-        let at = self.journal.len() as u32;
         let reply = reply_to_event(self.slots.rule(slot), self.is_shut, event);
-        if let Err(_) = append(&mut self.journal, &mut self.changes, seat, call, reply) {
+        let Ok(at) = self.book.append(seat, call, reply) else {
             return Err(Refusal::NoMemory);
-        }
+        };
         self.slots.hear(slot, event, reply);
-        let after = self.slots.statuses(self.is_shut);
-        tell(&mut self.changes, at, &before, &after);
+        self.book.show(&self.slots, self.is_shut, only(slot), at);
         Ok(reply)
     }
 
@@ -220,20 +200,11 @@ impl<P: Probe> Desk<P> {
         if self.is_full() {
             return Err(Refusal::Full);
         }
-        let before = self.slots.statuses(self.is_shut);
-        let at = self.journal.len() as u32;
-        if let Err(_) = append(
-            &mut self.journal,
-            &mut self.changes,
-            seat,
-            Call::Shutdown,
-            Reply::Done,
-        ) {
+        let Ok(at) = self.book.append(seat, Call::Shutdown, Reply::Done) else {
             return Err(Refusal::NoMemory);
-        }
+        };
         self.is_shut = true;
-        let after = self.slots.statuses(self.is_shut);
-        tell(&mut self.changes, at, &before, &after);
+        self.book.show(&self.slots, self.is_shut, u16::MAX, at);
         Ok(Reply::Done)
     }
 
@@ -248,21 +219,12 @@ impl<P: Probe> Desk<P> {
         if self.is_full() {
             return Err(Refusal::Full);
         }
-        let before = self.slots.statuses(self.is_shut);
-        let at = self.journal.len() as u32;
-        if let Err(_) = append(
-            &mut self.journal,
-            &mut self.changes,
-            seat,
-            Call::Resume,
-            Reply::Done,
-        ) {
+        let Ok(at) = self.book.append(seat, Call::Resume, Reply::Done) else {
             return Err(Refusal::NoMemory);
-        }
+        };
         self.is_shut = false;
         self.slots.reset();
-        let after = self.slots.statuses(self.is_shut);
-        tell(&mut self.changes, at, &before, &after);
+        self.book.show(&self.slots, self.is_shut, u16::MAX, at);
         Ok(Reply::Done)
     }
 
@@ -271,9 +233,7 @@ impl<P: Probe> Desk<P> {
         ensures status { result ≡ checked (past self.now.journal) slot }
         ensures legal { IsLegal (past self.now.journal) }
     {
-        let statuses = self.statuses();
-        let slot = slot?;
-        statuses[usize::from(slot.number())]
+        self.book.cache.statuses().get(slot?)
     }
 
     /// How many entries there are and the status of each slot, in one word.
@@ -281,9 +241,15 @@ impl<P: Probe> Desk<P> {
         ensures word { result ≡ board_of (past self.now.journal) }
         ensures legal { IsLegal (past self.now.journal) }
     {
-        let statuses = self.statuses();
-        let entries = self.journal.len() as u64;
-        (entries << 32) + packed(&statuses)
+        word_of(self.book.journal.len(), self.book.cache.statuses())
+    }
+
+    /// The same as `board`, with the statuses computed anew from all probes. It is there to be compared with.
+    pub fn board_anew(&self) -> u64
+        ensures word { result ≡ board_of (past self.now.journal) }
+        ensures legal { IsLegal (past self.now.journal) }
+    {
+        word_of(self.book.journal.len(), self.slots.statuses(self.is_shut))
     }
 
     /// What is shown of the slot now, or of a name that has none, and a watch of what changes from now on.
@@ -292,19 +258,20 @@ impl<P: Probe> Desk<P> {
         ensures status { result.1 ≡ shown (past self.now.journal) slot }
         ensures legal { IsLegal (past self.now.journal) }
     {
-        let watch = Watch::new(self.changes.as_slice(), slot);
+        let watch = Watch::new(self.book.changes.as_slice(), slot);
         let status = shown(self.check(watch.slot()));
         (watch, status)
     }
 
-    /// The next change of the watch's service, which the watch is past from then on. The cost is that of the changes of other
-    /// services that it passes over.
+    /// Answers the next change of the watch's service and moves the watch past it, or to the end of the changes where there is
+    /// none. It passes over the changes of other services, which is what it costs. A watch of another desk is answered by the
+    /// changes of this one.
     pub fn step(&self, watch: &mut Watch) -> Option<Serving>
         ensures status { result ≡ (stepped (changes_of (past self.now.journal)) watch.old).0 }
         ensures watch { watch.new ≡ (stepped (changes_of (past self.now.journal)) watch.old).1 }
         ensures legal { IsLegal (past self.now.journal) }
     {
-        watch.step(self.changes.as_slice())
+        watch.step(self.book.changes.as_slice())
     }
 
     /// What the entries of the journal changed for watchers, the oldest first, and for one entry by slot.
@@ -312,19 +279,26 @@ impl<P: Probe> Desk<P> {
         ensures changes { result.now ≡ changes_of (past self.now.journal) }
         ensures legal { IsLegal (past self.now.journal) }
     {
-        self.changes.as_slice()
-    }
-
-    fn statuses(&self) -> Statuses
-        ensures each { (i : ℕ) → i < 16 → slice_index_or result i None ≡ status_at (past self.now.journal) i }
-        ensures legal { IsLegal (past self.now.journal) }
-    {
-        self.slots.statuses(self.is_shut)
+        self.book.changes.as_slice()
     }
 
     fn is_full(&self) -> bool
         ensures { result ≡ nat_le self.now.max_entries (length self.now.journal) }
     {
-        self.journal.len() >= self.max_entries as usize
+        self.book.journal.len() >= self.max_entries as usize
     }
+}
+
+/// The mask of this slot alone.
+fn only(slot: Slot) -> u16
+    ensures { result ≡ 2 ^ slot }
+{
+    1 << slot.number()
+}
+
+fn word_of(entries: usize, statuses: Statuses) -> u64
+    requires { entries < 2 ^ 32 }
+    ensures { result ≡ entries * 2 ^ 32 + statuses }
+{
+    ((entries as u64) << 32) + u64::from(statuses.word())
 }

@@ -1,14 +1,17 @@
-ghost use Rattle.std.specs.Prelude.{◌≡◌, ◌≤◌, ◌↔◌, List, ℕ, Option, take, Some, None, true, false, [], ◌∷◌, ◌++◌, length, All, Contains};
+ghost use Rattle.std.specs.Prelude.{◌≡◌, ◌<◌, ◌≤◌, ◌↔◌, List, ℕ, Option, take, Some, None, true, false, [], ◌∷◌, ◌++◌, length, All, Contains};
+ghost use Rattle.std.specs.List.{last_or};
 ghost use Rattle.desk_core.specs.declared.call.Call.{Call};
 ghost use Rattle.desk_core.specs.declared.call.Call.TheVariants.{Shutdown, Resume};
 ghost use Rattle.desk_core.specs.declared.entry.Entry.{Entry};
+ghost use Rattle.desk_core.specs.declared.change.Change.{Change};
 ghost use Rattle.desk_core.specs.Past.{past};
 ghost use Rattle.desk_core.specs.Shut.{is_shut, says_shut};
-ghost use Rattle.desk_core.specs.Status.{status_at, AllServe};
+ghost use Rattle.desk_core.specs.Status.{status_at, shown, AllServe};
 ghost use Rattle.desk_core.specs.Present.{rule_at};
 ghost use Rattle.desk_core.specs.Reply.{reply_to};
 ghost use Rattle.desk_core.specs.Changes.{changes_of};
-ghost use Rattle.desk_core.specs.Watch.{IsOlder, GoOn, last_of, opened, walk, cursor_past, story};
+ghost use Rattle.desk_core.specs.Watch.{WatchState, IsOlder, GoOn, last_of, opened, answer_of, cursor_after, told, walk, cursor_past, story, last_told};
+ghost use Rattle.health_wire.specs.declared.serving.Serving.{Serving};
 ghost use Rattle.health_wire.specs.declared.serving.Serving.TheVariants.{Serving as IsServing};
 ghost use Rattle.probe_core.specs.declared.rule.Rule.TheVariants.{Depends};
 ghost use Rattle.desk_core.specs.Legal.{IsLegal, IsLawfulCall};
@@ -65,6 +68,19 @@ pub fn changes_grow()
         → take (length (changes_of older)) (changes_of entries) ≡ changes_of older }
 {}
 
+/// A step of a watcher tells its service's next change and moves past it, or moves to the end of the changes where
+/// there is none to tell.
+pub fn steps_leave_none_out()
+    ensures none { (changes : List Change) (watch : WatchState) → answer_of changes watch ≡ None
+        → length changes ≤ cursor_after changes watch }
+    ensures some { (changes : List Change) (watch : WatchState) (status : Serving) → answer_of changes watch ≡ Some status
+        → (watch.cursor < cursor_after changes watch) × (cursor_after changes watch ≤ length changes) }
+
+    // A step moves past no change of its service but the one that it tells.
+    ensures first { (changes : List Change) (watch : WatchState)
+        → story changes watch.slot watch.cursor (cursor_after changes watch) ≡ told (answer_of changes watch) }
+{}
+
 /// The steps of a watcher, taken while the journal grows, tell its service's changes from its opening up to where its
 /// cursor then stands: each once, in order, and none left out.
 pub fn walks_tell_the_story()
@@ -74,4 +90,23 @@ pub fn walks_tell_the_story()
     ensures range { (entries : List Entry) (later : List (List Entry)) (slot : Option ℕ) → GoOn entries later
         → (length (changes_of entries) ≤ cursor_past (opened (changes_of entries) slot) later)
         × (cursor_past (opened (changes_of entries) slot) later ≤ length (changes_of (last_of entries later))) }
+{}
+
+/// Whoever was told all changes of a service knows what is shown of it now: the status of the last one, and before the first
+/// that the service is unknown.
+pub fn last_change_is_shown()
+    ensures { (entries : List Entry) (slot : ℕ) → slot < 16 → last_told (changes_of entries) slot ≡ shown entries (Some slot) }
+{}
+
+/// A watcher whose cursor is at the end of the changes is right: the last status that it was told, counting the one at its
+/// opening, is what is shown of its service now.
+pub fn watchers_end_up_right()
+    ensures walk { (entries : List Entry) (later : List (List Entry)) (slot : ℕ) → GoOn entries later → slot < 16
+        → let now : List Entry = last_of entries later in
+        cursor_past (opened (changes_of entries) (Some slot)) later ≡ length (changes_of now)
+        → last_or None (shown entries (Some slot) ∷ walk (opened (changes_of entries) (Some slot)) later) ≡ Some (shown now (Some slot)) }
+    ensures story { (entries : List Entry) (later : List (List Entry)) (slot : ℕ) → GoOn entries later → slot < 16
+        → let now : List Entry = last_of entries later in
+        last_or None (shown entries (Some slot) ∷ story (changes_of now) (Some slot) (length (changes_of entries)) (length (changes_of now)))
+        ≡ Some (shown now (Some slot)) }
 {}

@@ -1,13 +1,13 @@
 //! The registry of services: their names, their probes and the journal of all changes.
 #![tactic(auto)]
 
-mod board;
+mod book;
+mod cache;
 mod call;
 mod catalogue;
 mod change;
 mod desk;
 mod entry;
-mod journal;
 mod lawful;
 mod laws;
 mod name;
@@ -19,6 +19,7 @@ mod reply;
 mod slot;
 mod slots;
 mod status;
+mod statuses;
 mod watch;
 
 pub use call::{Call, Finding, Setting};
@@ -27,8 +28,9 @@ pub use change::Change;
 pub use desk::Desk;
 pub use entry::Entry;
 pub use laws::{
-    changes_grow, depends_on_all, faultless_names, last_call_decides, legal_fronts, legal_growth,
-    slots_and_names, walks_tell_the_story,
+    changes_grow, depends_on_all, faultless_names, last_call_decides, last_change_is_shown,
+    legal_fronts, legal_growth, slots_and_names, steps_leave_none_out, walks_tell_the_story,
+    watchers_end_up_right,
 };
 pub use name::Name;
 pub use order::Order;

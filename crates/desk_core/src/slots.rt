@@ -4,7 +4,8 @@ ghost use Rattle.desk_core.specs.Slots.{noted, was_reset};
 use crate::owned::Owned;
 use crate::reply::Reply;
 use crate::slot::Slot;
-use crate::status::{Statuses, status_of};
+use crate::status::status_of;
+use crate::statuses::Statuses;
 use probe_core::{Event, Probe, Rule, memory_tells_status};
 use std::alloc::{AllocError, Global};
 
@@ -20,6 +21,7 @@ impl<P: Probe> Slots<P> {
     ghost use Rattle.desk_core.specs.declared.entry.Entry.{Entry};
     ghost use Rattle.desk_core.specs.Past.{past};
     ghost use Rattle.desk_core.specs.Status.{status_at};
+    ghost use Rattle.desk_core.specs.Board.{status_in};
     ghost use Rattle.desk_core.specs.Slots.{noted, was_reset, HasSame};
     ghost use Rattle.desk_core.specs.Desk.{Keeps};
 
@@ -108,13 +110,14 @@ impl<P: Probe> Slots<P> {
     /// The statuses of all slots, computed anew from the first slot up.
     pub(crate) fn statuses(&self, is_shut: bool) -> Statuses
         ensures { (journal : List Entry) (max_entries : ℕ) → Keeps self.now.places.items is_shut journal max_entries
-            → (i : ℕ) → i < 16 → slice_index_or result i None ≡ status_at (past journal) i }
+            → (i : ℕ) → i < 16 → status_in result i ≡ status_at (past journal) i }
     {
         memory_tells_status();
-        let mut statuses = [None; 16];
+        let mut statuses = Statuses::none();
         for number in 0..Slot::COUNT {
-            let owned = self.get(Slot::at(number));
-            statuses[usize::from(number)] = status_of(owned, is_shut, &statuses);
+            let slot = Slot::at(number);
+            let status = status_of(self.get(slot), is_shut, statuses);
+            statuses.set(slot, status);
         }
         statuses
     }

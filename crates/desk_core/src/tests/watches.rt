@@ -118,7 +118,7 @@ fn passes_over_others<P: Probe>(rt: &impl Abort, alloc: Global, a: P, b: P) {
     assert_eq!(rt; desk.step(&mut first), Some(Serving::Serving));
     assert_eq!(rt; (first.start(), first.cursor()), (0, 2));
 
-    // a cursor behind the last change of another desk stays
+    // a cursor past the last change of another desk stays
     let other: Desk<P> = Desk::new(alloc, 100);
     assert_eq!(rt; other.step(&mut first), None);
     assert_eq!(rt; first.cursor(), 2);

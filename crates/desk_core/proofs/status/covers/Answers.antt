@@ -1,18 +1,23 @@
-use Rattle.std.proofs.Common.{◌≡◌, ◌&&◌, None, get_or, sym, ap, ◌∙◌, arith}
+use Rattle.std.proofs.Common.{◌≡◌, ◌&&◌, ◌||◌, not, sym, ap, ◌∙◌, arith}
+use Rattle.desk_core.specs.Status.{has_slot, is_serving}
+use Rattle.desk_core.specs.Board.{status_in}
 use Rattle.desk_core.specs.Slots.{covers_below}
 use Rattle.desk_core.proofs.SlotLemmas.{covers-none, covers-more}
 use Rattle.desk_core.proofs.status.covers.Goals as goal
 
-pub loop-index-init : goal.loop-index-init
-loop-index-init c = sym (covers-none _ _)
+pub loop-number-init : goal.loop-number-init
+loop-number-init c = sym (covers-none (status_in c.args.below) c.args.mask)
 
-pub loop-index-preserved : goal.loop-index-preserved
-loop-index-preserved c =
-    ap (λ b. b && c.allows-all.result) c.loop-index.invariant
-    ∙ ap (λ b. covers_below (λ i. get_or c.args.below.now i None) c.loop-index.index c.args.mask && b) c.allows-all.ensures
-    ∙ sym (covers-more (λ i. get_or c.args.below.now i None) c.loop-index.index c.args.mask)
+pub loop-number-preserved : goal.loop-number-preserved
+loop-number-preserved c =
+    ap (λ b. b && c.allows-all.result) c.loop-number.invariant
+    ∙ ap (λ b. covers_below (status_in c.args.below) c.loop-number.number c.args.mask && b)
+    (c.allows-all.ensures
+    ∙ ap (λ o. not (has_slot c.args.mask c.at-slot.result) || is_serving o) c.get.ensures
+    ∙ ap (λ k. not (has_slot c.args.mask k) || is_serving (status_in c.args.below k)) c.at-slot.ensures)
+    ∙ sym (covers-more (status_in c.args.below) c.loop-number.number c.args.mask)
 
 pub returns : goal.returns
 returns c =
-    let end : c.loop-index.index ≡ 16 = omega arith in
-    c.loop-index.invariant ∙ ap (λ n. covers_below (λ i. get_or c.args.below.now i None) n c.args.mask) end
+    let end : c.loop-number.number ≡ 16 = omega arith in
+    c.loop-number.invariant ∙ ap (λ n. covers_below (status_in c.args.below) n c.args.mask) end

@@ -1,11 +1,15 @@
-use Rattle.std.proofs.Common.{◌<◌, ap, ◌∙◌, sym, None, get_or, arith}
+use Rattle.std.proofs.Common.{◌<◌, sym, ap, ◌∙◌, rules}
 use Rattle.desk_core.specs.Past.{past}
-use Rattle.desk_core.specs.Status.{checked}
+use Rattle.desk_core.specs.Board.{status_in}
+use Rattle.desk_core.specs.Status.{status_at, checked}
+use Rattle.desk_core.proofs.DeskLemmas.{read_status}
 use Rattle.desk_core.proofs.desk.Desk.check.Goals as goal
 
 pub returns-clause-status : goal.returns-clause-status
 returns-clause-status g c =
-    let in_range : c.in_ok-slot.slot < 16 = omega (arith, c.number.ensures.value, c.number.ensures.range) in
-    ap (λ k. get_or c.statuses-statuses.result k None) (c.from.ensures ∙ c.number.ensures.value)
-    ∙ c.statuses-statuses.ensures.each c.in_ok-slot.slot in_range
+    let few : c.in_ok-slot.field-0 < 16 = search rules in
+    c.get.ensures
+    ∙ ap (λ word. status_in word c.in_ok-slot.field-0) c.statuses.ensures
+    ∙ read_status (past c.self.inside.book.journal.items) c.self.inside.book.cache.statuses c.in_ok-slot.field-0 c.self.invariant.cached few
+    ∙ ap (λ state. status_at (past state.journal) c.in_ok-slot.field-0) c.self.view_is
     ∙ ap (checked (past c.args.self.now.journal)) (sym c.in_ok-slot.was)

@@ -1,10 +1,13 @@
-use Rattle.std.proofs.Common.{◌<◌, length, rules}
+use Rattle.std.proofs.Common.{◌<◌, length, refl, ap, rules}
 use Rattle.desk_core.proofs.HistoryLemmas.{keeps_shutdown}
-use Rattle.desk_core.proofs.ChangeLemmas.{is_desk_more}
+use Rattle.desk_core.proofs.DeskLemmas.{is_desk_shown, related_same, related_too, leaves_none}
 use Rattle.desk_core.proofs.desk.Desk.shutdown.Goals as goal
 
 pub invariant_of-self-2 : goal.invariant_of-self-2
 invariant_of-self-2 g c =
-    let below : length c.self.inside.journal.items < c.self.inside.max_entries = search rules in
-    let keeps = keeps_shutdown _ _ _ _ _ c.args.seat c.self.invariant.parts below c.in_default.ensures.ok in
-    is_desk_more _ _ _ _ _ _ _ _ _ _ _ _ _ _ c.self.invariant keeps c.in_default.ensures.ok (search rules) c.append.ensures.changes c.statuses-before.ensures c.statuses-after.ensures c.tell.ensures
+    let below : length c.self.inside.book.journal.items < c.self.inside.max_entries = search rules in
+    let keeps = keeps_shutdown _ _ _ _ _ c.args.seat c.self.invariant.parts below c.in-Ok.ensures.ok in
+    let related = related_same _ _ _ _ c.in-Ok.ensures.ok (λ i. refl) (related_too _ _ _ (ap (λ cache. cache.dependents) c.append.ensures.cache) c.self.invariant.related) in
+    is_desk_shown _ _ _ _ _ _ _ _ _ _ _ _ _ _ _ _ _ _ _ _ c.self.invariant keeps c.in-Ok.ensures.ok c.show.ensures.journal c.in-Ok.ensures.at c.append.ensures.changes
+    (ap (λ cache. cache.statuses) c.append.ensures.cache) related c.show.ensures.dependents
+    (leaves_none _ _ _ _) c.show.ensures.statuses c.show.ensures.changes

@@ -1,0 +1,270 @@
+-- What a desk keeps, before and after an entry.
+use Rattle.std.proofs.Common.{◌≡◌, ◌≢◌, ℕ, zero, suc, ◌^◌, ◌<◌, ◌≤◌, ◌==◌, Bool, true, false, if◌then◌else◌, Option, None, Some, unwrap_or, List, [], ◌∷◌, ◌++◌, length, get_or, set, replicate, refl, sym, ap, subst, ◌∙◌, inl, inr, ◌⊎◌, arith, ltb-true}
+use Rattle.std.specs.Option.{option_map, option_or}
+use Rattle.std.proofs.lemmas.Bool.{eqb-true, eqb-false, eq-eqb, cases_lt}
+use Rattle.std.proofs.lemmas.List.{length-reverse, get_or-set_other}
+use Rattle.std.proofs.lemmas.Nat.Bits.{bit_at-zero, bit_at-pow_same, bit_at_ones, bit_at_above}
+use Rattle.health_wire.specs.declared.serving.Serving.TheVariants.{NotServing, ServiceUnknown}
+use Rattle.probe_core.specs.declared.event.Event.{Event}
+use Rattle.probe_core.specs.declared.rule.Rule.{Rule}
+use Rattle.probe_core.specs.declared.rule.Rule.TheVariants.{Threshold, Manual, Depends}
+use Rattle.probe_core.specs.Rule.{is_up_at}
+use Rattle.probe_core.specs.Events.{all_fit, is_up, memory_after}
+use Rattle.desk_core.specs.declared.call.Call.{Call}
+use Rattle.desk_core.specs.declared.call.Call.TheVariants.{Register, Retire, Observe, Set, Shutdown, Resume}
+use Rattle.desk_core.specs.declared.change.Change.{Change}
+use Rattle.desk_core.specs.declared.entry.Entry.{Entry}
+use Rattle.desk_core.specs.declared.reply.Reply.{Reply}
+use Rattle.desk_core.specs.declared.reply.Reply.TheVariants.{Done, Replaced, Missing, WrongKind, Ignored}
+use Rattle.desk_core.specs.Past.{past, last_said}
+use Rattle.desk_core.specs.Present.{rule_at, says_rule}
+use Rattle.desk_core.specs.Heard.{heard}
+use Rattle.desk_core.specs.Shut.{is_shut}
+use Rattle.desk_core.specs.Status.{status_at, status_by, opinion, all_serving, has_slot, serving_if}
+use Rattle.desk_core.specs.Board.{packed, status_in}
+use Rattle.desk_core.specs.Changes.{changed, changes_of, shown_at}
+use Rattle.desk_core.specs.Slots.{covers_below, status_from, shown_in, HasSame}
+use Rattle.desk_core.specs.Cache.{relies_on, rule_in, IsMapOf, LooksBack, HasDependents, Leaves, HasRule}
+use Rattle.desk_core.specs.Desk.{Brings, Keeps, IsDesk, IsShown, probe_at}
+use Rattle.desk_core.proofs.HistoryLemmas.{past_more, rule_of_probe}
+use Rattle.desk_core.proofs.StatusLemmas.{status_of_probe, lawful_rule}
+use Rattle.desk_core.proofs.BoardLemmas.{IsKept, status_in_packed}
+use Rattle.desk_core.proofs.ChangeLemmas.{changed_same}
+
+-- each status of a history can stand in a word
+pub kept_status : (entries : List Entry) (i : ℕ) → IsKept (status_at entries i)
+kept_status entries i = by_rule (rule_at entries i)
+  where
+    by_serving : (b : Bool) → IsKept (Some (serving_if b))
+    by_serving true = refl
+    by_serving false = refl
+
+    by_opinion : (events : List Event) (rule : Rule) → IsKept (Some (opinion (all_serving entries i) events rule))
+    by_opinion events (Threshold fall) = by_serving (is_up (Threshold fall) events)
+    by_opinion events Manual = by_serving (is_up Manual events)
+    by_opinion events (Depends mask) = by_serving (all_serving entries i mask)
+
+    by_shut : (b : Bool) (rule : Rule) → IsKept (Some (if b then NotServing else opinion (all_serving entries i) (heard entries i rule) rule))
+    by_shut true rule = refl
+    by_shut false rule = by_opinion (heard entries i rule) rule
+
+    by_rule : (o : Option Rule) → IsKept (status_by (all_serving entries i) entries i o)
+    by_rule None = refl
+    by_rule (Some rule) = by_shut (is_shut entries) rule
+
+-- a history's statuses are read from its word
+pub read_status : (entries : List Entry) (word i : ℕ) → word ≡ packed (status_at entries) 16 → i < 16 → status_in word i ≡ status_at entries i
+read_status entries word i is few = status_in_packed (status_at entries) word i is few (kept_status entries i)
+
+-- the rule of a slot's probe is that in force
+pub rule_of_parts : (slots : List (Option (Rule × ℕ))) (shut : Bool) (journal : List Entry) (max_entries i : ℕ) → Keeps slots shut journal max_entries → i < 16
+    → rule_in slots i ≡ rule_at (past journal) i
+rule_of_parts slots shut journal max_entries i keeps few = ap (option_map (λ (state : Rule × ℕ). state.0)) (keeps.each i few) ∙ rule_of_probe (past journal) i
+
+-- the statuses of the journal are those of the probes
+pub map_of_parts : ((rule : Rule) (events : List Event) → all_fit rule events ≡ true → is_up_at rule (memory_after rule events) ≡ is_up rule events)
+    → (slots : List (Option (Rule × ℕ))) (shut : Bool) (journal : List Entry) (max_entries : ℕ) → Keeps slots shut journal max_entries
+    → IsMapOf slots shut (status_at (past journal))
+map_of_parts tells slots shut journal max_entries keeps i few =
+    sym (ap (option_map (status_from (covers_below (status_at (past journal)) 16) shut)) (keeps.each i few)
+    ∙ ap (λ b. option_map (status_from (covers_below (status_at (past journal)) 16) b) (probe_at (past journal) i)) keeps.shut_is
+    ∙ status_of_probe tells (past journal) i (status_at (past journal)) keeps.legal few (λ j below. refl))
+
+-- a lawful rule relies on slots before its own
+relies_before : (i j : ℕ) (rule : Option Rule) → ((r : Rule) → rule ≡ Some r → (mask : ℕ) → r ≡ Depends mask → mask < 2 ^ i) → relies_on rule j ≡ true → j < i
+relies_before i j None lawful relies = let never : false ≡ true = relies in cc
+relies_before i j (Some (Threshold fall)) lawful relies = let never : false ≡ true = relies in cc
+relies_before i j (Some Manual) lawful relies = let never : false ≡ true = relies in cc
+relies_before i j (Some (Depends mask)) lawful relies = by_place (cases_lt j i)
+  where
+    by_place : (j < i) ⊎ (i ≤ j) → j < i
+    by_place (inl before) = before
+    by_place (inr past_it) =
+        let above = bit_at_above mask i j (lawful (Depends mask) refl mask refl) past_it in
+        let clear : has_slot mask j ≡ false = ap (λ k. k == 1) above in
+        let never : false ≡ true = sym clear ∙ relies in
+        cc
+
+pub looks_back : (slots : List (Option (Rule × ℕ))) (shut : Bool) (journal : List Entry) (max_entries : ℕ) → Keeps slots shut journal max_entries → LooksBack slots
+looks_back slots shut journal max_entries keeps i j few relies =
+    let rule_is = rule_of_parts slots shut journal max_entries i keeps few in
+    relies_before i j (rule_at (past journal) i)
+    (λ r said mask is.
+    let both : rule_at (past journal) i ≡ Some (Depends mask) = said ∙ ap Some is in
+    ltb-true mask (2 ^ i) (lawful_rule (past journal) i (Depends mask) keeps.legal both))
+    (ap (λ o. relies_on o j) (sym rule_is) ∙ relies)
+
+pub related_of_parts : (slots : List (Option (Rule × ℕ))) (shut : Bool) (journal : List Entry) (max_entries : ℕ) (dependents : List ℕ) → Keeps slots shut journal max_entries
+    → HasDependents (rule_at (past journal)) dependents → HasDependents (rule_in slots) dependents
+related_of_parts slots shut journal max_entries dependents keeps related i j few below =
+    related i j few below ∙ ap (λ o. relies_on o j) (sym (rule_of_parts slots shut journal max_entries i keeps few))
+
+-- two slots are one, or are not, in either order
+turned : (i slot : ℕ) (b : Bool) → (i == slot) ≡ b → (slot == i) ≡ b
+turned i slot true at = eq-eqb slot i (sym (eqb-true i slot at))
+turned i slot false at = by_test (slot == i) refl
+  where
+    by_test : (b : Bool) → (slot == i) ≡ b → b ≡ false
+    by_test true is = absurd (eqb-false i slot at (sym (eqb-true slot i is)))
+    by_test false is = refl
+
+-- after an entry the masks say the rules in force, where they say the rule that the entry changed
+pub related_more : (journal new : List Entry) (entry : Entry) (slot : ℕ) (rule : Option Rule) (old dependents : List ℕ)
+    → new ≡ journal ++ entry ∷ [] → ((i : ℕ) → rule_at (entry ∷ past journal) i ≡ (if slot == i then rule else rule_at (past journal) i))
+    → HasDependents (rule_at (past journal)) old → HasRule slot rule old dependents → HasDependents (rule_at (past new)) dependents
+related_more journal new entry slot rule old dependents is says related marked i j few below =
+    let later : past new ≡ entry ∷ past journal = ap past is ∙ past_more journal entry in
+    marked i j few below ∙ by_slot (i == slot) refl ∙ ap (λ o. relies_on o j) (sym (says i)) ∙ ap (λ entries. relies_on (rule_at entries i) j) (sym later)
+  where
+    by_slot : (b : Bool) → (i == slot) ≡ b → (if b then relies_on rule j else has_slot (get_or old j 0) i) ≡ relies_on (if slot == i then rule else rule_at (past journal) i) j
+    by_slot true at = ap (λ b. relies_on (if b then rule else rule_at (past journal) i) j) (sym (turned i slot true at))
+    by_slot false at = related i j few below ∙ ap (λ b. relies_on (if b then rule else rule_at (past journal) i) j) (sym (turned i slot false at))
+
+-- an entry that leaves all rules in force leaves the masks
+pub related_same : (journal new : List Entry) (entry : Entry) (dependents : List ℕ)
+    → new ≡ journal ++ entry ∷ [] → ((i : ℕ) → rule_at (entry ∷ past journal) i ≡ rule_at (past journal) i)
+    → HasDependents (rule_at (past journal)) dependents → HasDependents (rule_at (past new)) dependents
+related_same journal new entry dependents is says related i j few below =
+    let later : past new ≡ entry ∷ past journal = ap past is ∙ past_more journal entry in
+    related i j few below ∙ ap (λ o. relies_on o j) (sym (says i)) ∙ ap (λ entries. relies_on (rule_at entries i) j) (sym later)
+
+pub rule_at-register : (seat slot : ℕ) (rule : Rule) (reply : Reply) (older : List Entry) (i : ℕ)
+    → rule_at (record { seat = seat; call = Register slot rule; reply = reply } ∷ older) i ≡ (if slot == i then Some rule else rule_at older i)
+rule_at-register seat slot rule reply older i = by_test (slot == i)
+  where
+    by_test : (b : Bool) → unwrap_or (option_or (if b then Some (Some rule) else None) (last_said (says_rule i) older)) None ≡ (if b then Some rule else rule_at older i)
+    by_test true = refl
+    by_test false = refl
+
+pub rule_at-retire : (seat slot : ℕ) (reply : Reply) (older : List Entry) (i : ℕ)
+    → rule_at (record { seat = seat; call = Retire slot; reply = reply } ∷ older) i ≡ (if slot == i then None else rule_at older i)
+rule_at-retire seat slot reply older i = by_test (slot == i)
+  where
+    by_test : (b : Bool) → unwrap_or (option_or (if b then Some None else None) (last_said (says_rule i) older)) None ≡ (if b then None else rule_at older i)
+    by_test true = refl
+    by_test false = refl
+
+pub rule_at-brings : (seat slot : ℕ) (call : Call) (event : Event) (reply : Reply) (older : List Entry) → Brings call slot event → (i : ℕ)
+    → rule_at (record { seat = seat; call = call; reply = reply } ∷ older) i ≡ rule_at older i
+rule_at-brings seat slot (Observe at finding) event reply older brings i = refl
+rule_at-brings seat slot (Set at setting) event reply older brings i = refl
+rule_at-brings seat slot (Register at rule) event reply older brings i = absurd brings
+rule_at-brings seat slot (Retire at) event reply older brings i = absurd brings
+rule_at-brings seat slot Shutdown event reply older brings i = absurd brings
+rule_at-brings seat slot Resume event reply older brings i = absurd brings
+
+-- a change of one slot leaves the others
+pub leaves_slot : (slot touched : ℕ) (was slots : List (Option (Rule × ℕ))) (shut : Bool) → touched ≡ 2 ^ slot
+    → ((i : ℕ) → i ≢ slot → get_or slots i None ≡ get_or was i None) → Leaves touched was shut slots shut
+leaves_slot slot touched was slots shut touched_is others i few unmarked = (others i other, refl)
+  where
+    other : i ≢ slot
+    other same =
+        let marked : has_slot touched i ≡ true = ap (λ m. has_slot m i) touched_is ∙ ap (has_slot (2 ^ slot)) same ∙ ap (λ k. k == 1) (bit_at-pow_same slot) in
+        let never : false ≡ true = sym unmarked ∙ marked in
+        cc
+
+-- a change of all slots leaves none
+pub leaves_none : (was slots : List (Option (Rule × ℕ))) (was_shut shut : Bool) → Leaves 65535 was was_shut slots shut
+leaves_none was slots was_shut shut i few unmarked =
+    let marked : has_slot 65535 i ≡ true = ap (λ k. k == 1) (bit_at_ones 16 i few) in
+    let never : false ≡ true = sym unmarked ∙ marked in
+    cc
+
+pub others_register : (slots room after : List (Option (Rule × ℕ))) (slot : ℕ) (probe : Option (Rule × ℕ)) → HasSame slots room → after ≡ set room slot probe
+    → (i : ℕ) → i ≢ slot → get_or after i None ≡ get_or slots i None
+others_register slots room after slot probe same write i other =
+    ap (λ xs. get_or xs i None) write ∙ get_or-set_other room slot i probe None other ∙ same i
+
+pub others_set : (slots after : List (Option (Rule × ℕ))) (slot : ℕ) (probe : Option (Rule × ℕ)) → after ≡ set slots slot probe
+    → (i : ℕ) → i ≢ slot → get_or after i None ≡ get_or slots i None
+others_set slots after slot probe write i other = ap (λ xs. get_or xs i None) write ∙ get_or-set_other slots slot i probe None other
+
+pub others_heard : (slots after : List (Option (Rule × ℕ))) (slot : ℕ) (probe : Option (Rule × ℕ)) (reply : Reply)
+    → (reply ≡ Done → after ≡ set slots slot probe) → ((reply ≡ Done → ⊥) → after ≡ slots)
+    → (i : ℕ) → i ≢ slot → get_or after i None ≡ get_or slots i None
+others_heard slots after slot probe reply done others i other = by_reply reply refl
+  where
+    heard_it : reply ≡ Done → get_or after i None ≡ get_or slots i None
+    heard_it said = others_set slots after slot probe (done said) i other
+
+    heard_none : (reply ≡ Done → ⊥) → get_or after i None ≡ get_or slots i None
+    heard_none said = ap (λ xs. get_or xs i None) (others said)
+
+    by_reply : (r : Reply) → reply ≡ r → get_or after i None ≡ get_or slots i None
+    by_reply Done said = heard_it said
+    by_reply Replaced said = heard_none (λ same. let both : Replaced ≡ Done = sym said ∙ same in cc)
+    by_reply Missing said = heard_none (λ same. let both : Missing ≡ Done = sym said ∙ same in cc)
+    by_reply WrongKind said = heard_none (λ same. let both : WrongKind ≡ Done = sym said ∙ same in cc)
+    by_reply Ignored said = heard_none (λ same. let both : Ignored ≡ Done = sym said ∙ same in cc)
+
+-- one more entry, with the statuses, the masks and the changes that it led to
+pub is_desk_more : (slots after_slots : List (Option (Rule × ℕ))) (shut now : Bool) (journal new : List Entry) (old kept changes : List Change) (old_statuses statuses : ℕ) (old_dependents dependents : List ℕ) (max_entries at : ℕ) (entry : Entry)
+    → IsDesk slots shut journal old old_statuses old_dependents max_entries → Keeps after_slots now new max_entries
+    → new ≡ journal ++ entry ∷ [] → at ≡ length journal → kept ≡ old
+    → statuses ≡ packed (status_at (past new)) 16 → HasDependents (rule_at (past new)) dependents
+    → changes ≡ kept ++ changed at (shown_in old_statuses) (shown_in statuses) 16
+    → IsDesk after_slots now new changes statuses dependents max_entries
+is_desk_more slots after_slots shut now journal new old kept changes old_statuses statuses old_dependents dependents max_entries at entry desk keeps is at_is kept_is cached related told =
+    let later : past new ≡ entry ∷ past journal = ap past is ∙ past_more journal entry in
+    let place : at ≡ length (past journal) = at_is ∙ sym (length-reverse journal) in
+    let same_before : (i : ℕ) → i < 16 → shown_in old_statuses i ≡ shown_at (past journal) i = λ i below.
+    ap (λ status. unwrap_or status ServiceUnknown) (read_status (past journal) old_statuses i desk.cached below) in
+    let same_after : (i : ℕ) → i < 16 → shown_in statuses i ≡ shown_at (past new) i = λ i below.
+    ap (λ status. unwrap_or status ServiceUnknown) (read_status (past new) statuses i cached below) in
+    record {
+      parts = keeps;
+      told = told
+          ∙ ap (λ cs. cs ++ changed at (shown_in old_statuses) (shown_in statuses) 16) (kept_is ∙ desk.told)
+          ∙ ap (λ cs. changes_of (past journal) ++ cs) (changed_same at 16 (shown_in old_statuses) (shown_in statuses) (shown_at (past journal)) (shown_at (past new)) same_before same_after)
+          ∙ ap (λ k. changes_of (past journal) ++ changed k (shown_at (past journal)) (shown_at (past new)) 16) place
+          ∙ ap (λ entries. changes_of (past journal) ++ changed (length (past journal)) (shown_at (past journal)) (shown_at entries) 16) later
+          ∙ sym (ap changes_of later);
+      cached = cached;
+      related = related;
+    }
+
+-- before the first entry no slot has a status
+nothing_packed : (n : ℕ) → packed (status_at []) n ≡ 0
+unfolding packed
+nothing_packed zero = refl
+nothing_packed (suc n) = omega (arith, nothing_packed n)
+
+get_zero : (n j : ℕ) → get_or {A = ℕ} (replicate n 0) j 0 ≡ 0
+get_zero zero j = refl
+get_zero (suc n) zero = refl
+get_zero (suc n) (suc j) = get_zero n j
+
+pub is_desk_new : (max_entries statuses : ℕ) (slots : List (Option (Rule × ℕ))) (journal : List Entry) (changes : List Change) (dependents : List ℕ)
+    → Keeps [] false [] max_entries → slots ≡ [] → journal ≡ [] → changes ≡ [] → statuses ≡ 0 → dependents ≡ replicate 16 0
+    → IsDesk slots false journal changes statuses dependents max_entries
+is_desk_new max_entries statuses slots journal changes dependents keeps slots_is journal_is changes_is statuses_is dependents_is =
+    let Parts : List (Option (Rule × ℕ)) → Type 0 = λ xs. Keeps xs false [] max_entries in
+    let Journal : List Entry → Type 0 = λ es. IsDesk slots false es changes statuses dependents max_entries in
+    subst Journal (sym journal_is) (record {
+      parts = subst Parts (sym slots_is) keeps;
+      told = changes_is;
+      cached = statuses_is ∙ sym (nothing_packed 16);
+      related = λ i j few below. ap (λ ds. has_slot (get_or ds j 0) i) dependents_is ∙ ap (λ m. has_slot m i) (get_zero 16 j) ∙ ap (λ k. k == 1) (bit_at-zero i);
+    })
+
+-- an entry is added, its slots are changed, and what it touched is shown
+pub is_desk_shown : (slots after_slots : List (Option (Rule × ℕ))) (shut now : Bool) (journal new last : List Entry) (old kept changes : List Change) (old_statuses kept_statuses statuses : ℕ) (old_dependents new_dependents dependents : List ℕ) (max_entries at touched : ℕ) (entry : Entry)
+    → IsDesk slots shut journal old old_statuses old_dependents max_entries → Keeps after_slots now new max_entries
+    → new ≡ journal ++ entry ∷ [] → last ≡ new → at ≡ length journal → kept ≡ old → kept_statuses ≡ old_statuses
+    → HasDependents (rule_at (past new)) new_dependents → dependents ≡ new_dependents
+    → Leaves touched slots shut after_slots now → IsShown touched after_slots now new_dependents kept_statuses statuses
+    → changes ≡ kept ++ changed at (shown_in kept_statuses) (shown_in statuses) 16
+    → IsDesk after_slots now last changes statuses dependents max_entries
+is_desk_shown slots after_slots shut now journal new last old kept changes old_statuses kept_statuses statuses old_dependents new_dependents dependents max_entries at touched entry
+    desk keeps is last_is at_is kept_is statuses_is related dependents_is leaves shows told =
+    let Journal : List Entry → Type 0 = λ es. IsDesk after_slots now es changes statuses dependents max_entries in
+    let Dependents : List ℕ → Type 0 = λ ds. IsDesk after_slots now new changes statuses ds max_entries in
+    let cached = shows slots shut journal new max_entries desk.parts keeps related leaves (statuses_is ∙ desk.cached) in
+    let told_too = told ∙ ap (λ word. kept ++ changed at (shown_in word) (shown_in statuses) 16) statuses_is in
+    subst Journal (sym last_is) (subst Dependents (sym dependents_is)
+    (is_desk_more slots after_slots shut now journal new old kept changes old_statuses statuses old_dependents new_dependents max_entries at entry desk keeps is at_is kept_is cached related told_too))
+
+-- masks that are the same say the same rules
+pub related_too : (rules : ℕ → Option Rule) (old new : List ℕ) → new ≡ old → HasDependents rules old → HasDependents rules new
+related_too rules old new same related i j few below = ap (λ ds. has_slot (get_or ds j 0) i) same ∙ related i j few below

@@ -1,0 +1,81 @@
+ghost use Rattle.std.specs.Prelude.{◌≡◌, ◌<◌, ◌≤◌};
+ghost use Rattle.desk_core.specs.Board.{code_of, status_of_code};
+
+use crate::slot::Slot;
+use health_wire::Serving;
+use std::marker::Model;
+
+/// The statuses of all slots in one word, two bits each, the first slot lowest.
+#[derive(Clone, Copy, Debug, PartialEq, Eq)]
+pub(crate) struct Statuses {
+    word: u32,
+}
+
+impl Model for Statuses {
+    ghost use Rattle.std.specs.Prelude.{ℕ};
+
+    ghost Value = { ℕ };
+
+    ghost view = { λ statuses. statuses.word };
+
+    ghost inverse = { λ n. record { word = n } };
+}
+
+impl Statuses {
+    ghost use Rattle.std.specs.Prelude.{◌≡◌, ◌<◌, ◌^◌};
+    ghost use Rattle.desk_core.specs.Board.{packed, status_in};
+    ghost use Rattle.desk_core.specs.Slots.{with_status};
+
+    /// No slot has a status.
+    pub(crate) fn none() -> Statuses
+        ensures { result ≡ 0 }
+    {
+        Statuses { word: 0 }
+    }
+
+    pub(crate) fn word(self) -> u32
+        ensures value { result ≡ self }
+        ensures range { result < 2 ^ 32 }
+    {
+        self.word
+    }
+
+    pub(crate) fn get(self, slot: Slot) -> Option<Serving>
+        ensures { result ≡ status_in self slot }
+    {
+        status_of_code((self.word >> (2 * slot.number())) % 4)
+    }
+
+    pub(crate) fn set(&mut self, slot: Slot, status: Option<Serving>)
+        ensures { self.new ≡ packed (with_status (status_in self.old) slot status) 16 }
+    {
+        let weight = 1u32 << (2 * slot.number());
+        let old = self.word / weight % 4;
+        self.word = self.word - old * weight + code(status) * weight;
+    }
+}
+
+/// A slot never has the status of an unknown service, so it needs no code.
+fn code(status: Option<Serving>) -> u32
+    ensures value { result ≡ code_of status }
+    ensures small { result ≤ 3 }
+{
+    match status {
+        None | Some(Serving::ServiceUnknown) => 0,
+        Some(Serving::Serving) => 1,
+        Some(Serving::NotServing) => 2,
+        Some(Serving::Unknown) => 3,
+    }
+}
+
+pub(crate) fn status_of_code(code: u32) -> Option<Serving>
+    requires { code < 4 }
+    ensures { result ≡ status_of_code code }
+{
+    match code {
+        0 => None,
+        1 => Some(Serving::Serving),
+        2 => Some(Serving::NotServing),
+        _ => Some(Serving::Unknown),
+    }
+}
