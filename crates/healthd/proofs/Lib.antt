@@ -1,3 +1,16 @@
 pub mod AnswerLemmas
 pub mod AskLemmas
+pub mod LineCuts
+pub mod LineLemmas
+pub mod LineRunLemmas
+pub mod MaskLemmas
+pub mod NumberLemmas
+pub mod OneLine
+pub mod OneScript
+pub mod OpeningLemmas
+pub mod ReplayLemmas
+pub mod RunLemmas
+pub mod RunningLemmas
+pub mod ScriptLemmas
 pub mod ServiceLemmas
+pub mod WordLemmas

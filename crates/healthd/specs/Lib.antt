@@ -1,4 +1,13 @@
 pub mod Answer
 pub mod Ask
+pub mod Line
+pub mod Lines
+pub mod Opening
+pub mod Reading
+pub mod Replay
 pub mod Response
+pub mod Run
+pub mod RunText
+pub mod Script
 pub mod Service
+pub mod Word

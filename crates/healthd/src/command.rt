@@ -17,8 +17,12 @@ pub fn command<'a>(alloc: Global) -> Result<Command<'a>, AllocError> {
         .about("Answer the body of a Check's request with the body of its response")
         .arg(hex)?
         .arg(services)?;
+    let replay = Command::new(alloc, "replay").about(
+        "Run the script on standard input, and print what each of its lines comes to",
+    );
     Command::new(alloc, "healthd")
         .about("gRPC's health checking service over gRPC-Web")
         .subcommand_required(true)
-        .subcommand(body)
+        .subcommand(body)?
+        .subcommand(replay)
 }

@@ -1,6 +1,7 @@
 ghost use Rattle.std.specs.Prelude.{◌≡◌};
-ghost use Rattle.healthd.specs.declared.fault.Fault.TheVariants.{OutOfMemory};
+ghost use Rattle.healthd.specs.declared.fault.Fault.TheVariants.{OutOfMemory, Script};
 
+use crate::script_fault::ScriptFault;
 use std::alloc::{AllocError, AllocFailed};
 use thiserror::Error;
 
@@ -11,6 +12,10 @@ pub enum Fault {
     BadHex,
     #[error("bad service")]
     BadService,
+    #[error("{0}")]
+    Script(ScriptFault),
+    #[error("read")]
+    Read,
     #[error("write")]
     Write,
     #[error("out of memory")]
@@ -30,5 +35,13 @@ impl<T: Drop> From<AllocFailed<T>> for Fault {
 
     fn from(_error: AllocFailed<T>) -> Fault {
         Fault::OutOfMemory
+    }
+}
+
+impl From<ScriptFault> for Fault {
+    ghost from_gives = { λ script fault. fault ≡ Script script };
+
+    fn from(fault: ScriptFault) -> Fault {
+        Fault::Script(fault)
     }
 }

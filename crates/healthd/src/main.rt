@@ -6,10 +6,27 @@ mod ask;
 mod body;
 mod command;
 mod fault;
+mod laws;
+mod line;
+mod lines;
+mod name;
+mod number;
+mod opening;
+mod order;
+mod outcome;
+mod read_script;
+mod replay;
 mod response;
+mod rule;
+mod run;
+mod run_script;
+mod script;
+mod script_fault;
 mod service;
 #[cfg(test)]
 mod tests;
+mod texts;
+mod words;
 
 use clap::error::ErrorKind;
 use fault::Fault;
@@ -21,7 +38,7 @@ use std::{env, io};
 const REFUSED: u8 = 2;
 
 fn main(rt: HostRuntime) -> ExitCode {
-    match run(&rt) {
+    match execute(&rt) {
         Ok(status) => status,
         Err(fault) => {
             let _ = eprintln!(&rt; "healthd: {fault}");
@@ -30,7 +47,7 @@ fn main(rt: HostRuntime) -> ExitCode {
     }
 }
 
-fn run<R: Print + Eprint + Env + AllocGlobal>(rt: &R) -> Result<ExitCode, Fault> {
+fn execute<R: Input + Print + Eprint + Env + AllocGlobal>(rt: &R) -> Result<ExitCode, Fault> {
     let alloc = rt.alloc();
     let words: Vec<String> = match env::args(rt) {
         Ok(words) => words.collect(alloc)?,
@@ -42,6 +59,7 @@ fn run<R: Print + Eprint + Env + AllocGlobal>(rt: &R) -> Result<ExitCode, Fault>
     };
     match matches.subcommand() {
         Some(("body", matches)) => body::run(rt, matches)?,
+        Some(("replay", _)) => replay::run(rt)?,
         _ => return Ok(ExitCode::from(REFUSED)),
     }
     Ok(ExitCode::SUCCESS)
