@@ -1,8 +1,11 @@
 -- The command `replay`.
-use Rattle.std.specs.Prelude.{ℕ, List}
+use Rattle.std.specs.Prelude.{ℕ, ◌≢◌, List}
 use Rattle.probe_core.specs.declared.rule.Rule.{Rule}
+use Rattle.healthd.specs.declared.fault.Fault.{Fault}
+use Rattle.healthd.specs.declared.fault.Fault.TheVariants.{BadHex, BadService, Script, Read, Write, OutOfMemory}
 use Rattle.healthd.specs.declared.script.Mode.TheVariants.{Replay}
-use Rattle.healthd.specs.Script.{ScriptParts, IsScript}
+use Rattle.healthd.specs.declared.script_fault.ScriptFault.TheVariants.{NoMemory}
+use Rattle.healthd.specs.Script.{ScriptParts, IsScript, IsScriptFault}
 use Rattle.healthd.specs.Run.{IsScriptRun}
 
 -- the bytes are a script to replay, and the output is that of a run of it, with probes of some rules
@@ -11,3 +14,12 @@ pub record Replays (bytes output : List ℕ) : Type 0 where
   pub rules : List Rule
   pub is : IsScript Replay bytes script
   pub runs : IsScriptRun script rules output
+
+-- a fault that ends a replay of the bytes: their own first one as a script, or want of memory
+abbrev pub EndsReplay : List ℕ → Fault → Type 0
+EndsReplay bytes BadHex = ⊥
+EndsReplay bytes BadService = ⊥
+EndsReplay bytes (Script fault) = fault ≢ NoMemory → IsScriptFault Replay bytes fault
+EndsReplay bytes Read = ⊥
+EndsReplay bytes Write = ⊥
+EndsReplay bytes OutOfMemory = Unit {0}

@@ -1,5 +1,5 @@
-ghost use Rattle.std.specs.Prelude.{IfOk};
-ghost use Rattle.healthd.specs.Replay.{Replays};
+ghost use Rattle.std.specs.Prelude.{IfErr, IfOk};
+ghost use Rattle.healthd.specs.Replay.{EndsReplay, Replays};
 
 use crate::fault::Fault;
 use crate::line::Line;
@@ -27,6 +27,7 @@ pub fn run(rt: &(impl Input + Print + AllocGlobal)) -> Result<(), Fault> {
 /// Runs the script, with a probe of its rule for each line that registers one.
 fn replay(alloc: Global, bytes: &[u8]) -> Result<Vec<u8>, Fault>
     ensures ok { IfOk result (λ output. Replays bytes.now output.items) }
+    ensures fault { IfErr result (λ fault. EndsReplay bytes.now fault) }
 {
     let script = read_script(alloc, bytes, Mode::Replay)?;
     let mut probes: Vec<Box<dyn Probe + Send>> = Vec::new(alloc);

@@ -1,4 +1,4 @@
-use Rattle.std.proofs.Common.{◌≡◌, ◌<◌, length, take, sym, ap, ◌∙◌, arith, rules}
+use Rattle.std.proofs.Common.{ap, ◌∙◌, arith}
 use Rattle.std.specs.Vec.{vec_len}
 use Rattle.healthd.proofs.ReplayLemmas.{made, made_none}
 use Rattle.healthd.proofs.replay.replay.Goals as goal
