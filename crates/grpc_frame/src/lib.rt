@@ -17,6 +17,7 @@ pub use laws::{
     any_cutting, first_frame, one_answer, one_cut, read_back, stays_too_long, trailers_read_back,
     whole_frame, written_frames,
 };
+pub use lines::trim;
 pub use message::{one_message, put_message};
 pub use splitter::Splitter;
 pub use trailers::{Trailers, put_trailers, read_trailers};

@@ -1,7 +1,7 @@
 ghost use Rattle.std.specs.Prelude.{◌≡◌, ◌<◌, ◌∷◌, length, position};
 ghost use Rattle.std.specs.List.{list_all, before_first, after_first};
 ghost use Rattle.std.specs.Option.{option_map};
-ghost use Rattle.grpc_frame.specs.Lines.{lines, is_colon, has_colon, trim_start, trim_end, is_named, value, value_of};
+ghost use Rattle.grpc_frame.specs.Lines.{lines, is_colon, has_colon, trim, trim_start, trim_end, is_named, value, value_of};
 
 /// Whether each line of the block has a colon.
 pub(crate) fn have_colons(block: &[u8]) -> bool
@@ -55,7 +55,7 @@ fn is_named(line: &[u8], name: &[u8]) -> bool
 fn value(line: &[u8]) -> &[u8]
     ensures { result.now ≡ value line.now }
 {
-    trim_end(trim_start(parts(line).1))
+    trim(parts(line).1)
 }
 
 // What stands round the first colon: without one, all and nothing.
@@ -73,6 +73,13 @@ fn colon_at(line: &[u8]) -> Option<usize>
     ensures { result ≡ position is_colon line.now }
 {
     line.iter().position(|c| *c == b':')
+}
+
+/// The value of a header line without the spaces and tabs at both ends (RFC 9112, section 5).
+pub fn trim(bytes: &[u8]) -> &[u8]
+    ensures { result.now ≡ trim bytes.now }
+{
+    trim_end(trim_start(bytes))
 }
 
 fn trim_start(bytes: &[u8]) -> &[u8]

@@ -31,6 +31,13 @@ const BODIES: [(&[u8], Result<&[u8], FrameFault>); 17] = [
 ];
 
 #[test]
+fn trims_spaces_and_tabs_at_both_ends(rt: HostRuntime) {
+    for (value, trimmed) in [(" \t7 8\t ", "7 8"), ("\n", "\n"), (" ", ""), ("", "")] {
+        assert_eq!(rt; trim(value.as_bytes()), trimmed.as_bytes(), "at {value:?}");
+    }
+}
+
+#[test]
 fn reads_one_message_or_the_first_fault(rt: HostRuntime) {
     for (body, expected) in BODIES {
         assert_eq!(rt; one_message(body), expected, "at {body:?}");

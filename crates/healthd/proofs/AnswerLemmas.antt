@@ -5,11 +5,11 @@ use Rattle.grpc_frame.specs.declared.code.Code.TheVariants.{ResourceExhausted}
 use Rattle.grpc_frame.specs.Frame.{frame}
 use Rattle.grpc_frame.specs.Trailers.{block}
 use Rattle.health_wire.specs.declared.serving.Serving.{Serving}
-use Rattle.healthd.specs.declared.ask.Method.TheVariants.{Check}
-use Rattle.healthd.specs.Ask.{Asked, IsAsked, Refused, Checked}
+use Rattle.web_call.specs.declared.method.Method.TheVariants.{Check}
+use Rattle.web_call.specs.Ask.{Asked, IsAsked, Refused, Checked}
 use Rattle.healthd.specs.Answer.{IsAnswer, listed_status}
 use Rattle.healthd.specs.Answer.IsAnswer.{TooLarge, Refuses, Answers}
-use Rattle.healthd.specs.Response.{check_body_text}
+use Rattle.web_call.specs.Response.{check_body_text}
 
 -- each rule of an answer, at an answer that is equal to what it gives
 pub too_large : (list : List (String Global × Serving)) (body answer : List ℕ) → 8192 < length body → answer ≡ frame 128 (block ResourceExhausted (codes "request too large")) → IsAnswer list body answer

@@ -1,5 +1,4 @@
 pub mod AnswerLemmas
-pub mod AskLemmas
 pub mod LineCuts
 pub mod LineLemmas
 pub mod LineRunLemmas

@@ -9,9 +9,9 @@ use Rattle.grpc_frame.specs.declared.code.Code.TheVariants.{ResourceExhausted}
 use Rattle.grpc_frame.specs.Frame.{frame}
 use Rattle.grpc_frame.specs.Trailers.{block}
 use Rattle.health_wire.specs.declared.serving.Serving.{Serving}
-use Rattle.healthd.specs.declared.ask.Method.TheVariants.{Check}
-use Rattle.healthd.specs.Ask.{IsAsked, Refused, Checked}
-use Rattle.healthd.specs.Response.{check_body_text}
+use Rattle.web_call.specs.declared.method.Method.TheVariants.{Check}
+use Rattle.web_call.specs.Ask.{IsAsked, Refused, Checked}
+use Rattle.web_call.specs.Response.{check_body_text}
 
 -- the status in the first pair with this name
 abbrev pub listed_status : List (String Global × Serving) → List ℕ → Option Serving

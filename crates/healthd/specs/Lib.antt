@@ -1,11 +1,9 @@
 pub mod Answer
-pub mod Ask
 pub mod Line
 pub mod Lines
 pub mod Opening
 pub mod Reading
 pub mod Replay
-pub mod Response
 pub mod Run
 pub mod RunText
 pub mod Script

@@ -3,11 +3,10 @@ ghost use Rattle.std.specs.Global.{Global};
 ghost use Rattle.health_wire.specs.declared.serving.Serving.{Serving};
 ghost use Rattle.healthd.specs.Answer.{IsAnswer, listed_status};
 
-use crate::ask::{Ask, Method, ask_of, one_ask};
-use crate::response::{check_body, status_body};
 use grpc_frame::Code;
 use health_wire::Serving;
 use std::alloc::{AllocError, Global};
+use web_call::{Ask, Method, ask_of, check_body, one_ask, status_body};
 
 /// A request's body is at most this many bytes.
 const MAX_BODY_LEN: usize = 8_192;

@@ -2,7 +2,6 @@
 #![tactic(auto)]
 
 mod answer;
-mod ask;
 mod body;
 mod command;
 mod fault;
@@ -16,7 +15,6 @@ mod order;
 mod outcome;
 mod read_script;
 mod replay;
-mod response;
 mod rule;
 mod run;
 mod run_script;

@@ -1,8 +1,6 @@
 use crate::answer::answer_body;
-use crate::ask::{Ask, Method, ask_of};
 use crate::fault::Fault;
 use crate::service::{parse_service, parse_services};
-use grpc_frame::Code;
 use health_wire::Serving;
 use scarce::Scarcity;
 use std::test::Fail;
@@ -92,15 +90,6 @@ fn answers_from_the_first_pair_with_the_name(rt: HostRuntime) -> Result<(), Fail
     let answer = answer_body(alloc, &list, b"\0\0\0\0\0")?;
     assert_eq!(rt; answer.as_slice(), NOT_SERVING);
     Ok(())
-}
-
-#[test]
-fn asks_by_the_method(rt: HostRuntime) {
-    let body = b"\0\0\0\0\x03\x0a\x01a";
-    assert_eq!(rt; ask_of(Method::Check, body), Ask::Check("a"));
-    assert_eq!(rt; ask_of(Method::Watch, body), Ask::Watch("a"));
-    let refused = Ask::Status(Code::Unimplemented, "compressed message");
-    assert_eq!(rt; ask_of(Method::Watch, b"\x01"), refused);
 }
 
 const SERVICE_WORDS: [(&str, Result<(&str, Serving), Fault>); 8] = [

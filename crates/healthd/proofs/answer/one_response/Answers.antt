@@ -1,4 +1,4 @@
-use Rattle.healthd.specs.declared.ask.Method.TheVariants.{Check}
+use Rattle.web_call.specs.declared.method.Method.TheVariants.{Check}
 use Rattle.healthd.proofs.AnswerLemmas.{one_answer_to}
 use Rattle.healthd.proofs.answer.one_response.Goals as goal
 

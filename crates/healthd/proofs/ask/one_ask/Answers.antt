@@ -1,5 +1,0 @@
-use Rattle.healthd.proofs.AskLemmas.{one_asked}
-use Rattle.healthd.proofs.ask.one_ask.Goals as goal
-
-pub returns : goal.returns
-returns c = one_asked (record { answer = c.one_answer.ensures; name = c.one_request.ensures.name; either = c.one_request.ensures.either })

@@ -1,0 +1,11 @@
+pub mod AskLemmas
+pub mod Bytes
+pub mod CallLemmas
+pub mod ChunkLemmas
+pub mod ContentLengthLemmas
+pub mod HeadLemmas
+pub mod InputHeadLemmas
+pub mod PieceLemmas
+pub mod ResponseLemmas
+pub mod WalkLemmas
+pub mod WatchTextLemmas

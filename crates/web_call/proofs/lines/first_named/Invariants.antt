@@ -1,0 +1,9 @@
+use Rattle.std.proofs.Common.{◌≡◌, drop, map}
+use Rattle.httparse.specs.Spans.{header_bytes}
+use Rattle.web_call.specs.Lines.{first_named}
+use Rattle.web_call.proofs.lines.first_named.Given as goal
+
+abbrev pub invariant-loop-line : goal.invariant-loop-line
+invariant-loop-line l =
+    first_named l.name (map (header_bytes l.head) (drop l.line-index l.lines))
+    ≡ first_named l.name (map (header_bytes l.head) l.lines)

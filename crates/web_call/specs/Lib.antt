@@ -1,0 +1,17 @@
+pub mod Ask
+pub mod ContentLength
+pub mod ContentType
+pub mod DeskDoor
+pub mod Exchange
+pub mod Faulty
+pub mod Head
+pub mod HeadAnswer
+pub mod InputHead
+pub mod Lines
+pub mod Method
+pub mod Pieces
+pub mod Response
+pub mod Tap
+pub mod Texts
+pub mod Walk
+pub mod Watching

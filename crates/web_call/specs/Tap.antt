@@ -1,0 +1,21 @@
+-- A tap: a reader or a writer, and whether a call through it has failed.
+use Rattle.std.specs.Prelude.{ℕ, ◌==◌, ◌<◌, Bool, true, Option, Result, Ok, Err, List, length}
+use Rattle.std.specs.Io.KnownBytes.{Consumes}
+use Rattle.web_call.specs.declared.tap.Tap.{Tap}
+
+-- the reader or writer behind the tap
+abbrev pub tap_inner : {T : Type 0} → Tap T → T
+tap_inner tap = tap.inner
+
+-- whether a call through the tap has failed
+abbrev pub tap_failed : {T : Type 0} → Tap T → Bool
+tap_failed tap = tap.failed
+
+-- a write that returned an error, or that took no byte
+abbrev pub is_refused : {E : Type 0} → Result ℕ E → Bool
+is_refused (Ok count) = count == 0
+is_refused (Err error) = true
+
+-- known bytes lose a front of fewer bytes than this
+abbrev pub ConsumesFewer : Option (List ℕ) → Option (List ℕ) → ℕ → Type 0
+ConsumesFewer old new count = (front : List ℕ) × (length front < count) × Consumes old new front

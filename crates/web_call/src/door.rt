@@ -1,0 +1,54 @@
+use desk_core::Watch;
+use health_wire::Serving;
+
+/// What an exchange asks for statuses: a catalogue that stays, and a history of the registry that each call may look at anew.
+///
+/// `seen` is the history that it has seen, the newest entry first, and `follows` says how a call may change it. `stays` says
+/// what else of the door every call keeps, so that whoever lends something to a door knows of it afterwards. Each call may wait.
+pub trait Door {
+    ghost use Rattle.std.specs.Prelude.{◌≡◌, ℕ, List};
+    ghost use Rattle.desk_core.specs.declared.entry.Entry.{Entry};
+    ghost use Rattle.desk_core.specs.Catalogue.{slot_of};
+    ghost use Rattle.desk_core.specs.Changes.{changes_of};
+    ghost use Rattle.desk_core.specs.Legal.{IsLegal};
+    ghost use Rattle.desk_core.specs.Status.{shown, status_map};
+    ghost use Rattle.desk_core.specs.Watch.{opened, stepped};
+
+    ghost names: { Self → List (List ℕ) };
+
+    ghost seen: { Self → List Entry };
+
+    ghost follows: { List Entry → List Entry → Type 0 };
+
+    ghost stays: { Self → Self → Type 0 };
+
+    ghost stays_self: { (a : Self) → stays a a };
+
+    ghost stays_on: { (a b c : Self) → stays a b → stays b c → stays a c };
+
+    /// What a Check of the name answers; none for a name that is not registered.
+    fn check(&mut self, name: &str) -> Option<Serving>
+        ensures names { names self.new ≡ names self.old }
+        ensures legal { IsLegal (seen self.new) }
+        ensures follows { follows (seen self.old) (seen self.new) }
+        ensures stays { stays self.old self.new }
+        ensures status { result ≡ status_map (names self.old) (seen self.new) name.now };
+
+    /// What a watcher of the name is shown now, and a watch of what changes from now on.
+    fn open(&mut self, name: &str) -> (Watch, Serving)
+        ensures names { names self.new ≡ names self.old }
+        ensures legal { IsLegal (seen self.new) }
+        ensures follows { follows (seen self.old) (seen self.new) }
+        ensures stays { stays self.old self.new }
+        ensures watch { result.0 ≡ opened (changes_of (seen self.new)) (slot_of (names self.old) name.now) }
+        ensures status { result.1 ≡ shown (seen self.new) (slot_of (names self.old) name.now) };
+
+    /// The next change of the watch's service, if there is one by now.
+    fn step(&mut self, watch: &mut Watch) -> Option<Serving>
+        ensures names { names self.new ≡ names self.old }
+        ensures legal { IsLegal (seen self.new) }
+        ensures follows { follows (seen self.old) (seen self.new) }
+        ensures stays { stays self.old self.new }
+        ensures status { result ≡ (stepped (changes_of (seen self.new)) watch.old).0 }
+        ensures watch { watch.new ≡ (stepped (changes_of (seen self.new)) watch.old).1 };
+}

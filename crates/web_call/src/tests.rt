@@ -1,0 +1,15 @@
+mod answers;
+mod bells;
+mod doors;
+mod exchanging;
+mod heads;
+mod memory;
+mod read_faults;
+mod reading;
+pub(crate) mod requests;
+mod runs;
+pub(crate) mod same;
+mod scarce_exchange;
+mod watching;
+mod write_faults;
+mod writing;

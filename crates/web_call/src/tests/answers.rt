@@ -1,0 +1,109 @@
+//! Responses, each as health-checking.md and PROTOCOL-WEB.md have it.
+
+pub(super) const SERVING: &[u8] = b"HTTP/1.1 200 OK\r\n\
+    connection: close\r\n\
+    content-type: application/grpc-web+proto\r\n\
+    content-length: 27\r\n\
+    \r\n\
+    \x00\x00\x00\x00\x02\x08\x01\
+    \x80\x00\x00\x00\x0fgrpc-status:0\r\n";
+
+pub(super) const NOT_SERVING: &[u8] = b"HTTP/1.1 200 OK\r\n\
+    connection: close\r\n\
+    content-type: application/grpc-web+proto\r\n\
+    content-length: 27\r\n\
+    \r\n\
+    \x00\x00\x00\x00\x02\x08\x02\
+    \x80\x00\x00\x00\x0fgrpc-status:0\r\n";
+
+pub(super) const UNKNOWN_SERVICE: &[u8] = b"HTTP/1.1 200 OK\r\n\
+    connection: close\r\n\
+    content-type: application/grpc-web+proto\r\n\
+    content-length: 50\r\n\
+    \r\n\
+    \x80\x00\x00\x00\x2dgrpc-status:5\r\n\
+    grpc-message:unknown service\r\n";
+
+pub(super) const MALFORMED_REQUEST: &[u8] = b"HTTP/1.1 200 OK\r\n\
+    connection: close\r\n\
+    content-type: application/grpc-web+proto\r\n\
+    content-length: 53\r\n\
+    \r\n\
+    \x80\x00\x00\x00\x30grpc-status:13\r\n\
+    grpc-message:malformed request\r\n";
+
+pub(super) const COMPRESSED_MESSAGE: &[u8] = b"HTTP/1.1 200 OK\r\n\
+    connection: close\r\n\
+    content-type: application/grpc-web+proto\r\n\
+    content-length: 54\r\n\
+    \r\n\
+    \x80\x00\x00\x00\x31grpc-status:12\r\n\
+    grpc-message:compressed message\r\n";
+
+pub(super) const REQUEST_TOO_LARGE: &[u8] = b"HTTP/1.1 200 OK\r\n\
+    connection: close\r\n\
+    content-type: application/grpc-web+proto\r\n\
+    content-length: 52\r\n\
+    \r\n\
+    \x80\x00\x00\x00\x2fgrpc-status:8\r\n\
+    grpc-message:request too large\r\n";
+
+pub(super) const UNKNOWN_METHOD: &[u8] = b"HTTP/1.1 200 OK\r\n\
+    connection: close\r\n\
+    content-type: application/grpc-web+proto\r\n\
+    content-length: 50\r\n\
+    \r\n\
+    \x80\x00\x00\x00\x2dgrpc-status:12\r\n\
+    grpc-message:unknown method\r\n";
+
+pub(super) const BAD_REQUEST: &[u8] =
+    b"HTTP/1.1 400 Bad Request\r\nconnection: close\r\ncontent-length: 0\r\n\r\n";
+
+pub(super) const METHOD_NOT_ALLOWED: &[u8] =
+    b"HTTP/1.1 405 Method Not Allowed\r\nconnection: close\r\nallow: POST\r\ncontent-length: 0\r\n\r\n";
+
+pub(super) const LENGTH_REQUIRED: &[u8] =
+    b"HTTP/1.1 411 Length Required\r\nconnection: close\r\ncontent-length: 0\r\n\r\n";
+
+pub(super) const UNSUPPORTED_MEDIA_TYPE: &[u8] =
+    b"HTTP/1.1 415 Unsupported Media Type\r\nconnection: close\r\ncontent-length: 0\r\n\r\n";
+
+pub(super) const HEAD_TOO_LARGE: &[u8] =
+    b"HTTP/1.1 431 Request Header Fields Too Large\r\nconnection: close\r\ncontent-length: 0\r\n\r\n";
+
+pub(super) const VERSION_NOT_SUPPORTED: &[u8] =
+    b"HTTP/1.1 505 HTTP Version Not Supported\r\nconnection: close\r\ncontent-length: 0\r\n\r\n";
+
+/// A Watch of an unknown service.
+pub(super) const WATCH_OF_UNKNOWN: &[u8] = b"HTTP/1.1 200 OK\r\n\
+    connection: close\r\n\
+    content-type: application/grpc-web+proto\r\n\
+    transfer-encoding: chunked\r\n\
+    \r\n\
+    7\r\n\
+    \x00\x00\x00\x00\x02\x08\x03\r\n\
+    2f\r\n\
+    \x80\x00\x00\x00\x2agrpc-status:14\r\n\
+    grpc-message:watch ended\r\n\
+    \r\n\
+    0\r\n\
+    \r\n";
+
+/// A Watch of a service that is serving, then isn't, and then is.
+pub(super) const WATCH_OF_CHANGES: &[u8] = b"HTTP/1.1 200 OK\r\n\
+    connection: close\r\n\
+    content-type: application/grpc-web+proto\r\n\
+    transfer-encoding: chunked\r\n\
+    \r\n\
+    7\r\n\
+    \x00\x00\x00\x00\x02\x08\x01\r\n\
+    7\r\n\
+    \x00\x00\x00\x00\x02\x08\x02\r\n\
+    7\r\n\
+    \x00\x00\x00\x00\x02\x08\x01\r\n\
+    2f\r\n\
+    \x80\x00\x00\x00\x2agrpc-status:14\r\n\
+    grpc-message:watch ended\r\n\
+    \r\n\
+    0\r\n\
+    \r\n";

@@ -1,0 +1,95 @@
+use std::alloc::{AllocError, Global};
+
+pub(super) const CHECK: &str = "POST /grpc.health.v1.Health/Check HTTP/1.1";
+
+pub(super) const WATCH: &str = "POST /grpc.health.v1.Health/Watch HTTP/1.1";
+
+pub(super) const TYPE: &str = "content-type: application/grpc-web+proto";
+
+/// A Check of the empty name. Its head has 107 bytes.
+pub(super) const CHECK_OF_EMPTY: &[u8] = b"POST /grpc.health.v1.Health/Check HTTP/1.1\r\n\
+    content-type: application/grpc-web+proto\r\n\
+    content-length: 5\r\n\
+    \r\n\
+    \x00\x00\x00\x00\x00";
+
+/// A Check of `zz`, a name that is in no catalogue here.
+pub(super) const CHECK_OF_ZZ: &[u8] = b"POST /grpc.health.v1.Health/Check HTTP/1.1\r\n\
+    content-type: application/grpc-web+proto\r\n\
+    content-length: 9\r\n\
+    \r\n\
+    \x00\x00\x00\x00\x04\x0a\x02zz";
+
+/// A Watch of the empty name. Its head has 107 bytes.
+pub(super) const WATCH_OF_EMPTY: &[u8] = b"POST /grpc.health.v1.Health/Watch HTTP/1.1\r\n\
+    content-type: application/grpc-web+proto\r\n\
+    content-length: 5\r\n\
+    \r\n\
+    \x00\x00\x00\x00\x00";
+
+/// A Watch of `zz`. Its head has 107 bytes.
+pub(super) const WATCH_OF_ZZ: &[u8] = b"POST /grpc.health.v1.Health/Watch HTTP/1.1\r\n\
+    content-type: application/grpc-web+proto\r\n\
+    content-length: 9\r\n\
+    \r\n\
+    \x00\x00\x00\x00\x04\x0a\x02zz";
+
+/// A call of a method that is not served. Its head has 106 bytes.
+pub(super) const LIST: &[u8] = b"POST /grpc.health.v1.Health/List HTTP/1.1\r\n\
+    content-type: application/grpc-web+proto\r\n\
+    content-length: 5\r\n\
+    \r\n\
+    \x00\x00\x00\x00\x00";
+
+/// A Check without a content type.
+pub(super) const CHECK_WITHOUT_TYPE: &[u8] = b"POST /grpc.health.v1.Health/Check HTTP/1.1\r\n\
+    content-length: 5\r\n\
+    \r\n\
+    \x00\x00\x00\x00\x00";
+
+/// A request of this start line, these header lines and this body.
+pub(crate) fn request(
+    alloc: Global,
+    start: &str,
+    lines: &[&str],
+    body: &[u8],
+) -> Result<Vec<u8>, AllocError> {
+    let mut bytes = start.as_bytes().to_vec(alloc)?;
+    for line in lines {
+        bytes.extend_from_slice(b"\r\n")?;
+        bytes.extend_from_slice(line.as_bytes())?;
+    }
+    bytes.extend_from_slice(b"\r\n\r\n")?;
+    bytes.extend_from_slice(body)?;
+    Ok(bytes)
+}
+
+/// These bytes, so many of `a` that with the last ones there are so many in all, and the last ones.
+pub(crate) fn padded(
+    alloc: Global,
+    front: &[u8],
+    size: usize,
+    end: &[u8],
+) -> Result<Vec<u8>, AllocError> {
+    let mut bytes = front.to_vec(alloc)?;
+    for _ in front.len()..size.saturating_sub(end.len()) {
+        bytes.push(b'a')?;
+    }
+    bytes.extend_from_slice(end)?;
+    Ok(bytes)
+}
+
+/// So many header lines, of which these are the first and these the last.
+pub(crate) fn lines(
+    alloc: Global,
+    first: &[&'static str],
+    count: usize,
+    last: &[&'static str],
+) -> Result<Vec<&'static str>, AllocError> {
+    let mut lines = first.to_vec(alloc)?;
+    for _ in first.len()..count.saturating_sub(last.len()) {
+        lines.push("x: y")?;
+    }
+    lines.extend_from_slice(last)?;
+    Ok(lines)
+}
