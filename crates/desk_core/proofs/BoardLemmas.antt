@@ -88,6 +88,13 @@ digit_below word code i d n is =
     ∙ ap (λ k. k % 4) (add-mul-div_right word (code * 4 ^ d * 4) (four_pos i))
     ∙ omega arith
 
+-- a slot's status on a board is that in its lower half
+pub lower_half : (word i : ℕ) → i < 16 → status_in (word % 4294967296) i ≡ status_in word i
+lower_half word i few =
+    let place : 16 ≡ i + suc (15 - i) = omega (arith, few) in
+    let whole : word % 4294967296 + word / 4294967296 * 4294967296 ≡ word = omega arith in
+    ap status_of_code (sym (digit_below (word % 4294967296) (word / 4294967296) i (15 - i) 16 place) ∙ ap (λ w. w / 4 ^ i % 4) whole)
+
 -- the code of each packed status is read back
 packed_digit : (f : ℕ → Option Serving) (n i : ℕ) → i < n → packed f n / 4 ^ i % 4 ≡ code_of (f i)
 unfolding packed

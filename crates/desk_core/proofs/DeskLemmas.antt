@@ -4,7 +4,8 @@ use Rattle.std.specs.Option.{option_map, option_or}
 use Rattle.std.proofs.lemmas.Bool.{eqb-true, eqb-false, eq-eqb, cases_lt}
 use Rattle.std.proofs.lemmas.List.{length-reverse, get_or-set_other}
 use Rattle.std.proofs.lemmas.Nat.Bits.{bit_at-zero, bit_at-pow_same, bit_at_ones, bit_at_above}
-use Rattle.health_wire.specs.declared.serving.Serving.TheVariants.{NotServing, ServiceUnknown}
+use Rattle.health_wire.specs.declared.serving.Serving.{Serving}
+use Rattle.health_wire.specs.declared.serving.Serving.TheVariants.{NotServing, ServiceUnknown, Serving as IsServing}
 use Rattle.probe_core.specs.declared.event.Event.{Event}
 use Rattle.probe_core.specs.declared.rule.Rule.{Rule}
 use Rattle.probe_core.specs.declared.rule.Rule.TheVariants.{Threshold, Manual, Depends}
@@ -31,26 +32,30 @@ use Rattle.desk_core.proofs.StatusLemmas.{status_of_probe, lawful_rule}
 use Rattle.desk_core.proofs.BoardLemmas.{IsKept, status_in_packed}
 use Rattle.desk_core.proofs.ChangeLemmas.{changed_same}
 
--- each status of a history can stand in a word
-pub kept_status : (entries : List Entry) (i : ℕ) → IsKept (status_at entries i)
-kept_status entries i = by_rule (rule_at entries i)
+-- what holds of no status, of serving and of not serving holds of each status of a history
+pub each_status : (P : Option Serving → Type 0) → P None → P (Some IsServing) → P (Some NotServing) → (entries : List Entry) (i : ℕ) → P (status_at entries i)
+each_status P none up down entries i = by_rule (rule_at entries i)
   where
-    by_serving : (b : Bool) → IsKept (Some (serving_if b))
-    by_serving true = refl
-    by_serving false = refl
+    by_serving : (b : Bool) → P (Some (serving_if b))
+    by_serving true = up
+    by_serving false = down
 
-    by_opinion : (events : List Event) (rule : Rule) → IsKept (Some (opinion (all_serving entries i) events rule))
+    by_opinion : (events : List Event) (rule : Rule) → P (Some (opinion (all_serving entries i) events rule))
     by_opinion events (Threshold fall) = by_serving (is_up (Threshold fall) events)
     by_opinion events Manual = by_serving (is_up Manual events)
     by_opinion events (Depends mask) = by_serving (all_serving entries i mask)
 
-    by_shut : (b : Bool) (rule : Rule) → IsKept (Some (if b then NotServing else opinion (all_serving entries i) (heard entries i rule) rule))
-    by_shut true rule = refl
+    by_shut : (b : Bool) (rule : Rule) → P (Some (if b then NotServing else opinion (all_serving entries i) (heard entries i rule) rule))
+    by_shut true rule = down
     by_shut false rule = by_opinion (heard entries i rule) rule
 
-    by_rule : (o : Option Rule) → IsKept (status_by (all_serving entries i) entries i o)
-    by_rule None = refl
+    by_rule : (o : Option Rule) → P (status_by (all_serving entries i) entries i o)
+    by_rule None = none
     by_rule (Some rule) = by_shut (is_shut entries) rule
+
+-- each status of a history can stand in a word
+pub kept_status : (entries : List Entry) (i : ℕ) → IsKept (status_at entries i)
+kept_status entries i = each_status (λ status. IsKept status) refl refl refl entries i
 
 -- a history's statuses are read from its word
 pub read_status : (entries : List Entry) (word i : ℕ) → word ≡ packed (status_at entries) 16 → i < 16 → status_in word i ≡ status_at entries i

@@ -7,6 +7,7 @@ pub mod DeskLemmas
 pub mod HistoryLemmas
 pub mod KeyLemmas
 pub mod LawLemmas
+pub mod ReadingLemmas
 pub mod RefreshLemmas
 pub mod SlotLemmas
 pub mod StatusLemmas

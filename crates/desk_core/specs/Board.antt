@@ -32,3 +32,19 @@ status_in word i = status_of_code (word / 4 ^ i % 4)
 -- the number of entries in the upper half of the word, and the statuses in the lower
 abbrev pub board_of : List Entry → ℕ
 board_of entries = length entries * 2 ^ 32 + packed (status_at entries) 16
+
+-- how many entries a board counts: its upper half
+abbrev pub entries_in : ℕ → ℕ
+entries_in word = word / 2 ^ 32
+
+-- a status, but none for Unknown, which no history gives a slot
+abbrev pub unless_unknown : Option Serving → Option Serving
+unless_unknown None = None
+unless_unknown (Some IsServing) = Some IsServing
+unless_unknown (Some NotServing) = Some NotServing
+unless_unknown (Some Unknown) = None
+unless_unknown (Some ServiceUnknown) = Some ServiceUnknown
+
+-- the status of a slot on a board, whose code 3 stands for none
+abbrev pub status_on : ℕ → ℕ → Option Serving
+status_on word i = unless_unknown (status_in word i)

@@ -240,6 +240,7 @@ impl<P: Probe> Desk<P> {
     pub fn board(&self) -> u64
         ensures word { result ≡ board_of (past self.now.journal) }
         ensures legal { IsLegal (past self.now.journal) }
+        ensures room { length self.now.journal ≤ self.now.max_entries }
     {
         word_of(self.book.journal.len(), self.book.cache.statuses())
     }

@@ -1,6 +1,7 @@
 //! The registry of services: their names, their probes and the journal of all changes.
 #![tactic(auto)]
 
+mod board;
 mod book;
 mod cache;
 mod call;
@@ -22,6 +23,7 @@ mod status;
 mod statuses;
 mod watch;
 
+pub use board::{board_entries, board_status};
 pub use call::{Call, Finding, Setting};
 pub use catalogue::{Catalogue, CatalogueFault};
 pub use change::Change;

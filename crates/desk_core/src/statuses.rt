@@ -22,7 +22,7 @@ impl Model for Statuses {
 }
 
 impl Statuses {
-    ghost use Rattle.std.specs.Prelude.{◌≡◌, ◌<◌, ◌^◌};
+    ghost use Rattle.std.specs.Prelude.{◌≡◌, ◌<◌, ◌%◌, ◌^◌};
     ghost use Rattle.desk_core.specs.Board.{packed, status_in};
     ghost use Rattle.desk_core.specs.Slots.{with_status};
 
@@ -31,6 +31,15 @@ impl Statuses {
         ensures { result ≡ 0 }
     {
         Statuses { word: 0 }
+    }
+
+    /// The statuses in the lower half of a board.
+    pub(crate) fn on_board(word: u64) -> Statuses
+        ensures { result ≡ word % 2 ^ 32 }
+    {
+        Statuses {
+            word: (word % (1 << 32)) as u32,
+        }
     }
 
     pub(crate) fn word(self) -> u32

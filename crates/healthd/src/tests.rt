@@ -2,8 +2,16 @@ use crate::answer::answer_body;
 use crate::fault::Fault;
 use crate::service::{parse_service, parse_services};
 use health_wire::Serving;
-use scarce::Scarcity;
-use std::test::Fail;
+use std::fmt::Debug;
+use std::process::Abort;
+
+pub(crate) mod room;
+pub(crate) mod same;
+pub(crate) mod texts;
+
+use room::{filler, scarcity};
+use same::same;
+use texts::padded;
 
 const SERVING: &[u8] = b"\0\0\0\0\x02\x08\x01\x80\0\0\0\x0fgrpc-status:0\r\n";
 
@@ -47,52 +55,61 @@ const ANSWERS: [(&[u8], &[u8]); 14] = [
     (b"\0\0\0\0\0\0", MALFORMED_REQUEST),
 ];
 
-#[test]
-fn answers_each_body(rt: HostRuntime) -> Result<(), Fail> {
-    let alloc = rt.alloc();
-    let list = parse_services(alloc, &["a=not_serving", "=serving", "b=serving"])?;
-    for (body, expected) in ANSWERS {
-        let answer = answer_body(alloc, &list, body)?;
-        assert_eq!(rt; answer.as_slice(), expected, "to {body:?}");
-    }
-    Ok(())
+fn services(rt: &(impl Abort + AllocGlobal), words: &[&str]) -> Vec<(String, Serving)> {
+    parse_services(rt.alloc(), words)
+        .ok()
+        .expect(rt, "services")
+}
+
+fn expect_answer<A: Debug>(
+    rt: &(impl Abort + AllocGlobal),
+    list: &[(String, Serving)],
+    body: &[u8],
+    expected: &[u8],
+    at: &A,
+) {
+    let answer = answer_body(rt.alloc(), list, body)
+        .ok()
+        .expect(rt, "an answer");
+    same(rt, &answer.as_slice(), &expected, at);
 }
 
 #[test]
-fn refuses_each_cut_body(rt: HostRuntime) -> Result<(), Fail> {
-    let alloc = rt.alloc();
-    let list = parse_services(alloc, &["a=not_serving", "=serving", "b=serving"])?;
+fn answers_each_body(rt: HostRuntime) {
+    let list = services(&rt, &["a=not_serving", "=serving", "b=serving"]);
+    for (body, expected) in &ANSWERS {
+        expect_answer(&rt, &list, *body, *expected, body);
+    }
+}
+
+fn expect_cut(rt: &(impl Abort + AllocGlobal), list: &[(String, Serving)], len: usize) {
+    let cut = TWO_SERVICES.get(..len).expect(rt, "a front");
+    expect_answer(rt, list, cut, MALFORMED_REQUEST, &len);
+}
+
+#[test]
+fn refuses_each_cut_body(rt: HostRuntime) {
+    let list = services(&rt, &["a=not_serving", "=serving", "b=serving"]);
     for len in 0..TWO_SERVICES.len() {
-        let cut = TWO_SERVICES.get(..len).ok_or("a front")?;
-        let answer = answer_body(alloc, &list, cut)?;
-        assert_eq!(rt; answer.as_slice(), MALFORMED_REQUEST, "to {len} bytes");
+        expect_cut(&rt, &list, len);
     }
-    Ok(())
 }
 
 #[test]
-fn refuses_a_body_of_over_8_192_bytes(rt: HostRuntime) -> Result<(), Fail> {
-    let alloc = rt.alloc();
-    let mut body = Vec::from_slice(alloc, b"\0\0\0\x1f\xfb")?;
-    body.resize(8_192, 0x80)?;
-    let answer = answer_body(alloc, &[], &body)?;
-    assert_eq!(rt; answer.as_slice(), MALFORMED_REQUEST);
-    body.push(0)?;
-    let answer = answer_body(alloc, &[], &body)?;
-    assert_eq!(rt; answer.as_slice(), REQUEST_TOO_LARGE);
-    Ok(())
+fn refuses_a_body_of_over_8_192_bytes(rt: HostRuntime) {
+    let mut body = padded(&rt, b"\0\0\0\x1f\xfb", 8_192, 0x80);
+    expect_answer(&rt, &[], &body, MALFORMED_REQUEST, &8_192);
+    assert!(rt; body.push(0).is_ok());
+    expect_answer(&rt, &[], &body, REQUEST_TOO_LARGE, &8_193);
 }
 
 #[test]
-fn answers_from_the_first_pair_with_the_name(rt: HostRuntime) -> Result<(), Fail> {
-    let alloc = rt.alloc();
-    let list = parse_services(alloc, &["=not_serving", "=serving"])?;
-    let answer = answer_body(alloc, &list, b"\0\0\0\0\0")?;
-    assert_eq!(rt; answer.as_slice(), NOT_SERVING);
-    Ok(())
+fn answers_from_the_first_pair_with_the_name(rt: HostRuntime) {
+    let list = services(&rt, &["=not_serving", "=serving"]);
+    expect_answer(&rt, &list, b"\0\0\0\0\0", NOT_SERVING, &"the first pair");
 }
 
-const SERVICE_WORDS: [(&str, Result<(&str, Serving), Fault>); 8] = [
+static SERVICE_WORDS: [(&str, Result<(&str, Serving), Fault>); 8] = [
     ("a=serving", Ok(("a", Serving::Serving))),
     ("a=not_serving", Ok(("a", Serving::NotServing))),
     ("=serving", Ok(("", Serving::Serving))),
@@ -103,37 +120,50 @@ const SERVICE_WORDS: [(&str, Result<(&str, Serving), Fault>); 8] = [
     ("a=serving=", Err(Fault::BadService)),
 ];
 
-#[test]
-fn cuts_a_service_word_at_its_last_equals_sign(rt: HostRuntime) {
-    for (word, expected) in SERVICE_WORDS {
-        match parse_service(rt.alloc(), word) {
-            Ok((name, status)) => {
-                assert_eq!(rt; Ok((name.as_str(), status)), expected, "at {word}");
-            }
-            Err(fault) => assert_eq!(rt; Err(fault), expected, "at {word}"),
-        }
+fn expect_service(
+    rt: &(impl Abort + AllocGlobal),
+    word: &str,
+    expected: Result<(&str, Serving), Fault>,
+) {
+    match parse_service(rt.alloc(), word) {
+        Ok((name, status)) => same(rt, &Ok((name.as_str(), status)), &expected, &word),
+        Err(fault) => same(rt, &Err(fault), &expected, &word),
     }
 }
 
 #[test]
-fn refuses_each_growth_of_an_answer(rt: HostRuntime) -> Result<(), Fail> {
-    let alloc = rt.alloc();
-    let list = parse_services(alloc, &["=serving"])?;
-    let scarcity = Scarcity::new(alloc, 16_384)?;
+fn cuts_a_service_word_at_its_last_equals_sign(rt: HostRuntime) {
+    for (word, expected) in &SERVICE_WORDS {
+        expect_service(&rt, *word, *expected);
+    }
+}
+
+/// Answers a Check of the empty name, and tells whether memory sufficed.
+fn is_answered(rt: &(impl Abort + AllocGlobal), list: &[(String, Serving)]) -> bool {
+    match answer_body(rt.alloc(), list, b"\0\0\0\0\0") {
+        Ok(answer) => {
+            assert!(rt; answer.as_slice() == SERVING);
+            true
+        }
+        Err(_) => false,
+    }
+}
+
+#[test]
+fn refuses_each_growth_of_an_answer(rt: HostRuntime) {
+    let list = services(&rt, &["=serving"]);
+    let scarcity = scarcity(&rt);
     let mut refused = 0u32;
     let mut whole = 0u32;
     for step in 0..512usize {
-        let filler = scarcity.leave(16 * step);
-        assert!(rt; filler.is_ok());
-        match answer_body(alloc, &list, b"\0\0\0\0\0") {
-            Ok(answer) => {
-                assert_eq!(rt; answer.as_slice(), SERVING);
-                whole = whole.wrapping_add(1);
-            }
-            Err(_) => refused = refused.wrapping_add(1),
+        let filler = filler(&rt, &scarcity, step);
+        if is_answered(&rt, &list) {
+            whole = whole.wrapping_add(1);
+        } else {
+            refused = refused.wrapping_add(1);
         }
+        drop(filler);
     }
     assert!(rt; refused > 1);
     assert!(rt; whole > 0);
-    Ok(())
 }

@@ -1,5 +1,7 @@
 use super::*;
-use std::test::Fail;
+use crate::tests::same::same;
+use crate::tests::strings::{expect_text, strings};
+use std::process::Abort;
 
 const NAME_OF_128: &str = "\
     0123456789abcdef0123456789abcdef0123456789abcdef0123456789abcdef\
@@ -9,12 +11,10 @@ const NAME_OF_129: &str = "\
     0123456789abcdef0123456789abcdef0123456789abcdef0123456789abcdef\
     0123456789abcdef0123456789abcdef0123456789abcdef0123456789abcdefX";
 
-fn catalogue_of(alloc: Global, names: &[&str]) -> Result<Result<Catalogue, CatalogueFault>, Fail> {
-    let mut strings = Vec::new(alloc);
-    for name in names {
-        strings.push(String::from_str(alloc, name)?)?;
-    }
-    Ok(Catalogue::new(alloc, strings))
+fn catalogue_of(rt: &(impl Abort + AllocGlobal), names: &[&str]) -> Catalogue {
+    Catalogue::new(rt.alloc(), strings(rt, names))
+        .ok()
+        .expect(rt, "a catalogue")
 }
 
 const REFUSED: [(&[&str], CatalogueFault); 12] = [
@@ -37,13 +37,16 @@ const REFUSED: [(&[&str], CatalogueFault); 12] = [
     (&["a", " "], CatalogueFault::NoEmptyName),
 ];
 
+fn expect_refused(rt: &(impl Abort + AllocGlobal), names: &[&str], expected: CatalogueFault) {
+    let fault = Catalogue::new(rt.alloc(), strings(rt, names)).err();
+    same(rt, &fault, &Some(expected), &names);
+}
+
 #[test]
-fn refuses_names_by_their_first_fault(rt: HostRuntime) -> Result<(), Fail> {
-    for (names, expected) in REFUSED {
-        let fault = catalogue_of(rt.alloc(), names)?.err();
-        assert_eq!(rt; fault, Some(expected), "at {names:?}");
+fn refuses_names_by_their_first_fault(rt: HostRuntime) {
+    for (names, expected) in &REFUSED {
+        expect_refused(&rt, *names, *expected);
     }
-    Ok(())
 }
 
 const LISTED: [&[&str]; 4] = [
@@ -55,31 +58,40 @@ const LISTED: [&[&str]; 4] = [
     ],
 ];
 
-#[test]
-fn gives_each_name_its_place_and_back(rt: HostRuntime) -> Result<(), Fail> {
-    for names in LISTED {
-        let catalogue = catalogue_of(rt.alloc(), names)??;
-        assert_eq!(rt; catalogue.len(), names.len());
-        for (place, name) in (0u8..16).zip(names) {
-            let slot = catalogue.slot(name).ok_or("no slot")?;
-            assert_eq!(rt; slot.number(), place, "of {name}");
-            assert_eq!(rt; catalogue.name(slot).ok_or("no name")?, *name);
-        }
+fn expect_place(rt: &impl Abort, catalogue: &Catalogue, place: u8, name: &str) {
+    let slot = catalogue.slot(name).expect(rt, "a slot");
+    same(rt, &slot.number(), &place, &name);
+    same(rt, &catalogue.name(slot), &Some(name), &place);
+}
+
+fn expect_places(rt: &impl Abort, catalogue: &Catalogue, names: &[&str]) {
+    same(rt, &catalogue.len(), &names.len(), &names);
+    for (place, name) in (0u8..16).zip(names) {
+        expect_place(rt, catalogue, place, *name);
     }
-    Ok(())
 }
 
 #[test]
-fn knows_no_other_name_and_no_other_slot(rt: HostRuntime) -> Result<(), Fail> {
-    let catalogue = catalogue_of(rt.alloc(), &["a", "b", ""])??;
-    for name in ["zz", "A", "a ", NAME_OF_128] {
-        assert_eq!(rt; catalogue.slot(name), None, "of {name}");
+fn gives_each_name_its_place_and_back(rt: HostRuntime) {
+    for names in &LISTED {
+        expect_places(&rt, &catalogue_of(&rt, *names), *names);
+    }
+}
+
+fn expect_no_name(rt: &impl Abort, catalogue: &Catalogue, number: u8) {
+    let slot = Slot::new(number).expect(rt, "a slot");
+    same(rt, &catalogue.name(slot), &None, &number);
+}
+
+#[test]
+fn knows_no_other_name_and_no_other_slot(rt: HostRuntime) {
+    let catalogue = catalogue_of(&rt, &["a", "b", ""]);
+    for name in &["zz", "A", "a ", NAME_OF_128] {
+        same(&rt, &catalogue.slot(*name), &None, name);
     }
     for number in 3..16 {
-        let slot = Slot::new(number).ok_or("no slot")?;
-        assert!(rt; catalogue.name(slot).is_none(), "at {number}");
+        expect_no_name(&rt, &catalogue, number);
     }
-    Ok(())
 }
 
 const FAULTS: [(CatalogueFault, u8, &str); 6] = [
@@ -100,10 +112,9 @@ const FAULTS: [(CatalogueFault, u8, &str); 6] = [
 ];
 
 #[test]
-fn numbers_and_tells_each_fault(rt: HostRuntime) -> Result<(), Fail> {
-    for (fault, number, text) in FAULTS {
-        assert_eq!(rt; fault.number(), number, "of {text}");
-        assert_eq!(rt; fault.to_string(rt.alloc())?.as_str(), text);
+fn numbers_and_tells_each_fault(rt: HostRuntime) {
+    for (fault, number, text) in &FAULTS {
+        same(&rt, &fault.number(), number, text);
+        expect_text(&rt, fault, *text);
     }
-    Ok(())
 }

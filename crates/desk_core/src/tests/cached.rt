@@ -1,105 +1,108 @@
 use super::*;
 
-/// Looks whether what the desk keeps is what computing anew gives.
-fn is_kept_right<P: Probe>(rt: &impl Abort, desk: &Desk<P>, board: u64) {
-    assert_eq!(rt; desk.board(), board);
-    assert_eq!(rt; desk.board_anew(), board);
-}
-
-/// Looks whether the changes from this place on are these slots in their order, at one entry and with one status.
+/// Looks whether the changes from the place `told` on are the slots from `first` to before `end` in their order, at one
+/// entry and with one status.
 fn tells_slots<P: Probe>(
     rt: &impl Abort,
     desk: &Desk<P>,
-    first: usize,
+    told: usize,
     at: u32,
-    slots: u8,
+    first: u8,
+    end: u8,
     status: Serving,
 ) {
-    let told = desk.changes().get(first..).expect(rt, "changes");
-    assert_eq!(rt; told.len(), usize::from(slots));
-    let mut number = 0u8;
-    for change in told {
-        assert_eq!(rt; change.at, at);
-        assert_eq!(rt; change.slot, slot(rt, number));
-        assert_eq!(rt; change.status, status);
-        number = number.wrapping_add(1);
+    let changes = desk.changes().get(told..).expect(rt, "changes");
+    let len = usize::from(end.saturating_sub(first));
+    same(rt, &changes.len(), &len, &at);
+    for (change, number) in changes.iter().zip(first..end) {
+        let slot = slot(rt, number);
+        same(rt, change, &Change { at, slot, status }, &number);
     }
+}
+
+/// A change and the board after it, and the slots whose change it tells: the place of its entry, the first of them,
+/// where they end, and their status.
+type Link = ([Row; 2], u32, u8, u8, Serving);
+
+const CHAIN: [Link; 3] = [
+    (
+        [Row::Change(FAIL, DONE), Row::Board(75_877_755_562)],
+        16,
+        0,
+        16,
+        Serving::NotServing,
+    ),
+    (
+        [
+            Row::Retire(7, DONE, Some(Rule::Depends(64))),
+            Row::Board(80_172_690_090),
+        ],
+        17,
+        7,
+        8,
+        Serving::ServiceUnknown,
+    ),
+    (
+        [Row::Change(Step::Resume, DONE), Row::Board(84_467_651_925)],
+        18,
+        0,
+        7,
+        Serving::Serving,
+    ),
+];
+
+fn expect_link<P: Probe>(rt: &impl Abort, desk: &mut Desk<P>, link: &Link) {
+    let (rows, at, first, end, status) = link;
+    let told = desk.changes().len();
+    expect_rows(rt, desk, rows.as_slice());
+    tells_slots(rt, desk, told, *at, *first, *end, *status);
+}
+
+/// A desk with these probes from the slot 0 on.
+fn desk_of_all<P: Probe>(rt: &impl Abort, alloc: Global, probes: Vec<P>) -> Desk<P> {
+    let mut desk = Desk::new(alloc, 100);
+    for (probe, number) in probes.into_iter().zip(0u8..16) {
+        register(rt, &mut desk, number, probe);
+    }
+    desk
 }
 
 /// Sixteen services in a chain, each of which depends on the one before it.
 fn runs_a_chain<P: Probe>(rt: &impl Abort, alloc: Global, probes: Vec<P>) {
-    let mut desk = Desk::new(alloc, 100);
-    let mut number = 0u8;
-    for probe in probes {
-        assert!(rt; desk.register(0, slot(rt, number), probe).is_ok());
-        assert_eq!(rt; desk.board(), desk.board_anew());
-        number = number.wrapping_add(1);
+    let mut desk = desk_of_all(rt, alloc, probes);
+    for link in &CHAIN {
+        expect_link(rt, &mut desk, link);
     }
-    let told = desk.changes().len();
-    assert_eq!(rt;
-        desk.observe(0, slot(rt, 0), Finding::Fail),
-        Ok(Reply::Done)
-    );
-    tells_slots(rt, &desk, told, 16, 16, Serving::NotServing);
-    is_kept_right(rt, &desk, 75_877_755_562);
-    let told = desk.changes().len();
-    assert!(rt; desk.retire(0, slot(rt, 7)).is_ok());
-    let retired = desk.changes().get(told..).expect(rt, "changes");
-    let wanted = [Change {
-        at: 17,
-        slot: slot(rt, 7),
-        status: Serving::ServiceUnknown,
-    }];
-    assert_eq!(rt; retired, wanted.as_slice());
-    is_kept_right(rt, &desk, 80_172_690_090);
-    let told = desk.changes().len();
-    assert_eq!(rt; desk.resume(0), Ok(Reply::Done));
-    tells_slots(rt, &desk, told, 18, 7, Serving::Serving);
-    is_kept_right(rt, &desk, 84_467_651_925);
 }
 
 #[test]
-fn follows_a_chain_of_sixteen(rt: HostRuntime) -> Result<(), Fail> {
+fn follows_a_chain_of_sixteen(rt: HostRuntime) {
     let alloc = rt.alloc();
     let mut probes: Vec<Box<dyn Probe + Send>> = Vec::new(alloc);
-    probes.push(Box::new(alloc, Threshold::new(1))?)?;
+    push(&rt, &mut probes, boxed(&rt, Threshold::new(1)));
     for number in 0..15u8 {
-        probes.push(Box::new(alloc, Depends::new(1 << number))?)?;
+        push(&rt, &mut probes, boxed(&rt, Depends::new(1 << number)));
     }
     runs_a_chain(&rt, alloc, probes);
-    Ok(())
 }
 
-/// Looks after each change whether what is kept is what computing anew gives.
-fn stays_right<P: Probe>(rt: &impl Abort, alloc: Global, a: P, b: P, c: P, d: P) {
-    let mut desk = desk_of(rt, alloc, 100, a, b, c);
-    is_kept_right(rt, &desk, 12_884_901_909);
-    for finding in [Finding::Fail, Finding::Fail, Finding::Pass] {
-        assert!(rt; desk.observe(0, slot(rt, 0), finding).is_ok());
-        assert_eq!(rt; desk.board(), desk.board_anew());
-    }
-    for setting in [Setting::Down, Setting::Up] {
-        assert!(rt; desk.set(0, slot(rt, 1), setting).is_ok());
-        assert_eq!(rt; desk.board(), desk.board_anew());
-    }
-    assert!(rt; desk.shutdown(0).is_ok());
-    assert_eq!(rt; desk.board(), desk.board_anew());
-    assert!(rt; desk.register(0, slot(rt, 1), d).is_ok());
-    assert_eq!(rt; desk.board(), desk.board_anew());
-    assert!(rt; desk.resume(0).is_ok());
-    assert_eq!(rt; desk.board(), desk.board_anew());
-    assert!(rt; desk.retire(0, slot(rt, 1)).is_ok());
-    assert_eq!(rt; desk.board(), desk.board_anew());
-    assert_eq!(rt; desk.check(None), None);
-}
+static CHANGED: [Row; 7] = [
+    Row::Board(12_884_901_909),
+    Row::Change(FAIL, DONE),
+    Row::Change(FAIL, DONE),
+    Row::Change(PASS, DONE),
+    Row::Change(Step::Set(1, Setting::Down), DONE),
+    Row::Change(Step::Set(1, Setting::Up), DONE),
+    Row::Change(Step::Shutdown, DONE),
+];
+
+static CHANGED_AGAIN: [Row; 3] = [
+    Row::Change(Step::Resume, DONE),
+    Row::Retire(1, DONE, Some(Rule::Depends(1))),
+    Row::Unlisted,
+];
 
 #[test]
-fn keeps_the_statuses_that_computing_anew_gives(rt: HostRuntime) -> Result<(), Fail> {
-    let alloc = rt.alloc();
-    let a: Box<dyn Probe + Send> = Box::new(alloc, Threshold::new(2))?;
-    let b: Box<dyn Probe + Send> = Box::new(alloc, Manual::new())?;
-    let c: Box<dyn Probe + Send> = Box::new(alloc, Depends::new(3))?;
-    let d: Box<dyn Probe + Send> = Box::new(alloc, Depends::new(1))?;
-    stays_right(&rt, alloc, a, b, c, d);
-    Ok(())
+fn keeps_the_statuses_that_computing_anew_gives(rt: HostRuntime) {
+    expect_replaced(&rt, Rule::Depends(1), (&CHANGED, true, &CHANGED_AGAIN));
 }

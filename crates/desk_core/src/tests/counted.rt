@@ -31,46 +31,38 @@ impl Probe for Counted {
     }
 }
 
-#[test]
-fn an_event_that_is_not_heard_reaches_no_probe(rt: HostRuntime) -> Result<(), Fail> {
-    let alloc = rt.alloc();
-    let notes = Arc::new(alloc, AtomicU64::new(0))?;
-    let mut desk = Desk::new(alloc, 5);
+/// Goes through the rows at a desk of 5 entries with a counted probe in the slot 1, which so many events have to reach.
+fn expect_notes(rt: &(impl Abort + AllocGlobal), rows: &[Row], expected: u64) {
+    let notes = counter(rt);
     let probe = Counted {
         manual: Manual::new(),
-        notes: notes.clone()?,
+        notes: share(rt, &notes),
     };
-    assert!(rt; desk.register(0, slot(&rt, 1), probe).is_ok());
-    assert_eq!(rt;
-        desk.observe(0, slot(&rt, 1), Finding::Fail),
-        Ok(Reply::WrongKind)
-    );
-    assert_eq!(rt; desk.shutdown(0), Ok(Reply::Done));
-    assert_eq!(rt;
-        desk.set(0, slot(&rt, 1), Setting::Down),
-        Ok(Reply::Ignored)
-    );
-    assert_eq!(rt; desk.resume(0), Ok(Reply::Done));
-    assert_eq!(rt;
-        desk.set(0, slot(&rt, 1), Setting::Down),
-        Err(Refusal::Full)
-    );
-    assert_eq!(rt; notes.load(Ordering::SeqCst), 0);
-    Ok(())
+    let mut desk = Desk::new(rt.alloc(), 5);
+    register(rt, &mut desk, 1, probe);
+    expect_rows(rt, &mut desk, rows);
+    same(rt, &notes.load(Ordering::SeqCst), &expected, &"the notes");
 }
 
+static NOT_HEARD: [Row; 5] = [
+    Row::Change(Step::Observe(1, Finding::Fail), Ok(Reply::WrongKind)),
+    Row::Change(Step::Shutdown, DONE),
+    Row::Change(Step::Set(1, Setting::Down), Ok(Reply::Ignored)),
+    Row::Change(Step::Resume, DONE),
+    Row::Change(Step::Set(1, Setting::Down), FULL),
+];
+
 #[test]
-fn an_event_that_is_heard_reaches_its_probe_once(rt: HostRuntime) -> Result<(), Fail> {
-    let alloc = rt.alloc();
-    let notes = Arc::new(alloc, AtomicU64::new(0))?;
-    let mut desk = Desk::new(alloc, 5);
-    let probe = Counted {
-        manual: Manual::new(),
-        notes: notes.clone()?,
-    };
-    assert!(rt; desk.register(0, slot(&rt, 1), probe).is_ok());
-    assert_eq!(rt; desk.set(0, slot(&rt, 1), Setting::Down), Ok(Reply::Done));
-    assert_eq!(rt; notes.load(Ordering::SeqCst), 1);
-    assert_eq!(rt; status(&rt, &desk, 1), Some(Serving::NotServing));
-    Ok(())
+fn an_event_that_is_not_heard_reaches_no_probe(rt: HostRuntime) {
+    expect_notes(&rt, &NOT_HEARD, 0);
+}
+
+static HEARD_ONCE: [Row; 2] = [
+    Row::Change(Step::Set(1, Setting::Down), DONE),
+    Row::Status(1, NOT_SERVING),
+];
+
+#[test]
+fn an_event_that_is_heard_reaches_its_probe_once(rt: HostRuntime) {
+    expect_notes(&rt, &HEARD_ONCE, 1);
 }

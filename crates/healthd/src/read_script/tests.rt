@@ -1,8 +1,11 @@
 use super::*;
+use crate::tests::room::{filler, scarcity};
+use crate::tests::same::same;
+use crate::tests::texts::{joined, padded};
 use desk_core::{CatalogueFault, Finding, Setting};
 use probe_core::Rule;
-use scarce::Scarcity;
-use std::test::Fail;
+use std::fmt::Debug;
+use std::process::Abort;
 
 /// What a line says, with its names as texts.
 #[derive(Clone, Copy, Debug, PartialEq)]
@@ -41,7 +44,7 @@ fn said_by(line: &Line) -> Said<'_> {
 }
 
 /// The lines of a script, behind an opening whose slots are 0 for `a`, 1 for `b` and 2 for the empty name, and an opened watch.
-const FORMS: [(&str, Said<'static>); 22] = [
+static FORMS: [(&str, Said<'static>); 22] = [
     (
         "register a threshold 2",
         Said::Register("a", Rule::Threshold(2)),
@@ -87,17 +90,50 @@ const FORMS: [(&str, Said<'static>); 22] = [
     ("board\n", Said::Board),
 ];
 
+fn script_of(rt: &(impl Abort + AllocGlobal), bytes: &[u8], mode: Mode) -> Script {
+    read_script(rt.alloc(), bytes, mode)
+        .ok()
+        .expect(rt, "a script")
+}
+
+fn expect_fault<A: Debug>(
+    rt: &(impl Abort + AllocGlobal),
+    bytes: &[u8],
+    mode: Mode,
+    expected: Option<ScriptFault>,
+    at: &A,
+) {
+    let fault = read_script(rt.alloc(), bytes, mode).err();
+    same(rt, &fault, &expected, at);
+}
+
+/// How many names, entries at most, lines and orders the script has.
+fn sizes(script: &Script) -> (usize, u32, usize, usize) {
+    (
+        script.catalogue().len(),
+        script.max(),
+        script.lines().len(),
+        script.orders().len(),
+    )
+}
+
+fn expect_line(rt: &impl Abort, script: &Script, index: usize, expected: Said, at: &str) {
+    let said = script.lines().get(index).map(said_by);
+    same(rt, &said, &Some(expected), &at);
+}
+
+fn expect_form(rt: &(impl Abort + AllocGlobal), form: &str, expected: Said) {
+    let text = joined(rt, &["catalogue a b -\nmax 100\nopen a\n", form]);
+    let script = script_of(rt, text.as_bytes(), Mode::Replay);
+    same(rt, &script.lines().len(), &2, &form);
+    expect_line(rt, &script, 1, expected, form);
+}
+
 #[test]
-fn reads_each_form_of_a_line(rt: HostRuntime) -> Result<(), Fail> {
-    let alloc = rt.alloc();
-    for (form, expected) in FORMS {
-        let text = format!(in alloc; "catalogue a b -\nmax 100\nopen a\n{form}")?;
-        let script = read_script(alloc, text.as_bytes(), Mode::Replay)?;
-        let said = script.lines().get(1).map(said_by);
-        assert_eq!(rt; script.lines().len(), 2, "at {form}");
-        assert_eq!(rt; said, Some(expected), "at {form}");
+fn reads_each_form_of_a_line(rt: HostRuntime) {
+    for (form, expected) in &FORMS {
+        expect_form(&rt, *form, *expected);
     }
-    Ok(())
 }
 
 /// What is bad as the fourth line, behind an opened watch.
@@ -137,15 +173,20 @@ const BAD_LINES: [&str; 33] = [
     "catalogue a b -",
 ];
 
+fn expect_bad(rt: &(impl Abort + AllocGlobal), line: &str) {
+    let text = joined(
+        rt,
+        &["catalogue a b -\nmax 100\nopen a\n", line, "\nbad too"],
+    );
+    let fault = Some(ScriptFault::BadLine(4));
+    expect_fault(rt, text.as_bytes(), Mode::Replay, fault, &line);
+}
+
 #[test]
-fn refuses_each_bad_line(rt: HostRuntime) -> Result<(), Fail> {
-    let alloc = rt.alloc();
-    for line in BAD_LINES {
-        let text = format!(in alloc; "catalogue a b -\nmax 100\nopen a\n{line}\nbad too")?;
-        let fault = read_script(alloc, text.as_bytes(), Mode::Replay).err();
-        assert_eq!(rt; fault, Some(ScriptFault::BadLine(4)), "at {line}");
+fn refuses_each_bad_line(rt: HostRuntime) {
+    for line in &BAD_LINES {
+        expect_bad(&rt, *line);
     }
-    Ok(())
 }
 
 const NAME_OF_128: &str = "\
@@ -197,39 +238,30 @@ const OPENINGS: [(&str, ScriptFault); 24] = [
 
 #[test]
 fn refuses_a_bad_opening(rt: HostRuntime) {
-    for (text, expected) in OPENINGS {
-        let fault = read_script(rt.alloc(), text.as_bytes(), Mode::Replay).err();
-        assert_eq!(rt; fault, Some(expected), "at {text}");
-        let fault = read_script(rt.alloc(), text.as_bytes(), Mode::Serve).err();
-        assert_eq!(rt; fault, Some(expected), "at {text}");
+    for (text, fault) in &OPENINGS {
+        expect_fault(&rt, text.as_bytes(), Mode::Replay, Some(*fault), text);
+        expect_fault(&rt, text.as_bytes(), Mode::Serve, Some(*fault), text);
     }
 }
 
 #[test]
-fn refuses_a_name_of_over_128_bytes(rt: HostRuntime) -> Result<(), Fail> {
-    let alloc = rt.alloc();
-    let text = format!(in alloc; "catalogue {NAME_OF_128} -\nmax 1")?;
-    assert!(rt; read_script(alloc, text.as_bytes(), Mode::Replay).is_ok());
-    let text = format!(in alloc; "catalogue {NAME_OF_128}x -\nmax 1")?;
-    let fault = read_script(alloc, text.as_bytes(), Mode::Replay).err();
-    assert_eq!(rt;
-        fault,
-        Some(ScriptFault::Catalogue(CatalogueFault::TooLong))
-    );
-    Ok(())
+fn refuses_a_name_of_over_128_bytes(rt: HostRuntime) {
+    let text = joined(&rt, &["catalogue ", NAME_OF_128, " -\nmax 1"]);
+    expect_fault(&rt, text.as_bytes(), Mode::Replay, None, &128);
+    let text = joined(&rt, &["catalogue ", NAME_OF_128, "x -\nmax 1"]);
+    let fault = ScriptFault::Catalogue(CatalogueFault::TooLong);
+    expect_fault(&rt, text.as_bytes(), Mode::Replay, Some(fault), &129);
 }
 
+const LARGEST: &[u8] =
+    b"\n\ncatalogue a b c d e f g h i j k l m n o -\n\nmax 4294967295\n\nregister a depends - a\n";
+
 #[test]
-fn takes_sixteen_names_and_the_largest_numbers(rt: HostRuntime) -> Result<(), Fail> {
-    let text =
-        b"\n\ncatalogue a b c d e f g h i j k l m n o -\n\nmax 4294967295\n\nregister a depends - a\n";
-    let script = read_script(rt.alloc(), text, Mode::Replay)?;
-    assert_eq!(rt; script.catalogue().len(), 16);
-    assert_eq!(rt; script.max(), 4_294_967_295);
-    assert_eq!(rt; script.lines().len(), 1);
-    let said = script.lines().get(0).map(said_by);
-    assert_eq!(rt; said, Some(Said::Register("a", Rule::Depends(0x8001))));
-    Ok(())
+fn takes_sixteen_names_and_the_largest_numbers(rt: HostRuntime) {
+    let script = script_of(&rt, LARGEST, Mode::Replay);
+    same(&rt, &sizes(&script), &(16, 4_294_967_295, 1, 0), &LARGEST);
+    let said = Said::Register("a", Rule::Depends(0x8001));
+    expect_line(&rt, &script, 0, said, "the largest numbers");
 }
 
 const REPLAYED: &[u8] =
@@ -237,13 +269,9 @@ const REPLAYED: &[u8] =
     fail a\npass a\nfail a\ncheck a\nfail a\ncheck a\ncheck -\ncheck zz\nopen zz\nstep 0\nboard\n";
 
 #[test]
-fn reads_a_script_to_replay(rt: HostRuntime) -> Result<(), Fail> {
-    let script = read_script(rt.alloc(), REPLAYED, Mode::Replay)?;
-    assert_eq!(rt; script.catalogue().len(), 3);
-    assert_eq!(rt; script.max(), 100);
-    assert_eq!(rt; script.lines().len(), 14);
-    assert_eq!(rt; script.orders().len(), 0);
-    Ok(())
+fn reads_a_script_to_replay(rt: HostRuntime) {
+    let script = script_of(&rt, REPLAYED, Mode::Replay);
+    same(&rt, &sizes(&script), &(3, 100, 14, 0), &REPLAYED);
 }
 
 const SERVED: &[u8] =
@@ -256,16 +284,18 @@ const SERVED_ORDERS: [Said<'static>; 4] = [
     Said::Resume,
 ];
 
+fn expect_order(rt: &impl Abort, script: &Script, index: usize, expected: Said) {
+    let said = script.orders().get(index).map(said_by_order);
+    same(rt, &said, &Some(expected), &index);
+}
+
 #[test]
-fn reads_a_script_to_serve(rt: HostRuntime) -> Result<(), Fail> {
-    let script = read_script(rt.alloc(), SERVED, Mode::Serve)?;
-    assert_eq!(rt; script.lines().len(), 3);
-    assert_eq!(rt; script.orders().len(), 4);
-    for (i, expected) in SERVED_ORDERS.iter().enumerate() {
-        let said = script.orders().get(i).map(said_by_order);
-        assert_eq!(rt; said, Some(*expected), "at {i}");
+fn reads_a_script_to_serve(rt: HostRuntime) {
+    let script = script_of(&rt, SERVED, Mode::Serve);
+    same(&rt, &sizes(&script), &(2, 9, 3, 4), &SERVED);
+    for (index, expected) in SERVED_ORDERS.iter().enumerate() {
+        expect_order(&rt, &script, index, *expected);
     }
-    Ok(())
 }
 
 /// What a served script has behind its opening, and the line that is bad, if there is one.
@@ -288,68 +318,74 @@ const BODIES: [(&str, Option<u32>); 16] = [
     ("go\nup  a", Some(4)),
 ];
 
+fn expect_body(rt: &(impl Abort + AllocGlobal), body: &str, bad: Option<u32>) {
+    let text = joined(rt, &["catalogue a -\nmax 9\n", body]);
+    let fault = bad.map(ScriptFault::BadLine);
+    expect_fault(rt, text.as_bytes(), Mode::Serve, fault, &body);
+}
+
 #[test]
-fn takes_orders_alone_behind_go(rt: HostRuntime) -> Result<(), Fail> {
-    let alloc = rt.alloc();
-    for (body, bad) in BODIES {
-        let text = format!(in alloc; "catalogue a -\nmax 9\n{body}")?;
-        let fault = read_script(alloc, text.as_bytes(), Mode::Serve).err();
-        assert_eq!(rt; fault, bad.map(ScriptFault::BadLine), "at {body}");
+fn takes_orders_alone_behind_go(rt: HostRuntime) {
+    for (body, bad) in &BODIES {
+        expect_body(&rt, *body, *bad);
     }
-    Ok(())
+}
+
+/// Bytes of the largest size have this fault, or none, and those with one more are too long.
+fn expect_longest(
+    rt: &(impl Abort + AllocGlobal),
+    front: &[u8],
+    byte: u8,
+    fault: Option<ScriptFault>,
+) {
+    let mut bytes = padded(rt, front, 65_536, byte);
+    expect_fault(rt, &bytes, Mode::Replay, fault, &65_536);
+    assert!(rt; bytes.push(byte).is_ok());
+    let fault = Some(ScriptFault::TooLong);
+    expect_fault(rt, &bytes, Mode::Replay, fault, &65_537);
 }
 
 #[test]
-fn takes_65_536_bytes_and_no_more(rt: HostRuntime) -> Result<(), Fail> {
-    let alloc = rt.alloc();
-    let mut bytes = Vec::from_slice(alloc, b"catalogue -\nmax 1")?;
-    bytes.resize(65_536, b'\n')?;
-    assert!(rt; read_script(alloc, &bytes, Mode::Replay).is_ok());
-    bytes.push(b'\n')?;
-    let fault = read_script(alloc, &bytes, Mode::Replay).err();
-    assert_eq!(rt; fault, Some(ScriptFault::TooLong));
-    Ok(())
+fn takes_65_536_bytes_and_no_more(rt: HostRuntime) {
+    expect_longest(&rt, b"catalogue -\nmax 1", b'\n', None);
 }
 
 #[test]
-fn takes_text_alone(rt: HostRuntime) -> Result<(), Fail> {
-    let alloc = rt.alloc();
-    let fault = read_script(alloc, b"\xff", Mode::Replay).err();
-    assert_eq!(rt; fault, Some(ScriptFault::NotText));
-    let fault = read_script(alloc, b"bad\n\xff", Mode::Serve).err();
-    assert_eq!(rt; fault, Some(ScriptFault::NotText));
-    let mut bytes = Vec::new(alloc);
-    bytes.resize(65_536, b'\xff')?;
-    let fault = read_script(alloc, &bytes, Mode::Replay).err();
-    assert_eq!(rt; fault, Some(ScriptFault::NotText));
-    bytes.push(b'\xff')?;
-    let fault = read_script(alloc, &bytes, Mode::Replay).err();
-    assert_eq!(rt; fault, Some(ScriptFault::TooLong));
-    Ok(())
+fn takes_text_alone(rt: HostRuntime) {
+    let fault = Some(ScriptFault::NotText);
+    expect_fault(&rt, b"\xff", Mode::Replay, fault, &"the first byte");
+    expect_fault(&rt, b"bad\n\xff", Mode::Serve, fault, &"the second line");
+    expect_longest(&rt, b"", b'\xff', fault);
+}
+
+/// Reads the script to serve, and tells whether memory sufficed.
+fn is_read(rt: &(impl Abort + AllocGlobal)) -> bool {
+    match read_script(rt.alloc(), SERVED, Mode::Serve) {
+        Ok(script) => {
+            assert!(rt; script.lines().len() == 3 && script.orders().len() == 4);
+            true
+        }
+        Err(fault) => {
+            assert!(rt; fault == ScriptFault::NoMemory);
+            false
+        }
+    }
 }
 
 #[test]
-fn refuses_each_growth(rt: HostRuntime) -> Result<(), Fail> {
-    let alloc = rt.alloc();
-    let scarcity = Scarcity::new(alloc, 16_384)?;
+fn refuses_each_growth(rt: HostRuntime) {
+    let scarcity = scarcity(&rt);
     let mut refused = 0u32;
     let mut whole = 0u32;
     for step in 0..512usize {
-        let filler = scarcity.leave(16 * step);
-        assert!(rt; filler.is_ok());
-        match read_script(alloc, SERVED, Mode::Serve) {
-            Ok(script) => {
-                assert!(rt; script.lines().len() == 3);
-                assert!(rt; script.orders().len() == 4);
-                whole = whole.wrapping_add(1);
-            }
-            Err(fault) => {
-                assert!(rt; fault == ScriptFault::NoMemory);
-                refused = refused.wrapping_add(1);
-            }
+        let filler = filler(&rt, &scarcity, step);
+        if is_read(&rt) {
+            whole = whole.wrapping_add(1);
+        } else {
+            refused = refused.wrapping_add(1);
         }
+        drop(filler);
     }
     assert!(rt; refused > 3);
     assert!(rt; whole > 0);
-    Ok(())
 }

@@ -1,7 +1,10 @@
 use super::*;
 use crate::script_fault::ScriptFault;
+use crate::tests::same::same;
+use crate::tests::texts::padded;
 use desk_core::CatalogueFault;
-use std::test::Fail;
+use std::fmt::Display;
+use std::process::Abort;
 
 const SCRIPT: &str = "catalogue a b -
 max 100
@@ -38,10 +41,9 @@ none
 ";
 
 #[test]
-fn makes_a_probe_of_each_kind(rt: HostRuntime) -> Result<(), Fail> {
+fn makes_a_probe_of_each_kind(rt: HostRuntime) {
     let output = replay(rt.alloc(), SCRIPT.as_bytes());
     assert!(rt; output.is_ok_and(|output| output.as_slice() == OUTPUT.as_bytes()));
-    Ok(())
 }
 
 /// What ends a run, and its text on standard error behind the program's name.
@@ -70,24 +72,23 @@ const FAULTS: [(&[u8], ScriptFault, &str); 6] = [
     ),
 ];
 
+fn expect_end(rt: &(impl Abort + AllocGlobal), bytes: &[u8], fault: ScriptFault) {
+    let ended = replay(rt.alloc(), bytes).err();
+    same(rt, &ended, &Some(Fault::Script(fault)), &bytes.len());
+}
+
+fn expect_text<F: Display>(rt: &(impl Abort + AllocGlobal), fault: &F, text: &str) {
+    let told = format!(in rt.alloc(); "{fault}").ok().expect(rt, "a text");
+    same(rt, &told.as_str(), &text, &"the text");
+}
+
 #[test]
-fn tells_why_bytes_are_no_script(rt: HostRuntime) -> Result<(), Fail> {
-    let alloc = rt.alloc();
-    for (bytes, fault, text) in FAULTS {
-        let ended = replay(alloc, bytes).err();
-        assert_eq!(rt; ended, Some(Fault::Script(fault)));
-        let told = format!(in alloc; "{}", Fault::Script(fault))?;
-        assert_eq!(rt; told.as_str(), text);
+fn tells_why_bytes_are_no_script(rt: HostRuntime) {
+    for (bytes, fault, text) in &FAULTS {
+        expect_end(&rt, *bytes, *fault);
+        expect_text(&rt, &Fault::Script(*fault), *text);
     }
-    let mut long = Vec::new(alloc);
-    for _ in 0..65_537u32 {
-        long.push(b' ')?;
-    }
-    assert_eq!(rt;
-        replay(alloc, &long).err(),
-        Some(Fault::Script(ScriptFault::TooLong))
-    );
-    let told = format!(in alloc; "{}", ScriptFault::TooLong)?;
-    assert_eq!(rt; told.as_str(), "script too long");
-    Ok(())
+    let long = padded(&rt, b"", 65_537, b' ');
+    expect_end(&rt, &long, ScriptFault::TooLong);
+    expect_text(&rt, &ScriptFault::TooLong, "script too long");
 }

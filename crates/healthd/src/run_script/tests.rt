@@ -1,16 +1,16 @@
 use super::*;
 use crate::read_script::read_script;
 use crate::script::Mode;
-use crate::script_fault::ScriptFault;
+use crate::tests::same::same;
 use probe_core::{Depends, Manual, Rule, Threshold};
-use std::test::Fail;
+use std::process::Abort;
 
 mod memory;
 
 /// The first two lines of a script, and its others with what each prints.
 type Run = (&'static str, &'static [(&'static str, &'static str)]);
 
-const RUNS: [Run; 8] = [
+static RUNS: [Run; 8] = [
     (
         "catalogue a b -\nmax 100\n",
         &[
@@ -144,46 +144,68 @@ const RUNS: [Run; 8] = [
     ),
 ];
 
-fn script_of(alloc: Global, opening: &str, lines: &[(&str, &str)]) -> Result<Script, ScriptFault> {
-    let mut text = String::from_str(alloc, opening)?;
+fn script_of(rt: &(impl Abort + AllocGlobal), opening: &str, lines: &[(&str, &str)]) -> Script {
+    let mut text = String::from_str(rt.alloc(), opening)
+        .ok()
+        .expect(rt, "a text");
     for (line, _) in lines {
-        text.push_str(line)?;
-        text.push('\n')?;
+        assert!(rt; text.push_str(line).is_ok() && text.push('\n').is_ok());
     }
-    read_script(alloc, text.as_bytes(), Mode::Replay)
+    read_script(rt.alloc(), text.as_bytes(), Mode::Replay)
+        .ok()
+        .expect(rt, "a script")
 }
 
 /// What a run is to print, in one text.
-fn text_of(alloc: Global, lines: &[(&str, &str)]) -> Result<String, AllocError> {
-    let mut text = String::new(alloc);
+fn text_of(rt: &(impl Abort + AllocGlobal), lines: &[(&str, &str)]) -> String {
+    let mut text = String::new(rt.alloc());
     for (_, printed) in lines {
-        writeln!(text, "{printed}")?;
+        assert!(rt; text.push_str(printed).is_ok() && text.push('\n').is_ok());
     }
-    Ok(text)
+    text
+}
+
+fn boxed<P: Probe>(rt: &(impl Abort + AllocGlobal), probe: P) -> Box<P> {
+    Box::new(rt.alloc(), probe).ok().expect(rt, "a box")
+}
+
+fn push<T: Drop>(rt: &impl Abort, list: &mut Vec<T>, value: T) {
+    assert!(rt; list.push(value).is_ok());
+}
+
+fn expect_output<P: Probe>(
+    rt: &(impl Abort + AllocGlobal),
+    script: Script,
+    probes: Vec<P>,
+    expected: &str,
+) {
+    assert!(rt; probes.len() == registers(script.lines()));
+    let output = run_script(rt.alloc(), script, probes)
+        .ok()
+        .expect(rt, "an output");
+    let printed = str::from_utf8(output.as_slice());
+    same(rt, &printed, &Ok(expected), &"the output");
+}
+
+fn expect_run(rt: &(impl Abort + AllocGlobal), opening: &str, lines: &[(&str, &str)]) {
+    let script = script_of(rt, opening, lines);
+    let mut probes: Vec<Box<dyn Probe + Send>> = Vec::new(rt.alloc());
+    for line in script.lines() {
+        if let Line::Register(_, rule) = line {
+            let probe: Box<dyn Probe + Send> = match rule {
+                Rule::Threshold(fall) => boxed(rt, Threshold::new(*fall)),
+                Rule::Manual => boxed(rt, Manual::new()),
+                Rule::Depends(mask) => boxed(rt, Depends::new(*mask)),
+            };
+            push(rt, &mut probes, probe);
+        }
+    }
+    expect_output(rt, script, probes, &text_of(rt, lines));
 }
 
 #[test]
-fn prints_what_each_line_comes_to(rt: HostRuntime) -> Result<(), Fail> {
-    let alloc = rt.alloc();
-    for (opening, lines) in RUNS {
-        let script = script_of(alloc, opening, lines)
-            .ok()
-            .expect(&rt, "a script");
-        let mut probes: Vec<Box<dyn Probe + Send>> = Vec::new(alloc);
-        for line in script.lines() {
-            if let Line::Register(_, rule) = line {
-                let probe: Box<dyn Probe + Send> = match rule {
-                    Rule::Threshold(fall) => Box::new(alloc, Threshold::new(*fall))?,
-                    Rule::Manual => Box::new(alloc, Manual::new())?,
-                    Rule::Depends(mask) => Box::new(alloc, Depends::new(*mask))?,
-                };
-                probes.push(probe)?;
-            }
-        }
-        assert!(rt; probes.len() == registers(script.lines()));
-        let output = run_script(alloc, script, probes)?;
-        let expected = text_of(alloc, lines)?;
-        assert_eq!(rt; str::from_utf8(output.as_slice()), Ok(expected.as_str()));
+fn prints_what_each_line_comes_to(rt: HostRuntime) {
+    for (opening, lines) in &RUNS {
+        expect_run(&rt, *opening, *lines);
     }
-    Ok(())
 }

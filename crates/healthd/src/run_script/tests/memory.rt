@@ -1,6 +1,5 @@
 use super::*;
-use scarce::Scarcity;
-use std::process::Abort;
+use crate::tests::room::{filler, scarcity};
 
 const LINES: [(&str, &str); 4] = [
     ("register a manual", "done"),
@@ -25,43 +24,72 @@ fn is_taken(rt: &impl Abort, output: &[u8], index: usize) -> bool {
     is_taken
 }
 
-#[test]
-fn goes_on_after_each_refused_growth(rt: HostRuntime) -> Result<(), Fail> {
-    let alloc = rt.alloc();
-    let mut runs = Vec::with_capacity(alloc, 512)?;
-    for _ in 0..512u32 {
-        let script = script_of(alloc, "catalogue a b -\nmax 100\n", &LINES)
-            .ok()
-            .expect(&rt, "a script");
-        let mut probes = Vec::new(alloc);
-        probes.push(Manual::new())?;
-        probes.push(Manual::new())?;
-        runs.push((script, probes))?;
+type Ready = (Script, Vec<Manual>);
+
+fn run_of(rt: &(impl Abort + AllocGlobal)) -> Ready {
+    let script = script_of(rt, "catalogue a b -\nmax 100\n", &LINES);
+    let mut probes = Vec::new(rt.alloc());
+    push(rt, &mut probes, Manual::new());
+    push(rt, &mut probes, Manual::new());
+    (script, probes)
+}
+
+fn runs(rt: &(impl Abort + AllocGlobal), count: usize) -> Vec<Ready> {
+    let mut runs = Vec::with_capacity(rt.alloc(), count)
+        .ok()
+        .expect(rt, "runs");
+    for _ in 0..count {
+        push(rt, &mut runs, run_of(rt));
     }
-    let scarcity = Scarcity::new(alloc, 16_384)?;
+    runs
+}
+
+/// What want of memory left of a run: no output, one in which a registration is refused, or the whole.
+#[derive(Clone, Copy, PartialEq, Eq)]
+enum Left {
+    Nothing,
+    Part,
+    Whole,
+}
+
+fn left_in(rt: &impl Abort, output: &[u8]) -> Left {
+    let first = is_taken(rt, output, 0);
+    let second = is_taken(rt, output, 1);
+    assert!(rt; line_at(output, 4).is_empty());
+    if first && second {
+        Left::Whole
+    } else {
+        Left::Part
+    }
+}
+
+fn left_of(rt: &(impl Abort + AllocGlobal), run: Ready) -> Left {
+    let (script, probes) = run;
+    assert!(rt; probes.len() == registers(script.lines()));
+    match run_script(rt.alloc(), script, probes) {
+        Ok(output) => left_in(rt, output.as_slice()),
+        Err(_) => Left::Nothing,
+    }
+}
+
+#[test]
+fn goes_on_after_each_refused_growth(rt: HostRuntime) {
+    let mut runs = runs(&rt, 512);
+    let scarcity = scarcity(&rt);
     let mut absent = 0u32;
     let mut refused = 0u32;
     let mut whole = 0u32;
-    for (step, (script, probes)) in runs.into_iter().enumerate() {
-        let filler = scarcity.leave(16 * step);
-        assert!(rt; filler.is_ok());
-        assert!(rt; probes.len() == registers(script.lines()));
-        match run_script(alloc, script, probes) {
-            Ok(output) => {
-                let first = is_taken(&rt, output.as_slice(), 0);
-                let second = is_taken(&rt, output.as_slice(), 1);
-                assert!(rt; line_at(output.as_slice(), 4).is_empty());
-                if first && second {
-                    whole = whole.wrapping_add(1);
-                } else {
-                    refused = refused.wrapping_add(1);
-                }
-            }
-            Err(_) => absent = absent.wrapping_add(1),
+    for step in 0..512usize {
+        let run = runs.pop().expect(&rt, "a run");
+        let filler = filler(&rt, &scarcity, step);
+        match left_of(&rt, run) {
+            Left::Nothing => absent = absent.wrapping_add(1),
+            Left::Part => refused = refused.wrapping_add(1),
+            Left::Whole => whole = whole.wrapping_add(1),
         }
+        drop(filler);
     }
     assert!(rt; absent > 0);
     assert!(rt; refused > 0);
     assert!(rt; whole > 0);
-    Ok(())
 }

@@ -1,0 +1,22 @@
+-- Why a crew has no report.
+use Rattle.std.specs.Prelude.{ℕ, List, codes}
+use Rattle.crew.specs.declared.crew_why.CrewWhy.{CrewWhy}
+use Rattle.crew.specs.declared.crew_why.CrewWhy.TheVariants.{NoWorkers, NoSeats, Stranger, Doubled, Lost, NoMemory}
+
+-- the number of a reason
+abbrev pub why_number : CrewWhy → ℕ
+why_number NoWorkers = 1
+why_number NoSeats = 2
+why_number Stranger = 3
+why_number Doubled = 4
+why_number Lost = 5
+why_number NoMemory = 6
+
+-- the text of a reason
+abbrev pub why_text : CrewWhy → List ℕ
+why_text NoWorkers = codes "there are no workers"
+why_text NoSeats = codes "there are too few seats"
+why_text Stranger = codes "a report has the number of no call"
+why_text Doubled = codes "a call was reported twice"
+why_text Lost = codes "a call was not reported"
+why_text NoMemory = codes "out of memory"

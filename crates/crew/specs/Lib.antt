@@ -1,0 +1,6 @@
+pub mod CrewWhy
+pub mod Gather
+pub mod Noting
+pub mod Ring
+pub mod Seats
+pub mod HallDoor

@@ -1,0 +1,54 @@
+use std::error::Error;
+use std::fmt;
+
+/// Why a crew has no report.
+#[derive(Clone, Copy, Debug, PartialEq, Eq, Hash)]
+pub enum CrewWhy {
+    /// There are no workers.
+    NoWorkers = 1,
+    /// There are fewer seats than workers and lists of orders.
+    NoSeats = 2,
+    /// A call was reported by a number that none of the calls has.
+    Stranger = 3,
+    /// A call was reported twice.
+    Doubled = 4,
+    /// A call was not reported.
+    Lost = 5,
+    /// Memory ran out.
+    NoMemory = 6,
+}
+
+impl CrewWhy {
+    ghost use Rattle.std.specs.Prelude.{◌≡◌};
+    ghost use Rattle.crew.specs.CrewWhy.{why_number};
+
+    /// The number that programs print.
+    pub fn number(self) -> u8
+        ensures { result ≡ why_number self }
+    {
+        self as u8
+    }
+}
+
+impl fmt::Display for CrewWhy {
+    ghost use Rattle.std.specs.Prelude.{Some};
+    ghost use Rattle.crew.specs.CrewWhy.{why_text};
+
+    ghost output = { λ why. Some (why_text why) };
+
+    fn fmt<W: fmt::Write>(&self, f: &mut fmt::Formatter<W>) -> fmt::Result {
+        f.write_str(match self {
+            CrewWhy::NoWorkers => "there are no workers",
+            CrewWhy::NoSeats => "there are too few seats",
+            CrewWhy::Stranger => "a report has the number of no call",
+            CrewWhy::Doubled => "a call was reported twice",
+            CrewWhy::Lost => "a call was not reported",
+            CrewWhy::NoMemory => "out of memory",
+        })
+    }
+}
+
+impl Error for CrewWhy {}
+
+#[cfg(test)]
+mod tests;

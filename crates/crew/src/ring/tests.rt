@@ -1,0 +1,106 @@
+use super::*;
+use std::process::Abort;
+use std::thread;
+use std::thread::Threads;
+
+/// Waits so often as there are turns expected.
+fn expect_turns<B: Bell>(rt: &impl Abort, bell: &mut B, expected: &[Turn]) {
+    for turn in expected {
+        assert!(rt; bell.wait() == *turn, "not {turn:?} of {expected:?}");
+    }
+}
+
+#[test]
+fn gives_a_look_for_each_ring_from_then_on(rt: HostRuntime) {
+    let ring = Ring::new();
+    ring.ring(&rt);
+    let mut bell = ring.bell(&rt);
+    ring.ring(&rt);
+    ring.ring(&rt);
+    ring.end(&rt);
+    expect_turns(
+        &rt,
+        &mut bell,
+        &[Turn::Look, Turn::Look, Turn::End, Turn::End],
+    );
+}
+
+#[test]
+fn counts_no_ring_after_the_end(rt: HostRuntime) {
+    let ring = Ring::new();
+    let mut bell = ring.bell(&rt);
+    ring.ring(&rt);
+    ring.end(&rt);
+    ring.ring(&rt);
+    ring.end(&rt);
+    expect_turns(&rt, &mut bell, &[Turn::Look, Turn::End, Turn::End]);
+    let mut later = ring.bell(&rt);
+    expect_turns(&rt, &mut later, &[Turn::End, Turn::End]);
+}
+
+#[test]
+fn gives_each_bell_its_own_looks(rt: HostRuntime) {
+    let ring = Ring::new();
+    let mut first = ring.bell(&rt);
+    ring.ring(&rt);
+    let mut second = ring.bell(&rt);
+    ring.ring(&rt);
+    expect_turns(&rt, &mut first, &[Turn::Look, Turn::Look]);
+    expect_turns(&rt, &mut second, &[Turn::Look]);
+    ring.end(&rt);
+    expect_turns(&rt, &mut first, &[Turn::End]);
+    expect_turns(&rt, &mut second, &[Turn::End]);
+}
+
+#[test]
+fn counts_as_far_as_there_are_numbers(rt: HostRuntime) {
+    let ring = Ring {
+        rung: Mutex::new(Rung {
+            rings: u64::MAX - 1,
+            ended: false,
+        }),
+        changed: Condvar::new(),
+    };
+    let mut bell = ring.bell(&rt);
+    ring.ring(&rt);
+    ring.ring(&rt);
+    ring.end(&rt);
+    expect_turns(&rt, &mut bell, &[Turn::Look, Turn::End]);
+}
+
+/// Counts the Looks of a bell up to its End, or up to the most.
+fn count_looks<B: Bell + Drop>(mut bell: B, most: u32) -> u32 {
+    for looks in 0..most {
+        if bell.wait() == Turn::End {
+            return looks;
+        }
+    }
+    most
+}
+
+fn ring_often<R: Wait>(rt: &R, ring: &Ring, rings: u32) {
+    for _ in 0..rings {
+        ring.ring(rt);
+    }
+    ring.end(rt);
+}
+
+/// How many Looks a bell gives in a thread, beside one that rings so often.
+fn looks_beside<R: Wait + Threads + Sync>(rt: &R, rings: u32) -> u32 {
+    let ring = Ring::new();
+    let bell = ring.bell(rt);
+    thread::join(
+        rt,
+        || count_looks(bell, 2_000),
+        || ring_often(rt, &ring, rings),
+    )
+    .0
+}
+
+#[test]
+fn tells_another_thread_of_each_ring(rt: HostRuntime) {
+    for rings in [0, 1, 1_000] {
+        let looks = looks_beside(&rt, rings);
+        assert!(rt; looks == rings, "{looks} of {rings}");
+    }
+}

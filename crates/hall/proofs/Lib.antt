@@ -1,0 +1,9 @@
+pub mod Sums
+pub mod Views
+pub mod Turns
+pub mod Commits
+pub mod Seats
+pub mod Ends
+pub mod Entering
+pub mod Taken
+pub mod Gathered

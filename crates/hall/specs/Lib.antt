@@ -1,0 +1,5 @@
+pub mod Views
+pub mod Gates
+pub mod Steps
+pub mod Seats
+pub mod Fault

@@ -1,0 +1,93 @@
+ghost use Rattle.std.specs.Prelude.{◌≡◌, ◌<◌, [], length, map};
+ghost use Rattle.std.specs.List.{All};
+ghost use Rattle.hall.specs.declared.view.Stage.TheVariants.{Idle};
+ghost use Rattle.hall.specs.Seats.{held_of};
+ghost use Rattle.hall.specs.Steps.{IsHall};
+
+use crate::gate::DESK;
+use crate::hall::Hall;
+use crate::seat::Seat;
+use crate::steps::{Gather, Place, Shared};
+use desk_core::{Catalogue, Desk};
+use probe_core::Probe;
+
+/// What is left of a hall that was closed.
+#[derive(Drop)]
+pub struct Closed<P: Probe> {
+    /// The registry, with its journal and its probes.
+    pub desk: Desk<P>,
+    pub catalogue: Catalogue,
+}
+
+/// A hall that was not closed, since some of its seats were missing.
+#[derive(Drop)]
+pub struct Unclosed<P: Probe> {
+    pub hall: Hall<P>,
+    /// The seats that were given, in their order.
+    pub seats: Vec<Seat<P>>,
+}
+
+impl<P: Probe> Hall<P> {
+    ghost use Rattle.std.specs.Prelude.{◌≡◌, ◌≢◌, length, IfOk, IfErr};
+    ghost use Rattle.std.specs.List.{All, sum_by};
+    ghost use Rattle.desk_core.specs.Legal.{IsLegal};
+    ghost use Rattle.desk_core.specs.Past.{past};
+    ghost use Rattle.hall.specs.Seats.{IsOf, IsSeenIn, own_calls};
+
+    /// The desk of a hall whose seats have all come back. Where one is missing, all is handed back.
+    pub fn close(self, seats: Vec<Seat<P>>) -> Result<Closed<P>, Unclosed<P>>
+        requires { All (IsOf self) seats.items }
+        ensures closed { IfOk result (λ closed. length seats.items ≡ self.seats) }
+        ensures unclosed { IfErr result (λ unclosed. (length seats.items ≢ self.seats) × (unclosed.hall ≡ self) × (unclosed.seats.items ≡ seats.items)) }
+        ensures kept { IfOk result (λ closed. (closed.catalogue ≡ self.names) × (closed.desk.max_entries ≡ self.most)) }
+        ensures legal { IfOk result (λ closed. IsLegal (past closed.desk.journal)) }
+        ensures seats { IfOk result (λ closed. All (IsSeenIn (past closed.desk.journal)) seats.items) }
+        ensures counted { IfOk result (λ closed. length closed.desk.journal ≡ sum_by (λ seat. length (own_calls seat)) seats.items) }
+    {
+        if seats.len() != self.seats as usize {
+            return Err(Unclosed { hall: self, seats });
+        }
+        let Hall {
+            table,
+            catalogue,
+            seats: _,
+        } = self;
+        let place = gather(&table.shared, seats);
+        let mut closed = table.close_with(place);
+        let slot = closed.take(DESK);
+        closed.free();
+        Ok(Closed {
+            desk: slot.unwrap(),
+            catalogue,
+        })
+    }
+}
+
+/// One view for all seats.
+fn gather<P: Probe>(shared: &Shared<P>, seats: Vec<Seat<P>>) -> Place<P>
+    requires table { IsHall shared.now.table_id }
+    requires seats { All (λ seat. seat.table ≡ shared.now.table_id) seats.items }
+    requires some { 0 < length seats.items }
+    ensures table { result.table_id ≡ shared.now.table_id }
+    ensures idle { (result.me.0.stage ≡ Idle) × (result.me.1 ≡ []) }
+    ensures seats { result.me.0.seats ≡ map held_of seats.items }
+{
+    let mut seats = seats.into_iter();
+    let Some(first) = seats.next() else {
+        unreachable!()
+    };
+    let Seat {
+        mut place,
+        number: _,
+        made: _,
+    } = first;
+    for seat in seats {
+        let Seat {
+            place: other,
+            number: _,
+            made: _,
+        } = seat;
+        shared.join_seat::<Gather>(&mut place, other);
+    }
+    place
+}

@@ -1,0 +1,100 @@
+ghost use Rattle.std.specs.Prelude.{◌≡◌, List};
+ghost use Rattle.desk_core.specs.declared.entry.Entry.{Entry};
+ghost use Rattle.desk_core.specs.Board.{board_of};
+ghost use Rattle.desk_core.specs.Status.{checked};
+
+use crate::answer::Answer;
+use crate::gate::{BOARD, enter, leave};
+use crate::hall::Hall;
+use crate::note::Note;
+use crate::seat::Seat;
+use crate::steps::{Look, Meet, Tell};
+use desk_core::{Slot, Watch, board_entries, board_status};
+use health_wire::Serving;
+use probe_core::Probe;
+use std::sync::Wait;
+
+/// The calls that change nothing.
+impl<P: Probe> Hall<P> {
+    ghost use Rattle.std.specs.Prelude.{◌≡◌, length};
+    ghost use Rattle.desk_core.specs.Catalogue.{slot_of};
+    ghost use Rattle.desk_core.specs.Changes.{changes_of};
+    ghost use Rattle.desk_core.specs.Status.{shown, status_map};
+    ghost use Rattle.desk_core.specs.Watch.{IsOlder, opened, stepped};
+    ghost use Rattle.hall.specs.Seats.{IsOf, GoesOn, own_calls};
+
+    /// The status of the name, and how many entries the journal has where it is so. It waits for nobody: it is one load.
+    pub fn check(&self, seat: &mut Seat<P>, name: &str) -> Answer
+        requires { IsOf self.now seat.old }
+        ensures goes_on { GoesOn seat.old seat.new }
+        ensures kept { own_calls seat.new ≡ own_calls seat.old }
+        ensures at { result.at ≡ length seat.new.seen }
+        ensures status { result.status ≡ status_map self.now.names seat.new.seen name.now }
+    {
+        let board = self.table.shared.load::<Look>(&mut seat.place, BOARD);
+        Answer {
+            at: board_entries(board),
+            status: status_on(board, self.catalogue.slot(name)),
+        }
+    }
+
+    /// What is shown of the name now, and a watch of what changes from now on. It waits for the seat's turn.
+    pub fn open<R: Wait>(&self, rt: &R, seat: &mut Seat<P>, name: &str) -> (Watch, Serving)
+        requires { IsOf self.now seat.old }
+        ensures goes_on { GoesOn seat.old seat.new }
+        ensures kept { own_calls seat.new ≡ own_calls seat.old }
+        ensures watch { result.0 ≡ opened (changes_of seat.new.seen) (slot_of self.now.names name.now) }
+        ensures status { result.1 ≡ shown seat.new.seen (slot_of self.now.names name.now) }
+    {
+        let slot = self.catalogue.slot(name);
+        let desk = enter(rt, &self.table.shared, &mut seat.place);
+        let opened = desk.open(slot);
+        leave(&self.table.shared, &mut seat.place, desk);
+        opened
+    }
+
+    /// The next change of the watch's service, if there is one by now. It waits for the seat's turn.
+    pub fn step<R: Wait>(&self, rt: &R, seat: &mut Seat<P>, watch: &mut Watch) -> Option<Serving>
+        requires { IsOf self.now seat.old }
+        ensures goes_on { GoesOn seat.old seat.new }
+        ensures kept { own_calls seat.new ≡ own_calls seat.old }
+        ensures status { result ≡ (stepped (changes_of seat.new.seen) watch.old).0 }
+        ensures watch { watch.new ≡ (stepped (changes_of seat.new.seen) watch.old).1 }
+    {
+        let desk = enter(rt, &self.table.shared, &mut seat.place);
+        let status = desk.step(watch);
+        leave(&self.table.shared, &mut seat.place, desk);
+        status
+    }
+
+    /// Writes down what the seat has seen, for another seat.
+    pub fn note(&self, seat: &mut Seat<P>) -> Note<P>
+        requires { IsOf self.now seat.old }
+        ensures seat { seat.new ≡ seat.old }
+        ensures note { result ≡ record { table = seat.old.table; seen = seat.old.seen } }
+    {
+        Note {
+            place: self.table.shared.split_seat::<Tell>(&mut seat.place),
+        }
+    }
+
+    /// Lets the seat see what the note says too, so that its next answers hold both.
+    pub fn meet(&self, seat: &mut Seat<P>, note: Note<P>)
+        requires seat { IsOf self.now seat.old }
+        requires note { note.table ≡ self.now.table }
+        ensures goes_on { GoesOn seat.old seat.new }
+        ensures told { IsOlder note.seen seat.new.seen }
+        ensures kept { own_calls seat.new ≡ own_calls seat.old }
+    {
+        let Note { place } = note;
+        self.table.shared.join_seat::<Meet>(&mut seat.place, place);
+        self.table.shared.load::<Look>(&mut seat.place, BOARD);
+    }
+}
+
+/// The status of a slot on the board; none for a name that has no slot.
+fn status_on(board: u64, slot: Option<Slot>) -> Option<Serving>
+    ensures { (entries : List Entry) → board ≡ board_of entries → result ≡ checked entries slot }
+{
+    board_status(board, slot?)
+}

@@ -1,0 +1,14 @@
+//! What the contracts do not say: that the calls succeed, with the values that they should give, and in threads of their own.
+
+mod calls;
+mod changes;
+mod drops;
+mod faults;
+mod fields;
+mod full;
+mod halls;
+mod memory;
+mod notes;
+mod races;
+mod threads;
+mod watches;
