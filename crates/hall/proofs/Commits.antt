@@ -32,8 +32,8 @@ committed m entry = record {
   drawn = m.drawn;
   served = m.served;
   out = 1;
-  given = m.given;
-  giver = m.giver;
+  dealt = m.dealt;
+  dealer = m.dealer;
   owner = m.owner;
   holder = m.holder;
 }
@@ -46,8 +46,8 @@ passing m = record {
   drawn = m.drawn;
   served = m.served + 1;
   out = 0;
-  given = m.given;
-  giver = m.giver;
+  dealt = m.dealt;
+  dealer = m.dealer;
   owner = m.owner;
   holder = m.holder;
 }
@@ -82,7 +82,7 @@ commits key slots id number most ticket history entry seat reply lawful room tab
     let w = after_commit entry v in
     let m' = committed m entry in
     let whole : history ≡ m.history = old.stage.4 in
-    let mine : IsHeld m.history m.given m.owner id (held number history) = old.seats.0 in
+    let mine : IsHeld m.history m.dealt m.owner id (held number history) = old.seats.0 in
     let holds : m.holder m.served ≡ id = ap m.holder (sym old.stage.0) ∙ old.stage.2 in
     let by : m.owner entry.seat ≡ id = ap m.owner seat ∙ mine.owned in
     let most_is : most ≡ m.most = old.most (omega arith) in
@@ -95,7 +95,7 @@ commits key slots id number most ticket history entry seat reply lawful room tab
         record {
           older = subst (λ (h : List Entry). IsOlder (entry ∷ history) h) grown (older_self (entry ∷ history));
           own = ap (λ (h : List Entry). calls_by h number) (sym grown);
-          given = mine.given;
+          dealt = mine.dealt;
           owned = mine.owned;
         },
         tt,
@@ -118,17 +118,17 @@ commits key slots id number most ticket history entry seat reply lawful room tab
         legal = (r.legal, reply ∙ ap (λ (h : List Entry). reply_to h entry.call) whole, lawful);
         room = omega (arith, room, ap length whole, most_is);
         few = r.few;
-        fresh = λ n late. others_call entry m.history n (λ same. omega (arith, same, seat, late, mine.given)) ∙ r.fresh n late;
+        fresh = λ n late. others_call entry m.history n (λ same. omega (arith, same, seat, late, mine.dealt)) ∙ r.fresh n late;
         each = each_set (IsView m') table.views id w own (λ j u other here.
             let was = r.each j u here in record {
-              seats = others_held entry m.history m.given m.owner j u.seats (λ same. other (sym same ∙ by)) was.seats;
+              seats = others_held entry m.history m.dealt m.owner j u.seats (λ same. other (sym same ∙ by)) was.seats;
               told = older_cons entry u.told m.history was.told;
               stage = stage_committed m entry id j u.stage other holds was.stage;
               seated = was.seated;
               most = was.most;
               deals = was.deals;
             });
-        placed = λ n given. placed_set table.views id v w n at (mapped_number (λ seat. held seat.number (entry ∷ seat.seen)) (λ seat. refl) n v.seats) (r.placed n given);
+        placed = λ n early. placed_set table.views id v w n at (mapped_number (λ seat. held seat.number (entry ∷ seat.seen)) (λ seat. refl) n v.seats) (r.placed n early);
         numbers = omega (arith, sum-set (λ (u : View). length u.seats) table.views id v w at, r.numbers);
         tickets = omega (arith, sum-set (λ (u : View). waits u.stage) table.views id v w at, r.tickets);
         serving = omega (arith, sum-set (λ (u : View). serves u.stage) table.views id v w at, r.serving, old.stage.3);
@@ -176,7 +176,7 @@ passes key slots id number most ticket seen history desk journal limit table r _
         each = each_set (IsView m') table.views id w own (λ j u other here.
             let was = r.each j u here in
             record { seats = was.seats; told = was.told; stage = stage_passed m id j u.stage other holds was.stage; seated = was.seated; most = was.most; deals = was.deals });
-        placed = λ n given. placed_set table.views id v w n at (λ has. has) (r.placed n given);
+        placed = λ n early. placed_set table.views id v w n at (λ has. has) (r.placed n early);
         numbers = omega (arith, sum-set (λ (u : View). length u.seats) table.views id v w at, r.numbers);
         tickets = omega (arith, sum-set (λ (u : View). waits u.stage) table.views id v w at, r.tickets);
         serving = omega (arith, sum-set (λ (u : View). serves u.stage) table.views id v w at, r.serving, old.stage.3);

@@ -50,7 +50,7 @@ ends key table id v r at idle all =
       home = home.1;
       limit = home.3 ∙ r.most;
       legal = subst IsLegal (sym whole_history) r.legal;
-      begin = subst (λ h. AllBegin h v.seats) (sym whole_history) (held_begin m.history m.given m.owner id v.seats (r.each id v at).seats);
+      begin = subst (λ h. AllBegin h v.seats) (sym whole_history) (held_begin m.history m.dealt m.owner id v.seats (r.each id v at).seats);
       counted = omega (arith, made, r.counted, ap length whole_history);
     }
 

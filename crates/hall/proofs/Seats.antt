@@ -29,7 +29,7 @@ use Rattle.hall.proofs.Views.{older_nil, owned_held, joined_held, seen_older, pl
 -- a hall at its beginning
 beginning : ℕ → Moment
 beginning most =
-    record { history = []; most = most; drawn = 0; served = 0; out = 0; given = 0; giver = 0; owner = λ n. 0; holder = λ n. 0 }
+    record { history = []; most = most; drawn = 0; served = 0; out = 0; dealt = 0; dealer = 0; owner = λ n. 0; holder = λ n. 0 }
 
 first_view : (most j : ℕ) (view : View) → get_elem? (dealer 0 most ∷ []) j ≡ some view → IsView (beginning most) j view
 unfolding beginning
@@ -58,7 +58,7 @@ opens key desk most seats empty = record {
   few = omega arith;
   fresh = λ n late. refl;
   each = first_view key.most;
-  placed = λ n given. absurd (omega (arith, given));
+  placed = λ n early. absurd (omega (arith, early));
   numbers = refl;
   tickets = refl;
   serving = refl;
@@ -73,9 +73,9 @@ dealing m place = record {
   drawn = m.drawn;
   served = m.served;
   out = m.out;
-  given = m.given + 1;
-  giver = m.giver;
-  owner = λ number. if number == m.given then place else m.owner number;
+  dealt = m.dealt + 1;
+  dealer = m.dealer;
+  owner = λ number. if number == m.dealt then place else m.owner number;
   holder = m.holder;
 }
 
@@ -103,8 +103,8 @@ deals key id dealt most more table r at =
     let old = r.each id v at in
     let known = old.deals refl in
     let views = set table.views id w in
-    let keeps_owner : (j number : ℕ) → number < m.given → m.owner number ≡ j → m'.owner number ≡ j =
-    λ j number early owned. rw (ne_eqb number m.given (λ same. omega (arith, early, same))) owned in
+    let keeps_owner : (j number : ℕ) → number < m.dealt → m.owner number ≡ j → m'.owner number ≡ j =
+    λ j number early owned. rw (ne_eqb number m.dealt (λ same. omega (arith, early, same))) owned in
     let left : IsView m' id w = record {
       seats = tt;
       told = old.told;
@@ -118,8 +118,8 @@ deals key id dealt most more table r at =
         record {
           older = older_nil m.history;
           own = r.fresh dealt (omega (arith, known.0));
-          given = omega (arith, known.0);
-          owned = rw (eq-eqb dealt m.given known.0) refl;
+          dealt = omega (arith, known.0);
+          owned = rw (eq-eqb dealt m.dealt known.0) refl;
         },
         tt,
       );
@@ -131,7 +131,7 @@ deals key id dealt most more table r at =
     } in
     let others : (j : ℕ) (x : View) → get_elem? views j ≡ some x → IsView m' j x = each_set (IsView m') table.views id w left (λ j x other here.
     let was = r.each j x here in record {
-      seats = owned_held m.history m.given (m.given + 1) m.owner m'.owner j j x.seats (omega arith) (keeps_owner j) was.seats;
+      seats = owned_held m.history m.dealt (m.dealt + 1) m.owner m'.owner j j x.seats (omega arith) (keeps_owner j) was.seats;
       told = was.told;
       stage = stage_kept m place j x.stage was.stage;
       seated = was.seated;
@@ -151,9 +151,9 @@ deals key id dealt most more table r at =
       few = omega (arith, known.0, more);
       fresh = λ n late. r.fresh n (omega (arith, late));
       each = λ j x here. ⊎_elim (others j x) (λ t. subst (λ k. IsView m' k x) (sym (t.0 ∙ length-set table.views id w)) (subst (IsView m' place) t.1 right)) (at_end views u x j here);
-      placed = λ n given. dite (ℕ_discrete n dealt)
+      placed = λ n early. dite (ℕ_discrete n dealt)
           (λ same. record { place = place; view = u; at = at_last views u place (length-set table.views id w); has = inl (sym same) })
-          (λ other. placed_more views u n (placed_set table.views id v w n at (λ has. has) (r.placed n (omega (arith, given, other, known.0)))));
+          (λ other. placed_more views u n (placed_set table.views id v w n at (λ has. has) (r.placed n (omega (arith, early, other, known.0)))));
       numbers = omega (arith, sum (λ (x : View). length x.seats), r.numbers);
       tickets = omega (arith, sum (λ (x : View). waits x.stage), r.tickets);
       serving = omega (arith, sum (λ (x : View). serves x.stage), r.serving);
@@ -175,7 +175,7 @@ replaced key table r id v w at own few waiting serving made keeps = record {
   few = r.few;
   fresh = r.fresh;
   each = each_set (IsView r.moment) table.views id w own (λ j u other here. r.each j u here);
-  placed = λ n given. placed_set table.views id v w n at (keeps n) (r.placed n given);
+  placed = λ n early. placed_set table.views id v w n at (keeps n) (r.placed n early);
   numbers = omega (arith, sum-set (λ (u : View). length u.seats) table.views id v w at, r.numbers, few);
   tickets = omega (arith, sum-set (λ (u : View). waits u.stage) table.views id v w at, r.tickets, waiting);
   serving = omega (arith, sum-set (λ (u : View). serves u.stage) table.views id v w at, r.serving, serving);
@@ -199,7 +199,7 @@ tells key id v table r at =
     let m = r.moment in
     let u = note_view (seen_of v.seats) in
     let same : set table.views id v ≡ table.views = set_again table.views id v at in
-    let told = seen_older m.history m.given m.owner id v.seats (r.each id v at).seats in
+    let told = seen_older m.history m.dealt m.owner id v.seats (r.each id v at).seats in
     let sum : (f : View → ℕ) → sum_by f (table.views ++ u ∷ []) ≡ sum_by f table.views + f u = λ f. sum_by_push f table.views u in
     rw same (record {
       moment = m;
@@ -212,7 +212,7 @@ tells key id v table r at =
       few = r.few;
       fresh = r.fresh;
       each = λ j x here. ⊎_elim (r.each j x) (λ t. subst (IsView m j) t.1 (note_is m j (seen_of v.seats) told)) (at_end table.views u x j here);
-      placed = λ n given. placed_more table.views u n (r.placed n given);
+      placed = λ n early. placed_more table.views u n (r.placed n early);
       numbers = omega (arith, sum (λ (x : View). length x.seats), r.numbers);
       tickets = omega (arith, sum (λ (x : View). waits x.stage), r.tickets);
       serving = omega (arith, sum (λ (x : View). serves x.stage), r.serving);
@@ -247,8 +247,8 @@ moving m number place = record {
   drawn = m.drawn;
   served = m.served;
   out = m.out;
-  given = m.given;
-  giver = m.giver;
+  dealt = m.dealt;
+  dealer = m.dealer;
   owner = λ n. if n == number then place else m.owner n;
   holder = m.holder;
 }
@@ -272,14 +272,14 @@ gathers key id v other number seen most some_seat table r at apart there =
     let at_other : get_elem? table.views other ≡ some u = sym (set_else table.views id other w apart) ∙ there in
     let old = r.each id v at in
     let from = r.each other u at_other in
-    let mine : IsHeld m.history m.given m.owner other (held number seen) = from.seats.0 in
-    let moves : (j k : ℕ) → j ≢ other → k < m.given → m.owner k ≡ j → m'.owner k ≡ j =
+    let mine : IsHeld m.history m.dealt m.owner other (held number seen) = from.seats.0 in
+    let moves : (j k : ℕ) → j ≢ other → k < m.dealt → m.owner k ≡ j → m'.owner k ≡ j =
     λ j k away early owned. rw (ne_eqb k number (λ same. away (sym owned ∙ (ap m.owner same ∙ mine.owned)))) owned in
     let own_number : m'.owner number ≡ id = rw (eq-eqb number number refl) refl in
     let own : IsView m' id w = record {
-      seats = joined_held m.history m.given m'.owner id v.seats u.seats
-          (owned_held m.history m.given m.given m.owner m'.owner id id v.seats (omega arith) (λ k early owned. moves id k (λ same. apart (sym same)) early owned) old.seats)
-          (record { older = mine.older; own = mine.own; given = mine.given; owned = own_number }, tt);
+      seats = joined_held m.history m.dealt m'.owner id v.seats u.seats
+          (owned_held m.history m.dealt m.dealt m.owner m'.owner id id v.seats (omega arith) (λ k early owned. moves id k (λ same. apart (sym same)) early owned) old.seats)
+          (record { older = mine.older; own = mine.own; dealt = mine.dealt; owned = own_number }, tt);
       told = old.told;
       stage = stage_moved m number id id v.stage old.stage;
       seated = omega (arith, old.seated, length-append v.seats u.seats);
@@ -297,7 +297,7 @@ gathers key id v other number seen most some_seat table r at apart there =
     let first : (j : ℕ) (x : View) → j ≢ other → get_elem? (set table.views id w) j ≡ some x → IsView m' j x =
     λ j x away here. each_set (λ k y. k ≢ other → IsView m' k y) table.views id w (λ _. own) (λ k y elsewhere found away'.
     let was = r.each k y found in record {
-      seats = owned_held m.history m.given m.given m.owner m'.owner k k y.seats (omega arith) (λ n early owned. moves k n away' early owned) was.seats;
+      seats = owned_held m.history m.dealt m.dealt m.owner m'.owner k k y.seats (omega arith) (λ n early owned. moves k n away' early owned) was.seats;
       told = was.told;
       stage = stage_moved m number id k y.stage was.stage;
       seated = was.seated;
@@ -317,7 +317,7 @@ gathers key id v other number seen most some_seat table r at apart there =
       few = r.few;
       fresh = r.fresh;
       each = each_set (IsView m') (set table.views id w) other (note_view []) spent first;
-      placed = λ n given. placed_joined table.views id v other u w (note_view []) n at at_other apart (number_first n v.seats u.seats) (number_second n v.seats u.seats) (r.placed n given);
+      placed = λ n early. placed_joined table.views id v other u w (note_view []) n at at_other apart (number_first n v.seats u.seats) (number_second n v.seats u.seats) (r.placed n early);
       numbers = omega (arith, sum (λ (x : View). length x.seats), r.numbers, length-append v.seats u.seats);
       tickets = omega (arith, sum (λ (x : View). waits x.stage), r.tickets);
       serving = omega (arith, sum (λ (x : View). serves x.stage), r.serving);

@@ -5,6 +5,7 @@ use mathlib.Core.Logic.{dite}
 use native.Mathlib.Decide.{ℕ_discrete}
 use lib.ListN.{get_elem?}
 use Rattle.atomic_table.proofs.Lists.{set_here, set_else, at_longer}
+use Rattle.std.proofs.lemmas.List.{append-nil}
 use Rattle.std.proofs.lemmas.List.Sums.{sum_by-cons}
 use Rattle.desk_core.specs.declared.entry.Entry.{Entry}
 use Rattle.desk_core.specs.Seats.{calls_by}
@@ -25,21 +26,9 @@ older_self history = record { newer = []; is = refl }
 pub older_cons : (entry : Entry) (older history : List Entry) → IsOlder older history → IsOlder older (entry ∷ history)
 older_cons entry older history begins = record { newer = entry ∷ begins.newer; is = ap (λ es. entry ∷ es) begins.is }
 
-append-nil : (xs : List Entry) → xs ++ [] ≡ xs
-append-nil [] = refl
-append-nil (x ∷ xs) = ap (λ es. x ∷ es) (append-nil xs)
-
 -- the empty history begins each
 pub older_nil : (history : List Entry) → IsOlder [] history
 older_nil history = record { newer = history; is = sym (append-nil history) }
-
-append-assoc : (xs ys zs : List Entry) → xs ++ (ys ++ zs) ≡ (xs ++ ys) ++ zs
-append-assoc [] ys zs = refl
-append-assoc (x ∷ xs) ys zs = ap (λ es. x ∷ es) (append-assoc xs ys zs)
-
-pub older_on : (first second third : List Entry) → IsOlder first second → IsOlder second third → IsOlder first third
-older_on first second third p q =
-    record { newer = q.newer ++ p.newer; is = q.is ∙ (ap (λ es. q.newer ++ es) p.is ∙ append-assoc q.newer p.newer first) }
 
 -- an entry of another seat is none of this one's
 pub others_call : (entry : Entry) (history : List Entry) (number : ℕ) → entry.seat ≢ number → calls_by (entry ∷ history) number ≡ calls_by history number
@@ -53,7 +42,7 @@ pub looked_held : (history : List Entry) (dealt : ℕ) (owner : ℕ → ℕ) (vi
     → AreHeld history dealt owner view (map (λ seat. held seat.number history) seats)
 looked_held history dealt owner view [] are = tt
 looked_held history dealt owner view (seat ∷ seats) are =
-    (record { older = older_self history; own = refl; given = are.0.given; owned = are.0.owned }, looked_held history dealt owner view seats are.1)
+    (record { older = older_self history; own = refl; dealt = are.0.dealt; owned = are.0.owned }, looked_held history dealt owner view seats are.1)
 
 -- they have made as many changes as before
 pub looked_made : (history : List Entry) (dealt : ℕ) (owner : ℕ → ℕ) (view : ℕ) (seats : List Held) → AreHeld history dealt owner view seats
@@ -83,7 +72,7 @@ others_held entry history dealt owner view (seat ∷ seats) other are =
       record {
         older = older_cons entry seat.seen history are.0.older;
         own = others_call entry history seat.number apart ∙ are.0.own;
-        given = are.0.given;
+        dealt = are.0.dealt;
         owned = are.0.owned;
       },
       others_held entry history dealt owner view seats other are.1,
@@ -94,7 +83,7 @@ pub owned_held : (history : List Entry) (dealt more : ℕ) (owner later : ℕ �
     → ((number : ℕ) → number < dealt → owner number ≡ view → later number ≡ next) → AreHeld history dealt owner view seats → AreHeld history more later next seats
 owned_held history dealt more owner later view next [] longer moves are = tt
 owned_held history dealt more owner later view next (seat ∷ seats) longer moves are = (
-  record { older = are.0.older; own = are.0.own; given = omega (arith, are.0.given, longer); owned = moves seat.number are.0.given are.0.owned },
+  record { older = are.0.older; own = are.0.own; dealt = omega (arith, are.0.dealt, longer); owned = moves seat.number are.0.dealt are.0.owned },
   owned_held history dealt more owner later view next seats longer moves are.1,
 )
 

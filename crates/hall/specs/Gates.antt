@@ -28,8 +28,8 @@ pub record Moment : Type 0 where
   pub drawn : ℕ
   pub served : ℕ
   pub out : ℕ
-  pub given : ℕ
-  pub giver : ℕ
+  pub dealt : ℕ
+  pub dealer : ℕ
   pub owner : ℕ → ℕ
   pub holder : ℕ → ℕ
 
@@ -41,10 +41,10 @@ IsHome (suc n) history most homes = homes ≡ none ∷ []
 
 -- what a seat has seen is the history up to some point, after which the history has no entries of the seat; its number was
 -- dealt out, and is this view's
-pub record IsHeld (history : List Entry) (dealt : ℕ) (owner : ℕ → ℕ) (view : ℕ) (seat : Held) : Type 0 where
+pub record IsHeld (history : List Entry) (numbers : ℕ) (owner : ℕ → ℕ) (view : ℕ) (seat : Held) : Type 0 where
   pub older : IsOlder seat.seen history
   pub own : calls_by history seat.number ≡ calls_by seat.seen seat.number
-  pub given : seat.number < dealt
+  pub dealt : seat.number < numbers
   pub owned : owner seat.number ≡ view
 
 -- each of the seats is held so
@@ -64,12 +64,12 @@ IsStage moment view (Served ticket history) =
 -- what a view knows is so: its seats and its note saw histories up to some point; only one that has a seat stands at the gate;
 -- and one view deals out the seats
 pub record IsView (moment : Moment) (j : ℕ) (view : View) : Type 0 where
-  pub seats : AreHeld moment.history moment.given moment.owner j view.seats
+  pub seats : AreHeld moment.history moment.dealt moment.owner j view.seats
   pub told : IsOlder view.told moment.history
   pub stage : IsStage moment j view.stage
   pub seated : waits view.stage ≤ length view.seats
   pub most : 0 < length view.seats → view.most ≡ moment.most
-  pub deals : view.deals ≡ true → (view.dealt ≡ moment.given) × (view.most ≡ moment.most) × (j ≡ moment.giver)
+  pub deals : view.deals ≡ true → (view.dealt ≡ moment.dealt) × (view.most ≡ moment.most) × (j ≡ moment.dealer)
 
 -- one of the seats has this number
 abbrev pub HasNumber : ℕ → List Held → Type 0
@@ -94,11 +94,11 @@ pub record IsGated (key : Limits) (table : Table (Option State) View) : Type 0 w
   pub home : IsHome moment.out moment.history moment.most table.homes
   pub legal : IsLegal moment.history
   pub room : length moment.history ≤ moment.most
-  pub few : moment.given ≤ key.seats
-  pub fresh : (number : ℕ) → moment.given ≤ number → calls_by moment.history number ≡ []
+  pub few : moment.dealt ≤ key.seats
+  pub fresh : (number : ℕ) → moment.dealt ≤ number → calls_by moment.history number ≡ []
   pub each : (j : ℕ) (view : View) → get_elem? table.views j ≡ some view → IsView moment j view
-  pub placed : (number : ℕ) → number < moment.given → IsPlaced table.views number
-  pub numbers : sum_by (λ view. length view.seats) table.views ≡ moment.given
+  pub placed : (number : ℕ) → number < moment.dealt → IsPlaced table.views number
+  pub numbers : sum_by (λ view. length view.seats) table.views ≡ moment.dealt
   pub tickets : moment.served + sum_by (λ view. waits view.stage) table.views ≡ moment.drawn
   pub serving : sum_by (λ view. serves view.stage) table.views ≡ moment.out
   pub counted : sum_by (λ view. made_by view.seats) table.views ≡ length moment.history

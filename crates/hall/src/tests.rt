@@ -1,6 +1,5 @@
 //! What the contracts do not say: that the calls succeed, with the values that they should give, and in threads of their own.
 
-mod calls;
 mod changes;
 mod drops;
 mod faults;
@@ -10,5 +9,7 @@ mod halls;
 mod memory;
 mod notes;
 mod races;
+mod rows;
+mod same;
 mod threads;
 mod watches;

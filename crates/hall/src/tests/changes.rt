@@ -1,59 +1,67 @@
-ghost use Rattle.hall.specs.Seats.{IsOf};
-
-use crate::tests::calls::{check, register, show};
-use crate::tests::halls::one_seat;
-use crate::{Hall, Seat};
-use desk_core::{Finding, Reply, Setting};
+use crate::tests::halls::{Guest, boxed, list, one_seat};
+use crate::tests::rows::{Row, Step, expect_rows};
+use crate::tests::same::same;
+use desk_core::{Finding, Refusal, Reply, Setting};
 use health_wire::Serving;
 use probe_core::{Probe, Rule, Threshold};
 use std::alloc::Global;
 use std::process::Abort;
 use std::sync::Wait;
-use std::test::Fail;
 
-/// The changes that have a reply alone. `a` has a threshold of one.
-fn change<R: Wait + Abort, P: Probe>(rt: &R, hall: &Hall<P>, seat: &mut Seat<P>)
-    requires { IsOf hall.now seat.old }
-    ensures { IsOf hall.now seat.new }
-{
-    let heard = hall.observe(rt, seat, "a", Finding::Fail);
-    assert_eq!(rt; heard, Ok(Reply::Done));
-    check(rt, hall, seat, "a", 2, Serving::NotServing);
-    assert_eq!(rt; hall.resume(rt, seat), Ok(Reply::Done));
-    check(rt, hall, seat, "a", 3, Serving::Serving);
-    assert_eq!(rt; hall.shutdown(rt, seat), Ok(Reply::Done));
-    check(rt, hall, seat, "a", 4, Serving::NotServing);
-    let set = hall.set(rt, seat, "a", Setting::Up);
-    assert_eq!(rt; set, Ok(Reply::WrongKind));
-    assert_eq!(rt; hall.resume(rt, seat), Ok(Reply::Done));
-    show(rt, hall, seat, "a", Serving::Serving);
+/// Goes through the rows with the seat 0 of a hall with one seat.
+fn expect_of_one_seat<R: Wait + Abort, P: Probe>(
+    rt: &R,
+    alloc: Global,
+    probes: Vec<P>,
+    rows: &[Row],
+) {
+    let (hall, seat) = one_seat(rt, alloc, &["a", ""], 100);
+    same(rt, &seat.number(), &0, &"the number");
+    expect_rows(rt, &hall, &mut Guest { seat, probes }, rows);
 }
 
-fn make_each_change<R: Wait + Abort, P: Probe>(rt: &R, alloc: Global, probe: P, other: P) {
-    let (hall, mut seat) = one_seat(rt, alloc, &["a", ""], 100);
-    register(rt, &hall, &mut seat, "a", probe);
-    change(rt, &hall, &mut seat);
-    let taken = hall.register(rt, &mut seat, "a", other).ok();
-    let taken = taken.expect(rt, "a reply");
-    assert_eq!(rt; taken.reply, Reply::Replaced);
-    assert_eq!(rt;
-        taken.old.map(|probe| probe.rule()),
-        Some(Rule::Threshold(1))
-    );
-    let retired = hall.retire(rt, &mut seat, "a").ok();
-    let (reply, old) = retired.expect(rt, "a reply");
-    assert_eq!(rt; reply, Reply::Done);
-    assert_eq!(rt; old.map(|probe| probe.rule()), Some(Rule::Threshold(2)));
-    let answer = hall.check(&mut seat, "a");
-    assert_eq!(rt; (answer.at, answer.status), (8, None));
-    assert_eq!(rt; (seat.number(), seat.made()), (0, 8));
-}
+const DONE: Result<Reply, Refusal> = Ok(Reply::Done);
+
+/// The first probe of `a` has a threshold of one, and the other one of two.
+static CHANGES: [Row; 14] = [
+    Row::Register("a", DONE, None),
+    Row::Change(Step::Observe("a", Finding::Fail), DONE),
+    Row::Check("a", 2, Some(Serving::NotServing)),
+    Row::Change(Step::Resume, DONE),
+    Row::Check("a", 3, Some(Serving::Serving)),
+    Row::Change(Step::Shutdown, DONE),
+    Row::Check("a", 4, Some(Serving::NotServing)),
+    Row::Change(Step::Set("a", Setting::Up), Ok(Reply::WrongKind)),
+    Row::Change(Step::Resume, DONE),
+    Row::Show("a", Serving::Serving),
+    Row::Register("a", Ok(Reply::Replaced), Some(Rule::Threshold(1))),
+    Row::Retire("a", DONE, Some(Rule::Threshold(2))),
+    Row::Check("a", 8, None),
+    Row::Made(8),
+];
 
 #[test]
-fn makes_each_change(rt: HostRuntime) -> Result<(), Fail> {
+fn makes_each_change(rt: HostRuntime) {
     let alloc = rt.alloc();
-    let probe: Box<dyn Probe + Send> = Box::new(alloc, Threshold::new(1))?;
-    let other: Box<dyn Probe + Send> = Box::new(alloc, Threshold::new(2))?;
-    make_each_change(&rt, alloc, probe, other);
-    Ok(())
+    let probe: Box<dyn Probe + Send> = boxed(&rt, alloc, Threshold::new(1));
+    let other: Box<dyn Probe + Send> = boxed(&rt, alloc, Threshold::new(2));
+    expect_of_one_seat(&rt, alloc, list(&rt, alloc, [other, probe]), &CHANGES);
+}
+
+const NOT_LISTED: Result<Reply, Refusal> = Err(Refusal::NotListed);
+
+static NAME_NOT_LISTED: [Row; 6] = [
+    Row::Register("zz", NOT_LISTED, Some(Rule::Threshold(0))),
+    Row::Change(Step::Observe("zz", Finding::Fail), NOT_LISTED),
+    Row::Change(Step::Set("zz", Setting::Down), NOT_LISTED),
+    Row::Retire("zz", NOT_LISTED, None),
+    Row::Check("zz", 0, None),
+    Row::Made(0),
+];
+
+#[test]
+fn refuses_a_name_that_is_not_listed(rt: HostRuntime) {
+    let alloc = rt.alloc();
+    let probe: Box<dyn Probe + Send> = boxed(&rt, alloc, Threshold::new(0));
+    expect_of_one_seat(&rt, alloc, list(&rt, alloc, [probe]), &NAME_NOT_LISTED);
 }

@@ -1,165 +1,188 @@
 ghost use Rattle.hall.specs.Seats.{IsOf};
 
-use crate::tests::calls::register;
-use crate::tests::halls::{close, two_seats};
-use crate::{Hall, Seat};
+use crate::Hall;
+use crate::tests::halls::{Guest, close, list, two_seats};
+use crate::tests::rows::{Row, answer_of, retired_answer};
+use crate::tests::same::same;
+use crate::tests::threads::{Task, Visit, in_two_threads};
 use desk_core::{Refusal, Reply};
-use probe_core::Probe;
 use probe_core::tracked::Tracked;
-use std::alloc::{AllocError, Global};
+use probe_core::{Probe, Rule};
+use std::alloc::Global;
 use std::process::Abort;
 use std::sync::atomic::{AtomicU64, Ordering};
 use std::sync::{Arc, Wait};
-use std::test::Fail;
-use std::thread;
 use std::thread::Threads;
 
-/// A probe for each way in which one leaves a hall.
-struct Probes<P> {
-    replaced: P,
-    retired: P,
-    closed: P,
-    refused: P,
-}
-
-/// How often each of the probes was dropped.
+/// The counters of four probes, each of which leaves the hall in another way, and adds one to its own when it is dropped.
 #[derive(Drop)]
-struct Counters {
+pub(super) struct Counters {
     replaced: Arc<AtomicU64>,
     retired: Arc<AtomicU64>,
     closed: Arc<AtomicU64>,
     refused: Arc<AtomicU64>,
 }
 
+fn counter(rt: &impl Abort, alloc: Global) -> Arc<AtomicU64> {
+    Arc::new(alloc, AtomicU64::new(0))
+        .ok()
+        .expect(rt, "a counter")
+}
+
+fn tracked(rt: &impl Abort, counter: &Arc<AtomicU64>) -> Tracked {
+    Tracked::new(counter.clone().ok().expect(rt, "a counter"))
+}
+
 impl Counters {
-    fn new(alloc: Global) -> Result<Counters, AllocError> {
-        Ok(Counters {
-            replaced: Arc::new(alloc, AtomicU64::new(0))?,
-            retired: Arc::new(alloc, AtomicU64::new(0))?,
-            closed: Arc::new(alloc, AtomicU64::new(0))?,
-            refused: Arc::new(alloc, AtomicU64::new(0))?,
-        })
+    fn new(rt: &impl Abort, alloc: Global) -> Counters {
+        Counters {
+            replaced: counter(rt, alloc),
+            retired: counter(rt, alloc),
+            closed: counter(rt, alloc),
+            refused: counter(rt, alloc),
+        }
     }
 
-    fn probes(&self) -> Result<Probes<Tracked>, AllocError> {
-        Ok(Probes {
-            replaced: Tracked::new(self.replaced.clone()?),
-            retired: Tracked::new(self.retired.clone()?),
-            closed: Tracked::new(self.closed.clone()?),
-            refused: Tracked::new(self.refused.clone()?),
-        })
+    /// The four probes, the first of them last.
+    fn probes(&self, rt: &impl Abort, alloc: Global) -> Vec<Tracked> {
+        let probes = [
+            tracked(rt, &self.refused),
+            tracked(rt, &self.closed),
+            tracked(rt, &self.retired),
+            tracked(rt, &self.replaced),
+        ];
+        list(rt, alloc, probes)
     }
 
-    fn expect(&self, rt: &impl Abort, replaced: u64, retired: u64, closed: u64, refused: u64) {
-        assert_eq!(rt; self.replaced.load(Ordering::SeqCst), replaced);
-        assert_eq!(rt; self.retired.load(Ordering::SeqCst), retired);
-        assert_eq!(rt; self.closed.load(Ordering::SeqCst), closed);
-        assert_eq!(rt; self.refused.load(Ordering::SeqCst), refused);
+    fn expect(&self, rt: &impl Abort, expected: [u64; 4]) {
+        let drops = [
+            self.replaced.load(Ordering::SeqCst),
+            self.retired.load(Ordering::SeqCst),
+            self.closed.load(Ordering::SeqCst),
+            self.refused.load(Ordering::SeqCst),
+        ];
+        same(rt, &drops, &expected, &"the counters");
+    }
+
+    /// Drops what is held. So many probes were dropped before that, and so many after it.
+    fn expect_held<T: Drop>(&self, rt: &impl Abort, held: T, before: [u64; 4], after: [u64; 4]) {
+        self.expect(rt, before);
+        drop(held);
+        self.expect(rt, after);
     }
 }
 
-/// Registers a probe in the place of another, retires it too, and drops both.
-fn replace_and_retire<R: Wait + Abort, P: Probe>(
+/// What is answered to a probe that is handed in, and the rule of the probe that comes back. So many were dropped before that
+/// one is, and so many after it.
+struct Held {
+    answer: Result<Reply, Refusal>,
+    rule: Option<Rule>,
+    before: [u64; 4],
+    after: [u64; 4],
+}
+
+/// Hands the next probe in under a name, and drops what comes back.
+fn hand_in<R: Wait + Abort, P: Probe>(
     rt: &R,
     hall: &Hall<P>,
-    mut seat: Seat<P>,
-    probe: P,
+    guest: &mut Guest<P>,
+    name: &str,
     counters: &Counters,
-) -> Seat<P>
-    requires { IsOf hall.now seat }
-    ensures { IsOf hall.now result }
+    held: &Held,
+)
+    requires { IsOf hall.now guest.old.seat }
+    ensures { IsOf hall.now guest.new.seat }
 {
-    let taken = hall.register(rt, &mut seat, "a", probe);
-    counters.expect(rt, 0, 0, 0, 0);
-    assert!(rt; taken.is_ok_and(|taken| taken.reply == Reply::Replaced));
-    counters.expect(rt, 1, 0, 0, 0);
-    let retired = hall.retire(rt, &mut seat, "a");
-    counters.expect(rt, 1, 0, 0, 0);
-    assert!(rt; retired.is_ok_and(|retired| retired.0 == Reply::Done));
-    counters.expect(rt, 1, 1, 0, 0);
-    seat
+    let probe = guest.probes.pop().expect(rt, "a probe");
+    let result = hall.register(rt, &mut guest.seat, name, probe);
+    same(rt, &answer_of(&result), &(held.answer, held.rule), &name);
+    counters.expect_held(rt, result, held.before, held.after);
 }
 
-fn check_often<P: Probe>(hall: &Hall<P>, mut seat: Seat<P>) -> Seat<P>
-    requires { IsOf hall.now seat }
-    ensures { IsOf hall.now result }
+static FIRST: Held = Held {
+    answer: Ok(Reply::Done),
+    rule: None,
+    before: [0, 0, 0, 0],
+    after: [0, 0, 0, 0],
+};
+
+static REPLACED: Held = Held {
+    answer: Ok(Reply::Replaced),
+    rule: Some(Rule::Manual),
+    before: [0, 0, 0, 0],
+    after: [1, 0, 0, 0],
+};
+
+/// Hands a probe in, in the place of another, retires it too, and drops both.
+pub(super) fn replace_and_retire<R: Wait + Abort, P: Probe>(
+    rt: &R,
+    hall: &Hall<P>,
+    guest: &mut Guest<P>,
+    counters: &Counters,
+)
+    requires { IsOf hall.now guest.old.seat }
+    ensures { IsOf hall.now guest.new.seat }
 {
-    for _ in 0..10_000 {
-        hall.check(&mut seat, "a");
-    }
-    seat
+    hand_in(rt, hall, guest, "a", counters, &REPLACED);
+    let result = hall.retire(rt, &mut guest.seat, "a");
+    let expected = (Ok(Reply::Done), Some(Rule::Manual));
+    same(rt, &retired_answer(&result), &expected, &"the retired");
+    counters.expect_held(rt, result, [1, 0, 0, 0], [1, 1, 0, 0]);
 }
+
+static AFTER_THE_RETIRED: Held = Held {
+    answer: Ok(Reply::Done),
+    rule: None,
+    before: [1, 1, 0, 0],
+    after: [1, 1, 0, 0],
+};
+
+/// The name is not listed.
+static REFUSED: Held = Held {
+    answer: Err(Refusal::NotListed),
+    rule: Some(Rule::Manual),
+    before: [1, 1, 0, 0],
+    after: [1, 1, 0, 1],
+};
+
+static CHECK: [Row; 1] = [Row::Between("a", 0, 100)];
 
 fn replace_beside_checks<R: Wait + Threads + Abort + Sync, P: Probe + Send>(
     rt: &R,
     hall: &Hall<P>,
-    first: Seat<P>,
-    second: Seat<P>,
-    probe: P,
+    first: Guest<P>,
+    second: Guest<P>,
     counters: &Counters,
-) -> (Seat<P>, Seat<P>)
-    requires first { IsOf hall.now first }
-    requires second { IsOf hall.now second }
-    ensures first { IsOf hall.now result.0 }
-    ensures second { IsOf hall.now result.1 }
+) -> (Guest<P>, Guest<P>)
+    requires first { IsOf hall.now first.seat }
+    requires second { IsOf hall.now second.seat }
+    ensures first { IsOf hall.now result.0.seat }
+    ensures second { IsOf hall.now result.1.seat }
 {
-    thread::join(
-        rt,
-        move || -> Seat<P>
-            requires { IsOf hall.now first }
-            ensures { IsOf hall.entry.now result }
-        { replace_and_retire(rt, hall, first, probe, counters) },
-        move || -> Seat<P>
-            requires { IsOf hall.now second }
-            ensures { IsOf hall.entry.now result }
-        { check_often(hall, second) },
-    )
-}
-
-/// Hands a probe in under a name that is not listed.
-fn hand_in<R: Wait + Abort, P: Probe>(
-    rt: &R,
-    hall: &Hall<P>,
-    seat: &mut Seat<P>,
-    probe: P,
-    counters: &Counters,
-)
-    requires { IsOf hall.now seat.old }
-    ensures { IsOf hall.now seat.new }
-{
-    let handed = hall.register(rt, seat, "zz", probe);
-    counters.expect(rt, 1, 1, 0, 0);
-    assert!(rt; handed.is_err_and(|handed| handed.refusal == Refusal::NotListed));
-    counters.expect(rt, 1, 1, 0, 1);
-}
-
-fn drop_in_turn<R: Wait + Threads + Abort + Sync, P: Probe + Send>(
-    rt: &R,
-    alloc: Global,
-    probes: Probes<P>,
-    counters: &Counters,
-) {
-    let Probes {
-        replaced,
-        retired,
-        closed,
-        refused,
-    } = probes;
-    let (hall, mut first, second) = two_seats(rt, alloc, &["a", ""], 100);
-    register(rt, &hall, &mut first, "a", replaced);
-    let (mut first, second) = replace_beside_checks(rt, &hall, first, second, retired, counters);
-    register(rt, &hall, &mut first, "a", closed);
-    hand_in(rt, &hall, &mut first, refused, counters);
-    let left = close(rt, alloc, hall, first, second);
-    counters.expect(rt, 1, 1, 0, 1);
-    drop(left);
-    counters.expect(rt, 1, 1, 1, 1);
+    let first = Visit {
+        guest: first,
+        heard: None,
+        task: Task::Replace(counters),
+    };
+    let second = Visit {
+        guest: second,
+        heard: None,
+        task: Task::Rows(10_000, &CHECK),
+    };
+    let (first, second) = in_two_threads(rt, hall, first, second);
+    (first.0, second.0)
 }
 
 #[test]
-fn drops_no_probe_but_with_what_it_gave_out(rt: HostRuntime) -> Result<(), Fail> {
+fn drops_no_probe_but_with_what_it_gave_out(rt: HostRuntime) {
     let alloc = rt.alloc();
-    let counters = Counters::new(alloc)?;
-    drop_in_turn(&rt, alloc, counters.probes()?, &counters);
-    Ok(())
+    let counters = Counters::new(&rt, alloc);
+    let probes = (counters.probes(&rt, alloc), Vec::new(alloc));
+    let (hall, mut first, second) = two_seats(&rt, alloc, &["a", ""], 100, probes);
+    hand_in(&rt, &hall, &mut first, "a", &counters, &FIRST);
+    let (mut first, second) = replace_beside_checks(&rt, &hall, first, second, &counters);
+    hand_in(&rt, &hall, &mut first, "a", &counters, &AFTER_THE_RETIRED);
+    hand_in(&rt, &hall, &mut first, "zz", &counters, &REFUSED);
+    let left = close(&rt, alloc, hall, first.seat, second.seat);
+    counters.expect_held(&rt, left, [1, 1, 0, 1], [1, 1, 1, 1]);
 }

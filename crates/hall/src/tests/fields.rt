@@ -1,4 +1,5 @@
 use crate::tests::halls::one_seat;
+use crate::tests::same::same;
 use crate::{Hall, Note, Seat};
 use probe_core::{Manual, Probe};
 use std::alloc::Global;
@@ -15,14 +16,14 @@ fn take_apart<R: Abort, P: Probe>(rt: &R, alloc: Global) {
         made,
     } = seat;
     drop(place);
-    assert_eq!(rt; (number, made), (0, 0));
+    same(rt, &(number, made), &(0, 0), &"the seat");
     let Hall {
         table,
         catalogue,
         seats,
     } = hall;
     drop(table);
-    assert_eq!(rt; (catalogue.len(), seats), (2, 1));
+    same(rt, &(catalogue.len(), seats), &(2, 1), &"the hall");
 }
 
 #[test]
