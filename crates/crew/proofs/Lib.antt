@@ -1,6 +1,10 @@
+pub mod CarryingOut
+pub mod Crewing
 pub mod GatherLemmas
+pub mod NewSeats
 pub mod NotingLemmas
 pub mod OneGathering
 pub mod Reports
 pub mod Soundness
+pub mod Story
 pub mod WrongReports

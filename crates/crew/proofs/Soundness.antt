@@ -8,7 +8,7 @@ use Rattle.std.specs.List.{slice_get, Contains}
 use Rattle.crew.specs.Gather.{AreSound}
 
 -- the front of a list with one element more
-take_with : {X : Type 0} (xs : List X) (k : ℕ) (x : X) → slice_get xs k ≡ Some x → take (k + 1) xs ≡ take k xs ++ x ∷ []
+pub take_with : {X : Type 0} (xs : List X) (k : ℕ) (x : X) → slice_get xs k ≡ Some x → take (k + 1) xs ≡ take k xs ++ x ∷ []
 take_with xs k x at =
     take_more xs k x (slice_get_within xs k x at) ∙ ap (λ y. take k xs ++ y ∷ []) (get_or_from_slice_get xs k x x at)
 

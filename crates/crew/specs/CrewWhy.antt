@@ -1,7 +1,11 @@
 -- Why a crew has no report.
-use Rattle.std.specs.Prelude.{ℕ, List, codes}
+use Rattle.std.specs.Prelude.{ℕ, ◌+◌, ◌==◌, nat_lt, if◌then◌else◌, Option, Some, None, List, codes}
 use Rattle.crew.specs.declared.crew_why.CrewWhy.{CrewWhy}
 use Rattle.crew.specs.declared.crew_why.CrewWhy.TheVariants.{NoWorkers, NoSeats, Stranger, Doubled, Lost, NoMemory}
+
+-- why so many workers, lists of orders and seats make no crew; none where they make one
+abbrev pub crew_fault : ℕ → ℕ → ℕ → Option CrewWhy
+crew_fault workers lists seats = if workers == 0 then Some NoWorkers else (if nat_lt seats (workers + lists) then Some NoSeats else None)
 
 -- the number of a reason
 abbrev pub why_number : CrewWhy → ℕ

@@ -1,6 +1,10 @@
 pub mod CrewWhy
+pub mod Errand
 pub mod Gather
 pub mod Noting
 pub mod Ring
-pub mod Seats
+pub mod Looking
+pub mod Serve
+pub mod Staff
 pub mod HallDoor
+pub mod Work

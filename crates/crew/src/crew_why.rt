@@ -12,21 +12,35 @@ pub enum CrewWhy {
     Stranger = 3,
     /// A call was reported twice.
     Doubled = 4,
-    /// A call was not reported.
+    /// A call was not reported, be it that memory ran out before a worker could take it.
     Lost = 5,
-    /// Memory ran out.
+    /// Memory ran out, and nothing else is wrong.
     NoMemory = 6,
 }
 
 impl CrewWhy {
-    ghost use Rattle.std.specs.Prelude.{◌≡◌};
-    ghost use Rattle.crew.specs.CrewWhy.{why_number};
+    ghost use Rattle.std.specs.Prelude.{◌≡◌, ◌+◌, ◌≤◌, IfNone};
+    ghost use Rattle.crew.specs.CrewWhy.{crew_fault, why_number};
 
     /// The number that programs print.
     pub fn number(self) -> u8
         ensures { result ≡ why_number self }
     {
         self as u8
+    }
+
+    /// Why so many workers, lists of orders and seats make no crew; none where they make one.
+    pub(crate) fn of(workers: u16, lists: usize, seats: usize) -> Option<CrewWhy>
+        ensures value { result ≡ crew_fault workers lists seats }
+        ensures enough { IfNone result (workers + lists ≤ seats) }
+    {
+        if workers == 0 {
+            return Some(CrewWhy::NoWorkers);
+        }
+        match seats.checked_sub(workers as usize) {
+            Some(left) if left >= lists => None,
+            _ => Some(CrewWhy::NoSeats),
+        }
     }
 }
 

@@ -88,7 +88,7 @@ fn filled(alloc: Global, places: &[Option<CallEnd>]) -> Result<Vec<CallEnd>, All
 }
 
 // What is wrong with reports where there is no memory to note them in, so that each is compared with those before it.
-fn fault_of(expected: u32, found: &[(u32, CallEnd)]) -> CrewWhy
+pub(crate) fn fault_of(expected: u32, found: &[(u32, CallEnd)]) -> CrewWhy
     ensures { Fails expected (numbers_of found.now) result }
 {
     match first_wrong(expected, found) {

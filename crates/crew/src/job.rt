@@ -1,6 +1,6 @@
 use std::io::{Read, Write};
 
-/// A job that could not be opened. Nothing was read or written.
+/// A job that could not be opened. Nothing was answered.
 #[derive(Clone, Copy, Debug, PartialEq, Eq)]
 pub struct Unopened;
 

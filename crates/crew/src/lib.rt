@@ -1,20 +1,31 @@
-//! What workers need to serve calls over one hall: a door, jobs, a turnstile, a ring, and the gathering of reports.
+//! Workers that serve calls over one hall, each with a seat of its own, while others make the changes that are ordered.
 #![tactic(auto)]
 
 mod call_end;
 mod crew_why;
 mod door;
+mod errand;
 mod gathering;
 mod job;
 mod laws;
+mod report;
 mod ring;
+mod serve;
+mod staff;
 mod turnstile;
+mod work;
 
 pub use call_end::CallEnd;
 pub use crew_why::CrewWhy;
 pub use door::HallDoor;
+pub use errand::carry_out;
 pub use gathering::gather;
 pub use job::{Job, Unopened};
-pub use laws::one_gathering;
+pub use laws::{one_gathering, watches_tell_the_story};
+pub use report::{CrewFault, Report};
 pub use ring::{Ring, RingBell};
+pub use serve::serve_all;
 pub use turnstile::{OpenTurnstile, Turnstile};
+
+#[cfg(test)]
+mod tests;

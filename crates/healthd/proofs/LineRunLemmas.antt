@@ -13,7 +13,8 @@ use Rattle.healthd.specs.declared.line.Line.{Line}
 use Rattle.healthd.specs.declared.line.Line.TheVariants.{Register, Check, Open, Board}
 use Rattle.healthd.specs.declared.outcome.Outcome.{Outcome}
 use Rattle.healthd.specs.declared.outcome.Outcome.TheVariants as outcomes
-use Rattle.healthd.specs.Run.{RunState, with_watches, IsChanged, asked, IsLineRun, with_rule}
+use Rattle.desk_core.specs.Order.{call_at}
+use Rattle.healthd.specs.Run.{RunState, with_watches, IsChanged, IsLineRun, with_rule}
 use Rattle.healthd.specs.Run.IsLineRun.{Registers, Checks, Opens, Packs}
 
 -- a line that is of a kind, met as one of that kind
@@ -23,7 +24,7 @@ of_kind names run after line kind rules outcome is met =
     subst P (sym is) met
 
 -- a line that registers the first probe
-pub registers_first : (names : List (List ℕ)) (run after : RunState) (line : Line) (name : List ℕ) (said rule : Rule) (rules left : List Rule) (taken : Result Reply Refusal) → line ≡ Register name said → rules ≡ rule ∷ left → IsChanged run (asked names (λ slot. calls.Register slot rule) name) after taken → IsLineRun names run (with_rule line rules) after (outcomes.Changed taken)
+pub registers_first : (names : List (List ℕ)) (run after : RunState) (line : Line) (name : List ℕ) (said rule : Rule) (rules left : List Rule) (taken : Result Reply Refusal) → line ≡ Register name said → rules ≡ rule ∷ left → IsChanged run (call_at names (λ slot. calls.Register slot rule) name) after taken → IsLineRun names run (with_rule line rules) after (outcomes.Changed taken)
 registers_first names run after line name said rule rules left taken is first changes =
     let P : List Rule → Type 0 = λ rs. IsLineRun names run (with_rule (Register name said) rs) after (outcomes.Changed taken) in
     of_kind _ _ _ _ _ _ _ is (subst P (sym first) (Registers name rule after taken changes))

@@ -16,7 +16,8 @@ use Rattle.desk_core.specs.Present.{is_lawful}
 use Rattle.desk_core.specs.Reply.{reply_to}
 use Rattle.desk_core.specs.Watch.{WatchState}
 use Rattle.desk_core.specs.Catalogue.{slot_of}
-use Rattle.healthd.specs.Run.{RunState, with_call, IsFull, IsChanged, asked}
+use Rattle.desk_core.specs.Order.{call_at}
+use Rattle.healthd.specs.Run.{RunState, with_call, IsFull, IsChanged}
 use Rattle.healthd.specs.Run.IsChanged.{NotListed, BadRule, Full, NoMemory, Taken}
 
 -- a desk and watches as a run
@@ -97,7 +98,7 @@ unregistered old new watches slot rule refusal bad full listed same =
     by_refusal refusals.NotListed bad full listed = absurd (listed refl)
 
 -- a change of a name that has no slot
-pub unlisted : (names : List (List ℕ)) (call : ℕ → Call) (name : List ℕ) (run : RunState) (wanted : Option Call) (listed : Result ℕ Refusal) (refusal : Refusal) (result : Result Reply Refusal) → wanted ≡ asked names call name → listed ≡ ok_or (slot_of names name) refusals.NotListed → listed ≡ Err refusal → result ≡ Err refusal → IsChanged run wanted run result
+pub unlisted : (names : List (List ℕ)) (call : ℕ → Call) (name : List ℕ) (run : RunState) (wanted : Option Call) (listed : Result ℕ Refusal) (refusal : Refusal) (result : Result Reply Refusal) → wanted ≡ call_at names call name → listed ≡ ok_or (slot_of names name) refusals.NotListed → listed ≡ Err refusal → result ≡ Err refusal → IsChanged run wanted run result
 unlisted names call name run wanted listed refusal result is looked was exits = by_slot (slot_of names name) is (sym was ∙ looked)
   where
     by_slot : (o : Option ℕ) → wanted ≡ option_map call o → Err refusal ≡ ok_or o refusals.NotListed → IsChanged run wanted run result
@@ -109,7 +110,7 @@ unlisted names call name run wanted listed refusal result is looked was exits = 
     by_slot (Some slot) some gone = absurd (cc)
 
 -- a change of a name that has the slot
-pub at_slot : (names : List (List ℕ)) (call : ℕ → Call) (name : List ℕ) (slot : ℕ) (wanted : Option Call) (listed : Result ℕ Refusal) (inside run after : RunState) (taken : Result Reply Refusal) → wanted ≡ asked names call name → listed ≡ ok_or (slot_of names name) refusals.NotListed → listed ≡ Ok slot → inside ≡ run → IsChanged inside (Some (call slot)) after taken → IsChanged run wanted after taken
+pub at_slot : (names : List (List ℕ)) (call : ℕ → Call) (name : List ℕ) (slot : ℕ) (wanted : Option Call) (listed : Result ℕ Refusal) (inside run after : RunState) (taken : Result Reply Refusal) → wanted ≡ call_at names call name → listed ≡ ok_or (slot_of names name) refusals.NotListed → listed ≡ Ok slot → inside ≡ run → IsChanged inside (Some (call slot)) after taken → IsChanged run wanted after taken
 at_slot names call name slot wanted listed inside run after taken is looked was same changes = by_slot (slot_of names name) is (sym was ∙ looked)
   where
     by_slot : (o : Option ℕ) → wanted ≡ option_map call o → Ok slot ≡ ok_or o refusals.NotListed → IsChanged run wanted after taken

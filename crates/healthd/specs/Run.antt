@@ -1,13 +1,11 @@
 -- A script that is run: its lines one after the other, by one thread over a new registry.
 use Rattle.std.specs.Prelude.{ℕ, ◌≡◌, Bool, true, false, List, [], ◌∷◌, ◌++◌, length, codes, slice_get, slice_set, count_by, Option, None, Some, Result, Ok, Err}
-use Rattle.std.specs.Option.{option_map}
 use Rattle.health_wire.specs.declared.serving.Serving.{Serving}
 use Rattle.probe_core.specs.declared.rule.Rule.{Rule}
 use Rattle.desk_core.specs.declared.call.Call.{Call}
 use Rattle.desk_core.specs.declared.call.Call.TheVariants as calls
 use Rattle.desk_core.specs.declared.entry.Entry.{Entry}
 use Rattle.desk_core.specs.declared.order.Order.{Order as OrderOf}
-use Rattle.desk_core.specs.declared.order.Order.TheVariants.{Observe, Set, Shutdown, Resume}
 use Rattle.desk_core.specs.declared.refusal.Refusal.{Refusal}
 use Rattle.desk_core.specs.declared.refusal.Refusal.TheVariants as refusals
 use Rattle.desk_core.specs.declared.reply.Reply.{Reply}
@@ -15,6 +13,7 @@ use Rattle.desk_core.specs.Board.{board_of}
 use Rattle.desk_core.specs.Catalogue.{slot_of}
 use Rattle.desk_core.specs.Changes.{changes_of}
 use Rattle.desk_core.specs.Legal.{IsLawfulCall}
+use Rattle.desk_core.specs.Order.{call_at, ordered}
 use Rattle.desk_core.specs.Reply.{reply_to}
 use Rattle.desk_core.specs.Status.{status_map, shown}
 use Rattle.desk_core.specs.Watch.{WatchState, opened, stepped}
@@ -61,17 +60,6 @@ pub data IsChanged (run : RunState) : Option Call → RunState → Result Reply 
   NoMemory : (call : Call) → IsLawfulCall call → ¬ IsFull run → IsChanged run (Some call) run (Err refusals.NoMemory)
   Taken : (call : Call) → IsLawfulCall call → ¬ IsFull run → IsChanged run (Some call) (with_call run call (reply_to run.entries call)) (Ok (reply_to run.entries call))
 
--- the change that is asked for at the slot of a name, if it has one
-abbrev pub asked : List (List ℕ) → (ℕ → Call) → List ℕ → Option Call
-asked names call name = option_map call (slot_of names name)
-
--- the change that an order asks for
-abbrev pub ordered : List (List ℕ) → OrderOf → Option Call
-ordered names (Observe name finding) = asked names (λ slot. calls.Observe slot finding) name
-ordered names (Set name setting) = asked names (λ slot. calls.Set slot setting) name
-ordered names Shutdown = Some calls.Shutdown
-ordered names Resume = Some calls.Resume
-
 -- a step of the watch with this number: the run after it, and what the watch is shown
 pub record IsStepped (run : RunState) (number : ℕ) (after : RunState) (status : Option Serving) : Type 0 where
   pub watch : WatchState
@@ -81,8 +69,8 @@ pub record IsStepped (run : RunState) (number : ℕ) (after : RunState) (status 
 
 -- how a run over a catalogue of these names meets a line: the run after it, and what the line comes to
 pub data IsLineRun (names : List (List ℕ)) (run : RunState) : Line → RunState → Outcome → Type 0 where
-  Registers : (name : List ℕ) (rule : Rule) (after : RunState) (taken : Result Reply Refusal) → IsChanged run (asked names (λ slot. calls.Register slot rule) name) after taken → IsLineRun names run (Register name rule) after (outcomes.Changed taken)
-  Retires : (name : List ℕ) (after : RunState) (taken : Result Reply Refusal) → IsChanged run (asked names (λ slot. calls.Retire slot) name) after taken → IsLineRun names run (Retire name) after (outcomes.Changed taken)
+  Registers : (name : List ℕ) (rule : Rule) (after : RunState) (taken : Result Reply Refusal) → IsChanged run (call_at names (λ slot. calls.Register slot rule) name) after taken → IsLineRun names run (Register name rule) after (outcomes.Changed taken)
+  Retires : (name : List ℕ) (after : RunState) (taken : Result Reply Refusal) → IsChanged run (call_at names (λ slot. calls.Retire slot) name) after taken → IsLineRun names run (Retire name) after (outcomes.Changed taken)
   Orders : (order : OrderOf) (after : RunState) (taken : Result Reply Refusal) → IsChanged run (ordered names order) after taken → IsLineRun names run (Order order) after (outcomes.Changed taken)
   Checks : (name : List ℕ) → IsLineRun names run (Check name) run (outcomes.Checked (status_map names run.entries name))
   Opens : (name : List ℕ) → IsLineRun names run (Open name) (with_watches run (run.watches ++ opened (changes_of run.entries) (slot_of names name) ∷ [])) (outcomes.Opened (length run.watches) (shown run.entries (slot_of names name)))

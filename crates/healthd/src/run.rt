@@ -36,7 +36,8 @@ impl<P: Probe> Run<P> {
     ghost use Rattle.desk_core.specs.Changes.{changes_of};
     ghost use Rattle.desk_core.specs.Status.{shown};
     ghost use Rattle.desk_core.specs.Watch.{opened};
-    ghost use Rattle.healthd.specs.Run.{opening, with_watches, IsChanged, IsStepped, IsLineRun, asked, ordered, registers, with_rule, rules_after};
+    ghost use Rattle.desk_core.specs.Order.{call_at, ordered};
+    ghost use Rattle.healthd.specs.Run.{opening, with_watches, IsChanged, IsStepped, IsLineRun, registers, with_rule, rules_after};
     ghost use Rattle.healthd.specs.Script.{IsStepOfOpened};
 
     pub fn new(alloc: Global, max_entries: u32) -> Run<P>
@@ -79,7 +80,7 @@ impl<P: Probe> Run<P> {
     }
 
     fn register(&mut self, catalogue: &Catalogue, name: &Name, probe: P) -> Result<Reply, Refusal>
-        ensures { IsChanged self.old (asked catalogue.now (λ slot. calls.Register slot (P.rule probe)) name.now) self.new result }
+        ensures { IsChanged self.old (call_at catalogue.now (λ slot. calls.Register slot (P.rule probe)) name.now) self.new result }
     {
         let slot = listed(catalogue, name)?;
         match self.desk.register(SEAT, slot, probe) {
@@ -89,7 +90,7 @@ impl<P: Probe> Run<P> {
     }
 
     fn retire(&mut self, catalogue: &Catalogue, name: &Name) -> Result<Reply, Refusal>
-        ensures { IsChanged self.old (asked catalogue.now (λ slot. calls.Retire slot) name.now) self.new result }
+        ensures { IsChanged self.old (call_at catalogue.now (λ slot. calls.Retire slot) name.now) self.new result }
     {
         let slot = listed(catalogue, name)?;
         let (reply, _) = self.desk.retire(SEAT, slot)?;

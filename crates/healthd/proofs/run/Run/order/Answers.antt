@@ -1,7 +1,7 @@
 use Rattle.std.proofs.Common.{Err, ap, ◌∙◌}
 use Rattle.std.proofs.lemmas.Result.{err_from_is_err_and}
 use Rattle.desk_core.specs.declared.call.Call.TheVariants as calls
-use Rattle.healthd.specs.Run.{ordered}
+use Rattle.desk_core.specs.Order.{ordered}
 use Rattle.healthd.proofs.RunLemmas.{unlisted, at_slot, in_run, changed}
 use Rattle.healthd.proofs.run.Run.order.Goals as goal
 

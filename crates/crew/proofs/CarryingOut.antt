@@ -1,0 +1,201 @@
+-- How changes come out that a seat is asked for: each of the hall's answers, and lists that grow at their end.
+use Rattle.std.proofs.Common.{◌≡◌, ℕ, zero, suc, ◌+◌, ◌≤◌, ◌<◌, get_or, List, [], ◌∷◌, ◌++◌, map, length, take, sym, refl, ap, subst, ◌∙◌, arith, length-append}
+use Rattle.std.specs.Prelude.{Bool, true, false, Option, Some, None, Result, Ok, Err, IfOk, IfErr, OnErr}
+use Rattle.std.specs.List.{slice_get}
+use Rattle.std.specs.Option.{option_map}
+use Rattle.std.proofs.lemmas.Option.{slice_get-map, slice_get-get_or}
+use Rattle.std.proofs.lemmas.Bool.{false≢true}
+use Rattle.std.proofs.lemmas.List.{append_assoc, reverse-append, take_all, length-map}
+use Rattle.desk_core.specs.declared.call.Call.{Call}
+use Rattle.desk_core.specs.declared.entry.Entry.{Entry}
+use Rattle.desk_core.specs.declared.refusal.Refusal.{Refusal}
+use Rattle.desk_core.specs.declared.refusal.Refusal.TheVariants as refusals
+use Rattle.desk_core.specs.declared.reply.Reply.{Reply}
+use Rattle.desk_core.specs.Catalogue.{slot_of}
+use Rattle.desk_core.specs.Legal.{IsLawfulCall}
+use Rattle.desk_core.specs.Order.{call_at}
+use Rattle.desk_core.specs.Past.{past}
+use Rattle.desk_core.specs.Watch.{IsOlder}
+use Rattle.hall.specs.Seats.{HallState, SeatState, IsOf, GoesOn, Makes, MakesAt, IsOutOfRoom, IsRefusedFor, own_calls, with_seen}
+use Rattle.crew.specs.Errand.{IsCarriedOut, NotListed, BadRule, Taken, Full, NoMemory, AreCarriedOut, Ends, Then, HasCarriedOut, replied}
+use Rattle.crew.specs.Looking.{HasLooked, older_on}
+use Rattle.crew.proofs.Soundness.{take_with}
+
+-- a seat that made no change has looked
+kept_looked : (old new : SeatState) → GoesOn old new → own_calls new ≡ own_calls old → HasLooked old new
+kept_looked old new on own = record { same = on.same; begins = on.begins; own = own }
+
+-- a change of a service, whose rule may be unlawful
+pub met_lawful : (names : List (List ℕ)) (call : ℕ → Call) (lawful : ℕ → Bool) (name : List ℕ) (old new : SeatState) (result : Result Reply Refusal)
+    → ((slot : ℕ) → lawful slot ≡ false → ¬ IsLawfulCall (call slot)) → GoesOn old new → IfOk result (λ reply. MakesAt names name call old new reply)
+    → IfErr result (λ refusal. IsRefusedFor (slot_of names name) lawful old new refusal)
+    → OnErr result (own_calls new ≡ own_calls old) → IsCarriedOut old new (call_at names call name) result
+met_lawful names call lawful name old new (Ok reply) unlawful on made refused kept = rw made.listed (Taken (call made.slot) reply on made.makes)
+met_lawful names call lawful name old new (Err refusals.NotListed) unlawful on made refused kept = rw refused.0 (NotListed refused.1)
+met_lawful names call lawful name old new (Err refusals.BadRule) unlawful on made refused kept =
+    rw refused.1 (BadRule (call refused.0) (unlawful refused.0 refused.2) (kept_looked old new on kept))
+met_lawful names call lawful name old new (Err refusals.Full) unlawful on made refused kept =
+    rw refused.1 (Full (call refused.0) refused.3 (kept_looked old new on kept))
+met_lawful names call lawful name old new (Err refusals.NoMemory) unlawful on made refused kept =
+    rw refused.1 (NoMemory (call refused.0) refused.3 (kept_looked old new on kept))
+
+-- a change of a service without a rule
+pub met_at : (names : List (List ℕ)) (call : ℕ → Call) (name : List ℕ) (old new : SeatState) (result : Result Reply Refusal)
+    → GoesOn old new → IfOk result (λ reply. MakesAt names name call old new reply)
+    → IfErr result (λ refusal. IsRefusedFor (slot_of names name) (λ slot. true) old new refusal)
+    → OnErr result (own_calls new ≡ own_calls old) → IsCarriedOut old new (call_at names call name) result
+met_at names call name old new result = met_lawful names call (λ slot. true) name old new result (λ slot no. absurd (false≢true (sym no)))
+
+-- a change of all services
+pub met_by_all : (call : Call) (old new : SeatState) (result : Result Reply Refusal) → GoesOn old new
+    → IfOk result (λ reply. Makes old new call reply) → IfErr result (λ refusal. IsOutOfRoom new refusal)
+    → OnErr result (own_calls new ≡ own_calls old) → IsCarriedOut old new (Some call) result
+met_by_all call old new (Ok reply) on made refused kept = Taken call reply on made
+met_by_all call old new (Err refusals.NotListed) on made refused kept = absurd refused
+met_by_all call old new (Err refusals.BadRule) on made refused kept = absurd refused
+met_by_all call old new (Err refusals.Full) on made refused kept = Full call refused (kept_looked old new on kept)
+met_by_all call old new (Err refusals.NoMemory) on made refused kept = NoMemory call refused (kept_looked old new on kept)
+
+-- one change more
+pub meets_more : (old between new : SeatState) (calls : List (Option Call)) (results : List (Result Reply Refusal)) (call : Option Call) (result : Result Reply Refusal)
+    → AreCarriedOut old between calls results → IsCarriedOut between new call result → AreCarriedOut old new (calls ++ call ∷ []) (results ++ result ∷ [])
+meets_more old between new calls results call result (Ends seat) met = Then _ _ _ _ _ _ _ met (Ends new)
+meets_more old between new calls results call result (Then old' first between' call' result' calls' results' met' rest) met =
+    Then old first new call' result' _ _ met' (meets_more first between new calls' results' call result rest met)
+
+-- the seat stays the hall's, by its number
+pub met_same : (old new : SeatState) (call : Option Call) (result : Result Reply Refusal) → IsCarriedOut old new call result → new ≡ with_seen old new.seen
+met_same old new call result (Taken made reply on makes) = on.same
+met_same old new call result (NotListed same) = same ∙ ap (λ (seat : SeatState). with_seen old seat.seen) (sym same)
+met_same old new call result (BadRule asks unlawful looked) = looked.same
+met_same old new call result (Full asks full looked) = looked.same
+met_same old new call result (NoMemory asks room looked) = looked.same
+
+-- a seat's own entries after a change
+met_own : (old new : SeatState) (call : Option Call) (result : Result Reply Refusal) → IsCarriedOut old new call result
+    → own_calls new ≡ past (replied old.number (call ∷ []) (result ∷ [])) ++ own_calls old
+met_own old new call result (Taken made reply on makes) = makes.own
+met_own old new call result (NotListed same) = ap own_calls same
+met_own old new call result (BadRule asks unlawful looked) = looked.own
+met_own old new call result (Full asks full looked) = looked.own
+met_own old new call result (NoMemory asks room looked) = looked.own
+
+-- the first change's entry stands before those of the others
+replied_first : (seat : ℕ) (call : Option Call) (result : Result Reply Refusal) (calls : List (Option Call)) (results : List (Result Reply Refusal))
+    → replied seat (call ∷ calls) (result ∷ results) ≡ replied seat (call ∷ []) (result ∷ []) ++ replied seat calls results
+replied_first seat (Some call) (Ok reply) calls results = refl
+replied_first seat None (Ok reply) calls results = refl
+replied_first seat (Some call) (Err refusal) calls results = refl
+replied_first seat None (Err refusal) calls results = refl
+
+-- the seat that met changes is the same, but for what it has seen
+pub are_same : (old new : SeatState) (calls : List (Option Call)) (results : List (Result Reply Refusal)) → AreCarriedOut old new calls results
+    → new ≡ with_seen old new.seen
+are_same old new calls results (Ends seat) = refl
+are_same old new calls results (Then old' between new' call result calls' results' met rest) =
+    are_same between new calls' results' rest ∙ ap (λ (seat : SeatState). with_seen seat new.seen) (met_same old between call result met)
+
+-- a seat's own entries after changes
+pub are_own : (old new : SeatState) (calls : List (Option Call)) (results : List (Result Reply Refusal)) → AreCarriedOut old new calls results
+    → own_calls new ≡ past (replied old.number calls results) ++ own_calls old
+are_own old new calls results (Ends seat) = refl
+are_own old new calls results (Then old' between new' call result calls' results' met rest) =
+    let number : between.number ≡ old.number = ap (λ (seat : SeatState). seat.number) (met_same old between call result met) in
+    let here : List Entry = replied old.number (call ∷ []) (result ∷ []) in
+    let there : List Entry = replied old.number calls' results' in
+    are_own between new calls' results' rest
+    ∙ (ap (λ n. past (replied n calls' results') ++ own_calls between) number
+    ∙ (ap (λ es. past there ++ es) (met_own old between call result met)
+    ∙ (sym (append_assoc (past there) (past here) (own_calls old))
+    ∙ ap (λ es. es ++ own_calls old) (sym (ap past (replied_first old.number call result calls' results') ∙ reverse-append here there)))))
+
+-- what it had seen begins what it has seen
+met_begins : (old new : SeatState) (call : Option Call) (result : Result Reply Refusal) → IsCarriedOut old new call result → IsOlder old.seen new.seen
+met_begins old new call result (Taken made reply on makes) = on.begins
+met_begins old new call result (NotListed same) = record { newer = []; is = ap (λ (seat : SeatState). seat.seen) same }
+met_begins old new call result (BadRule asks unlawful looked) = looked.begins
+met_begins old new call result (Full asks full looked) = looked.begins
+met_begins old new call result (NoMemory asks room looked) = looked.begins
+
+are_begun : (old new : SeatState) (calls : List (Option Call)) (results : List (Result Reply Refusal)) → AreCarriedOut old new calls results → IsOlder old.seen new.seen
+are_begun old new calls results (Ends seat) = record { newer = []; is = refl }
+are_begun old new calls results (Then old' between new' call result calls' results' met rest) =
+    older_on old.seen between.seen new.seen (met_begins old between call result met) (are_begun between new calls' results' rest)
+
+-- a change that finds the journal full
+one_full : (old new : SeatState) (call : Option Call) (result : Result Reply Refusal) → IsCarriedOut old new call result → result ≡ Err refusals.Full → new.most ≤ length new.seen
+one_full old new call result (Taken made reply on makes) is = let no : ⊥ = cc in absurd no
+one_full old new call result (NotListed same) is = let no : ⊥ = cc in absurd no
+one_full old new call result (BadRule asks unlawful looked) is = let no : ⊥ = cc in absurd no
+one_full old new call result (Full asks full looked) is = omega (arith, full)
+one_full old new call result (NoMemory asks room looked) is = let no : ⊥ = cc in absurd no
+
+-- a full journal stays full
+full_stays : (old new : SeatState) (calls : List (Option Call)) (results : List (Result Reply Refusal)) → AreCarriedOut old new calls results
+    → (place : ℕ) → place < length results → get_or results place (Err refusals.Full) ≡ Err refusals.Full → new.most ≤ length new.seen
+full_stays old new calls results (Ends seat) place below is = absurd (omega (arith, below))
+full_stays old new calls results (Then old' between new' call result calls' results' met rest) zero below is =
+    let most : new.most ≡ between.most = ap (λ (seat : SeatState). seat.most) (are_same between new calls' results' rest) in
+    let begun : IsOlder between.seen new.seen = are_begun between new calls' results' rest in
+    omega (arith, one_full old between call result met is, most, ap length begun.is, length-append begun.newer between.seen)
+full_stays old new calls results (Then old' between new' call result calls' results' met rest) (suc place) below is =
+    full_stays between new calls' results' rest place (omega (arith, below)) is
+
+-- a seat after changes
+pub has_met : (old new : SeatState) (calls : List (Option Call)) (results : List (Result Reply Refusal)) → AreCarriedOut old new calls results → HasCarriedOut old new calls results
+has_met old new calls results met = record {
+  done = met;
+  same = are_same old new calls results met;
+  begins = are_begun old new calls results met;
+  own = are_own old new calls results met;
+  full = λ refused. full_stays old new calls results met refused.0 refused.1 refused.2;
+}
+
+-- the part of an errand that is done: so many of the changes are met, each with its result
+pub record IsUnderWay (calls : List (Option Call)) (old now : SeatState) (count : ℕ) (results : List (Result Reply Refusal)) : Type 0 where
+  pub met : AreCarriedOut old now (take count calls) results
+  pub len : length results ≡ count
+
+pub under_way_more : (calls : List (Option Call)) (old now new : SeatState) (count : ℕ) (call : Option Call) (results more : List (Result Reply Refusal)) (result : Result Reply Refusal)
+    → IsUnderWay calls old now count results → slice_get calls count ≡ Some call → IsCarriedOut now new call result → more ≡ results ++ result ∷ []
+    → IsUnderWay calls old new (count + 1) more
+under_way_more calls old now new count call results more result way at met pushed = record {
+  met = rw (pushed, take_with calls count call at) (meets_more old now new (take count calls) results call result way.met met);
+  len = ap length pushed ∙ omega (arith, length-append results (result ∷ []), way.len);
+}
+
+-- an order more of an errand
+pub order_more : {X : Type 0} (f : X → Option Call) (orders : List X) (old now new : SeatState) (count : ℕ) (order : X) (results more : List (Result Reply Refusal)) (result : Result Reply Refusal)
+    → IsUnderWay (map f orders) old now count results → count < length orders → order ≡ get_or orders count order → IsCarriedOut now new (f order) result
+    → more ≡ results ++ result ∷ [] → IsUnderWay (map f orders) old new (count + 1) more
+order_more f orders old now new count order results more result way within is met pushed =
+    let at : slice_get orders count ≡ Some order = slice_get-get_or orders count order within ∙ ap Some (sym is) in
+    under_way_more (map f orders) old now new count (f order) results more result way (slice_get-map f orders count ∙ ap (option_map f) at) met pushed
+
+-- an errand whose orders are all done
+pub errand_done : {X : Type 0} (f : X → Option Call) (orders : List X) (old new : SeatState) (count : ℕ) (results : List (Result Reply Refusal)) → IsUnderWay (map f orders) old new count results
+    → length orders ≤ count → HasCarriedOut old new (map f orders) results
+errand_done f orders old new count results way all =
+    let long : length (map f orders) ≤ count = omega (arith, length-map orders f, all) in
+    has_met old new (map f orders) results (subst (λ cs. AreCarriedOut old new cs results) (take_all count (map f orders) long) way.met)
+
+-- an errand that begins
+pub errand_begins : (calls : List (Option Call)) (seat : SeatState) (results : List (Result Reply Refusal)) → results ≡ [] → IsUnderWay calls seat seat 0 results
+errand_begins calls seat results none = rw none (record { met = Ends seat; len = refl })
+
+-- the seat is the hall's after a change too
+pub met_ours : (hall : HallState) (old new : SeatState) (call : Option Call) (result : Result Reply Refusal) → IsOf hall old → IsCarriedOut old new call result → IsOf hall new
+met_ours hall old new call result ours met =
+    let same : new ≡ with_seen old new.seen = met_same old new call result met in
+    record { table = ap (λ (s : SeatState). s.table) same ∙ ours.table; most = ap (λ (s : SeatState). s.most) same ∙ ours.most }
+
+-- a seat that looked or met changes stays the hall's
+pub looked_ours : (hall : HallState) (old new : SeatState) → IsOf hall old → HasLooked old new → IsOf hall new
+looked_ours hall old new ours looked =
+    record { table = ap (λ (s : SeatState). s.table) looked.same ∙ ours.table; most = ap (λ (s : SeatState). s.most) looked.same ∙ ours.most }
+
+pub are_ours : (hall : HallState) (old new : SeatState) (calls : List (Option Call)) (results : List (Result Reply Refusal)) → IsOf hall old → AreCarriedOut old new calls results
+    → IsOf hall new
+are_ours hall old new calls results ours met =
+    let same : new ≡ with_seen old new.seen = are_same old new calls results met in
+    record { table = ap (λ (s : SeatState). s.table) same ∙ ours.table; most = ap (λ (s : SeatState). s.most) same ∙ ours.most }

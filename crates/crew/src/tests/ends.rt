@@ -1,0 +1,154 @@
+use crate::tests::gates::{Doorkeeper, Noting};
+use crate::tests::halls::{Found, hall_of_two, serve};
+use crate::tests::letters::{
+    CHECK_OF_EMPTY, CHECK_OF_ZZ, CUT, GET, LIST, Letter, WATCH_OF_ZZ, notes,
+};
+use crate::{CallEnd, OpenTurnstile};
+use grpc_frame::Code;
+use std::io::ErrorKind;
+use std::process::Abort;
+use std::sync::Wait;
+use std::sync::atomic::{AtomicU32, Ordering};
+use std::thread::Threads;
+use web_call::faulty::{Fault, FaultyReader, FaultyWriter};
+use web_call::{ExchangeFault, Outcome, Why};
+
+/// The calls have to end so, each at its number.
+fn expect_ends(rt: &impl Abort, found: Found, ends: &[CallEnd]) {
+    let report = found.ok().expect(rt, "a report");
+    assert!(rt; report.calls.as_slice() == ends, "{:?}", report.calls);
+}
+
+/// Calls of one crew, two of which can't be opened.
+const REQUESTS: [Option<&[u8]>; 9] = [
+    Some(CHECK_OF_EMPTY),
+    None,
+    Some(CHECK_OF_ZZ),
+    Some(LIST),
+    Some(GET),
+    Some(CUT),
+    Some(WATCH_OF_ZZ),
+    None,
+    Some(CHECK_OF_EMPTY),
+];
+
+const ENDS: [CallEnd; 9] = [
+    CHECKED,
+    CallEnd::Unopened,
+    CallEnd::Done(Outcome::Status(Code::NotFound)),
+    CallEnd::Done(Outcome::Status(Code::Unimplemented)),
+    CallEnd::Done(Outcome::Http(405)),
+    CUT_SHORT,
+    CallEnd::Done(Outcome::Watched { messages: 1 }),
+    CallEnd::Unopened,
+    CHECKED,
+];
+
+const CHECKED: CallEnd = CallEnd::Done(Outcome::Status(Code::Ok));
+
+const CUT_SHORT: CallEnd = CallEnd::Fault(ExchangeFault {
+    why: Why::Read,
+    frames: 0,
+});
+
+fn serve_each<R: Wait + Threads + Sync + Abort + AllocGlobal>(rt: &R, workers: u16) {
+    let (hall, seats) = hall_of_two(rt, 4);
+    let opened = AtomicU32::new(0);
+    let jobs = notes(rt, &REQUESTS, &opened);
+    let noting = Noting::new(rt, REQUESTS.len());
+    let orders = Vec::new(rt.alloc());
+    let found = serve(rt, &hall, seats, jobs, orders, &noting, workers);
+    expect_ends(rt, found, &ENDS);
+    assert!(rt; opened.load(Ordering::SeqCst) == 9);
+    assert!(rt; noting.are_all_gone(rt), "with {workers} workers");
+}
+
+#[test]
+fn each_call_ends_at_its_number_and_passes_the_turnstile_once(rt: HostRuntime) {
+    for workers in [1, 2, 3, 4] {
+        serve_each(&rt, workers);
+    }
+}
+
+fn serve_in_turn<R: Wait + Threads + Sync + Abort + AllocGlobal>(rt: &R) {
+    let (hall, seats) = hall_of_two(rt, 1);
+    let opened = AtomicU32::new(0);
+    let jobs = notes(rt, &REQUESTS, &opened);
+    let doorkeeper = Doorkeeper::new(&opened);
+    let orders = Vec::new(rt.alloc());
+    let found = serve(rt, &hall, seats, jobs, orders, &doorkeeper, 1);
+    expect_ends(rt, found, &ENDS);
+    assert!(rt; doorkeeper.wrong() == 0);
+}
+
+#[test]
+fn a_worker_opens_each_job_between_its_entering_and_its_leaving(rt: HostRuntime) {
+    serve_in_turn(&rt);
+}
+
+/// A Check whose writer fails before its first frame is whole, before its second is, and behind both.
+const NO_FRAME: CallEnd = CallEnd::Fault(ExchangeFault {
+    why: Why::Write,
+    frames: 0,
+});
+
+const ONE_FRAME: CallEnd = CallEnd::Fault(ExchangeFault {
+    why: Why::Write,
+    frames: 1,
+});
+
+const BOTH_FRAMES: CallEnd = CallEnd::Fault(ExchangeFault {
+    why: Why::Write,
+    frames: 2,
+});
+
+const BROKEN: Fault = Fault::Error(ErrorKind::BrokenPipe);
+
+/// Checks, each with the read and the write that fail, counted from 1, the fault, and its end. A Check here takes 108 reads: one
+/// for each byte of the head, and one for the body. Its response has 127 bytes, each with a write of its own, and its first
+/// frame ends at 107. The flush comes last.
+const FAULTS: [(usize, usize, Fault, CallEnd); 12] = [
+    (0, 0, BROKEN, CHECKED),
+    (1, 0, BROKEN, CUT_SHORT),
+    (107, 0, Fault::Nothing, CUT_SHORT),
+    (108, 0, BROKEN, CUT_SHORT),
+    (109, 0, BROKEN, CHECKED),
+    (0, 1, BROKEN, NO_FRAME),
+    (0, 107, Fault::Nothing, NO_FRAME),
+    (0, 108, BROKEN, ONE_FRAME),
+    (0, 127, Fault::Nothing, ONE_FRAME),
+    (0, 128, BROKEN, BOTH_FRAMES),
+    (0, 128, Fault::Nothing, CHECKED),
+    (0, 129, BROKEN, CHECKED),
+];
+
+/// A letter over a faulty reader and a faulty writer.
+type Faulty<'a> = Letter<'a, FaultyReader<'static>, FaultyWriter>;
+
+fn faulty_letters<'a>(rt: &(impl Abort + AllocGlobal), opened: &'a AtomicU32) -> Vec<Faulty<'a>> {
+    let mut letters = Vec::new(rt.alloc());
+    for (read, write, fault, _) in FAULTS {
+        let reader = FaultyReader::new(CHECK_OF_EMPTY, read, fault);
+        let writer = FaultyWriter::new(rt.alloc(), 1, write, fault);
+        let letter = Letter::new(Some((reader, writer)), opened);
+        assert!(rt; letters.push(letter).is_ok());
+    }
+    letters
+}
+
+fn serve_faulty<R: Wait + Threads + Sync + Abort + AllocGlobal>(rt: &R, workers: u16) {
+    let (hall, seats) = hall_of_two(rt, 3);
+    let opened = AtomicU32::new(0);
+    let jobs = faulty_letters(rt, &opened);
+    let orders = Vec::new(rt.alloc());
+    let found = serve(rt, &hall, seats, jobs, orders, &OpenTurnstile, workers);
+    let ends = FAULTS.map(|(_, _, _, end)| end);
+    expect_ends(rt, found, &ends);
+}
+
+#[test]
+fn a_call_whose_reader_or_writer_fails_is_a_fault_at_its_number(rt: HostRuntime) {
+    for workers in [1, 3] {
+        serve_faulty(&rt, workers);
+    }
+}

@@ -1,0 +1,179 @@
+//! Jobs, the requests that they ask, and the texts that answer a Watch.
+
+use crate::{Job, Unopened};
+use std::io;
+use std::io::{Read, Sink, Write};
+use std::process::Abort;
+use std::sync::atomic::{AtomicU32, Ordering};
+
+/// A request that waits for its answer, unless its two ends were lost. It counts its opening.
+#[derive(Drop)]
+pub(crate) struct Letter<'a, R, W> {
+    ends: Option<(R, W)>,
+    opened: &'a AtomicU32,
+}
+
+impl<'a, R, W> Letter<'a, R, W> {
+    pub(crate) fn new(ends: Option<(R, W)>, opened: &'a AtomicU32) -> Letter<'a, R, W> {
+        Letter { ends, opened }
+    }
+}
+
+impl<R: Read + Drop, W: Write + Drop> Job for Letter<'_, R, W> {
+    type Input = R;
+
+    type Output = W;
+
+    fn open(self) -> Result<(R, W), Unopened> {
+        let Letter { ends, opened } = self;
+        opened.fetch_add(1, Ordering::SeqCst);
+        ends.ok_or(Unopened)
+    }
+}
+
+/// A letter with a request over bytes, whose answer nobody reads.
+pub(crate) type Note<'a> = Letter<'a, &'static [u8], Sink>;
+
+/// Letters with these requests. One without a request can't be opened.
+pub(crate) fn notes<'a>(
+    rt: &(impl Abort + AllocGlobal),
+    requests: &[Option<&'static [u8]>],
+    opened: &'a AtomicU32,
+) -> Vec<Note<'a>> {
+    let mut notes = Vec::new(rt.alloc());
+    for request in requests {
+        let ends = request.map(|text| (text, io::sink()));
+        assert!(rt; notes.push(Letter::new(ends, opened)).is_ok());
+    }
+    notes
+}
+
+/// A Check of the empty name. Its head has 107 bytes.
+pub(crate) const CHECK_OF_EMPTY: &[u8] = b"POST /grpc.health.v1.Health/Check HTTP/1.1\r\n\
+    content-type: application/grpc-web+proto\r\n\
+    content-length: 5\r\n\
+    \r\n\
+    \x00\x00\x00\x00\x00";
+
+/// A Check of `zz`, a name that is in no catalogue here.
+pub(crate) const CHECK_OF_ZZ: &[u8] = b"POST /grpc.health.v1.Health/Check HTTP/1.1\r\n\
+    content-type: application/grpc-web+proto\r\n\
+    content-length: 9\r\n\
+    \r\n\
+    \x00\x00\x00\x00\x04\x0a\x02zz";
+
+pub(crate) const CHECK_OF_A: &[u8] = b"POST /grpc.health.v1.Health/Check HTTP/1.1\r\n\
+    content-type: application/grpc-web+proto\r\n\
+    content-length: 8\r\n\
+    \r\n\
+    \x00\x00\x00\x00\x03\x0a\x01a";
+
+pub(crate) const WATCH_OF_A: &[u8] = b"POST /grpc.health.v1.Health/Watch HTTP/1.1\r\n\
+    content-type: application/grpc-web+proto\r\n\
+    content-length: 8\r\n\
+    \r\n\
+    \x00\x00\x00\x00\x03\x0a\x01a";
+
+pub(crate) const WATCH_OF_ZZ: &[u8] = b"POST /grpc.health.v1.Health/Watch HTTP/1.1\r\n\
+    content-type: application/grpc-web+proto\r\n\
+    content-length: 9\r\n\
+    \r\n\
+    \x00\x00\x00\x00\x04\x0a\x02zz";
+
+/// A call of a method that is not served.
+pub(crate) const LIST: &[u8] = b"POST /grpc.health.v1.Health/List HTTP/1.1\r\n\
+    content-type: application/grpc-web+proto\r\n\
+    content-length: 5\r\n\
+    \r\n\
+    \x00\x00\x00\x00\x00";
+
+/// A Check by another method of HTTP.
+pub(crate) const GET: &[u8] = b"GET /grpc.health.v1.Health/Check HTTP/1.1\r\n\
+    content-type: application/grpc-web+proto\r\n\
+    content-length: 5\r\n\
+    \r\n\
+    \x00\x00\x00\x00\x00";
+
+/// A Check that ends within its body.
+pub(crate) const CUT: &[u8] = b"POST /grpc.health.v1.Health/Check HTTP/1.1\r\n\
+    content-type: application/grpc-web+proto\r\n\
+    content-length: 5\r\n\
+    \r\n\
+    \x00\x00\x00\x00";
+
+/// What a Watch writes of a service that is serving, then isn't, and then is.
+pub(crate) const UP_DOWN_UP: &[u8] = b"HTTP/1.1 200 OK\r\n\
+    connection: close\r\n\
+    content-type: application/grpc-web+proto\r\n\
+    transfer-encoding: chunked\r\n\
+    \r\n\
+    7\r\n\
+    \x00\x00\x00\x00\x02\x08\x01\r\n\
+    7\r\n\
+    \x00\x00\x00\x00\x02\x08\x02\r\n\
+    7\r\n\
+    \x00\x00\x00\x00\x02\x08\x01\r\n\
+    2f\r\n\
+    \x80\x00\x00\x00\x2agrpc-status:14\r\n\
+    grpc-message:watch ended\r\n\
+    \r\n\
+    0\r\n\
+    \r\n";
+
+/// What it writes of one that isn't serving, and then is.
+pub(crate) const DOWN_UP: &[u8] = b"HTTP/1.1 200 OK\r\n\
+    connection: close\r\n\
+    content-type: application/grpc-web+proto\r\n\
+    transfer-encoding: chunked\r\n\
+    \r\n\
+    7\r\n\
+    \x00\x00\x00\x00\x02\x08\x02\r\n\
+    7\r\n\
+    \x00\x00\x00\x00\x02\x08\x01\r\n\
+    2f\r\n\
+    \x80\x00\x00\x00\x2agrpc-status:14\r\n\
+    grpc-message:watch ended\r\n\
+    \r\n\
+    0\r\n\
+    \r\n";
+
+/// What it writes of one that is serving, and then isn't.
+pub(crate) const UP_DOWN: &[u8] = b"HTTP/1.1 200 OK\r\n\
+    connection: close\r\n\
+    content-type: application/grpc-web+proto\r\n\
+    transfer-encoding: chunked\r\n\
+    \r\n\
+    7\r\n\
+    \x00\x00\x00\x00\x02\x08\x01\r\n\
+    7\r\n\
+    \x00\x00\x00\x00\x02\x08\x02\r\n\
+    2f\r\n\
+    \x80\x00\x00\x00\x2agrpc-status:14\r\n\
+    grpc-message:watch ended\r\n\
+    \r\n\
+    0\r\n\
+    \r\n";
+
+/// What it writes of one that is serving.
+pub(crate) const UP: &[u8] = b"HTTP/1.1 200 OK\r\n\
+    connection: close\r\n\
+    content-type: application/grpc-web+proto\r\n\
+    transfer-encoding: chunked\r\n\
+    \r\n\
+    7\r\n\
+    \x00\x00\x00\x00\x02\x08\x01\r\n\
+    2f\r\n\
+    \x80\x00\x00\x00\x2agrpc-status:14\r\n\
+    grpc-message:watch ended\r\n\
+    \r\n\
+    0\r\n\
+    \r\n";
+
+/// What answers a Check of one that isn't serving.
+pub(crate) const NOT_SERVING: &[u8] = b"HTTP/1.1 200 OK\r\n\
+    connection: close\r\n\
+    content-type: application/grpc-web+proto\r\n\
+    content-length: 27\r\n\
+    \r\n\
+    \x00\x00\x00\x00\x02\x08\x02\
+    \x80\x00\x00\x00\x0fgrpc-status:0\r\n";
