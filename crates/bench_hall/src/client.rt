@@ -90,3 +90,14 @@ impl<'a> Client for &'a Catalogue {
         false
     }
 }
+
+/// The look-up of a name, and then the load of a word: what a Check cannot do without.
+impl<'a> Client for (&'a Catalogue, &'a AtomicU64) {
+    fn check<R: Wait>(&mut self, _rt: &R, name: &str) -> bool {
+        self.0.slot(name).is_some() && self.1.load(Ordering::SeqCst) != 0
+    }
+
+    fn set<R: Wait>(&mut self, rt: &R, name: &str, setting: Setting) -> bool {
+        self.1.set(rt, name, setting)
+    }
+}

@@ -21,7 +21,9 @@ pub fn report_checks<R: Print + Clock + AllocGlobal + Threads + Wait + Sync>(
     let (hall, lock) = run_both(rt, alloc, &plan)?;
     let load = run_shared(rt, alloc, &AtomicU64::new(1), &plan)?;
     let alone = Plan::new(Task::Check, threads, 0, limit);
-    let names = run_shared(rt, alloc, &catalogue(alloc)?, &alone)?;
+    let catalogue = catalogue(alloc)?;
+    let names = run_shared(rt, alloc, &catalogue, &alone)?;
+    let both = run_shared(rt, alloc, (&catalogue, &AtomicU64::new(1)), &plan)?;
     print!(rt;
         "checkers {threads}, changers {changers}: hall {} ns,",
         hall.per_call()
@@ -33,13 +35,19 @@ pub fn report_checks<R: Print + Clock + AllocGlobal + Threads + Wait + Sync>(
         names.per_call()
     )
     .ok()?;
+    print!(rt; " look-up and load {} ns,", both.per_call()).ok()?;
     print!(rt;
         " lock {} ns; hall / load {},",
         lock.per_call(),
         hall.ratio_to(&load)
     )
     .ok()?;
-    print!(rt; " hall / look-up {},", hall.ratio_to(&names)).ok()?;
+    print!(rt;
+        " hall / look-up {}, hall / look-up and load {},",
+        hall.ratio_to(&names),
+        hall.ratio_to(&both)
+    )
+    .ok()?;
     println!(rt; " lock / hall {}", lock.ratio_to(&hall)).ok()
 }
 
