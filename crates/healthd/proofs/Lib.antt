@@ -11,5 +11,8 @@ pub mod ReplayLemmas
 pub mod RunLemmas
 pub mod RunningLemmas
 pub mod ScriptLemmas
+pub mod SeatLemmas
 pub mod ServiceLemmas
+pub mod SetupLemmas
+pub mod TransferLemmas
 pub mod WordLemmas

@@ -4,8 +4,10 @@ pub mod Lines
 pub mod Opening
 pub mod Reading
 pub mod Replay
+pub mod Request
 pub mod Run
 pub mod RunText
 pub mod Script
 pub mod Service
+pub mod Setup
 pub mod Word

@@ -2,7 +2,7 @@
 use Rattle.std.specs.Prelude.{ℕ, ◌≢◌, List}
 use Rattle.probe_core.specs.declared.rule.Rule.{Rule}
 use Rattle.healthd.specs.declared.fault.Fault.{Fault}
-use Rattle.healthd.specs.declared.fault.Fault.TheVariants.{BadHex, BadService, Script, Read, Write, OutOfMemory}
+use Rattle.healthd.specs.declared.fault.Fault.TheVariants.{BadHex, BadService, Script, Read, Write, Hall, Bind, Crew, SeatsMissing, NameTooLong, Connect, Ask, OutOfMemory}
 use Rattle.healthd.specs.declared.script.Mode.TheVariants.{Replay}
 use Rattle.healthd.specs.declared.script_fault.ScriptFault.TheVariants.{NoMemory}
 use Rattle.healthd.specs.Script.{ScriptParts, IsScript, IsScriptFault}
@@ -22,4 +22,11 @@ EndsReplay bytes BadService = ⊥
 EndsReplay bytes (Script fault) = fault ≢ NoMemory → IsScriptFault Replay bytes fault
 EndsReplay bytes Read = ⊥
 EndsReplay bytes Write = ⊥
+EndsReplay bytes (Hall fault) = ⊥
+EndsReplay bytes Bind = ⊥
+EndsReplay bytes (Crew why) = ⊥
+EndsReplay bytes SeatsMissing = ⊥
+EndsReplay bytes NameTooLong = ⊥
+EndsReplay bytes Connect = ⊥
+EndsReplay bytes (Ask fault) = ⊥
 EndsReplay bytes OutOfMemory = Unit {0}

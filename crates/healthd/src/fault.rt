@@ -1,7 +1,10 @@
 ghost use Rattle.std.specs.Prelude.{◌≡◌};
-ghost use Rattle.healthd.specs.declared.fault.Fault.TheVariants.{OutOfMemory, Script};
+ghost use Rattle.healthd.specs.declared.fault.Fault.TheVariants.{OutOfMemory, Script, Ask};
 
+use crate::ask_fault::AskFault;
 use crate::script_fault::ScriptFault;
+use crew::CrewWhy;
+use hall::HallFault;
 use std::alloc::{AllocError, AllocFailed};
 use thiserror::Error;
 
@@ -18,6 +21,23 @@ pub enum Fault {
     Read,
     #[error("write")]
     Write,
+    #[error("hall fault {}", .0.number())]
+    Hall(HallFault),
+    /// The port can't be listened to, as another program does.
+    #[error("bind")]
+    Bind,
+    #[error("crew fault {}", .0.number())]
+    Crew(CrewWhy),
+    /// Seats of the hall didn't come back.
+    #[error("seats missing")]
+    SeatsMissing,
+    #[error("name too long")]
+    NameTooLong,
+    /// No program listens to the port.
+    #[error("connect")]
+    Connect,
+    #[error("{0}")]
+    Ask(AskFault),
     #[error("out of memory")]
     OutOfMemory,
 }
@@ -43,5 +63,31 @@ impl From<ScriptFault> for Fault {
 
     fn from(fault: ScriptFault) -> Fault {
         Fault::Script(fault)
+    }
+}
+
+impl From<AskFault> for Fault {
+    ghost from_gives = { λ asked fault. fault ≡ Ask asked };
+
+    fn from(fault: AskFault) -> Fault {
+        Fault::Ask(fault)
+    }
+}
+
+impl From<HallFault> for Fault {
+    fn from(fault: HallFault) -> Fault {
+        match fault {
+            HallFault::NoMemory => Fault::OutOfMemory,
+            _ => Fault::Hall(fault),
+        }
+    }
+}
+
+impl From<CrewWhy> for Fault {
+    fn from(why: CrewWhy) -> Fault {
+        match why {
+            CrewWhy::NoMemory => Fault::OutOfMemory,
+            _ => Fault::Crew(why),
+        }
     }
 }

@@ -2,9 +2,14 @@
 #![tactic(auto)]
 
 mod answer;
+mod ask;
+mod ask_fault;
+mod asking;
 mod body;
 mod command;
+mod copies;
 mod fault;
+mod input;
 mod laws;
 mod line;
 mod lines;
@@ -13,23 +18,36 @@ mod number;
 mod opening;
 mod order;
 mod outcome;
+mod part;
 mod read_script;
 mod replay;
+mod request;
+mod response;
+mod response_body;
 mod rule;
 mod run;
 mod run_script;
 mod script;
 mod script_fault;
+mod serve;
+mod served;
 mod service;
+mod setup;
+mod socket;
 #[cfg(test)]
 mod tests;
 mod texts;
+mod told;
+mod transfer;
 mod words;
 
 use clap::error::ErrorKind;
 use fault::Fault;
+use std::net::{Net, TcpListener, TcpStream};
 use std::process::ExitCode;
 use std::rt::Env;
+use std::sync::Wait;
+use std::thread::Threads;
 use std::{env, io};
 
 /// The status of a command line that is refused.
@@ -45,7 +63,18 @@ fn main(rt: HostRuntime) -> ExitCode {
     }
 }
 
-fn execute<R: Input + Print + Eprint + Env + AllocGlobal>(rt: &R) -> Result<ExitCode, Fault> {
+fn execute<R>(rt: &R) -> Result<ExitCode, Fault>
+where
+    R: Input
+        + Print
+        + Eprint
+        + Env
+        + AllocGlobal
+        + Wait
+        + Threads
+        + Sync
+        + Net<Listener = TcpListener, Stream = TcpStream>,
+{
     let alloc = rt.alloc();
     let words: Vec<String> = match env::args(rt) {
         Ok(words) => words.collect(alloc)?,
@@ -58,6 +87,8 @@ fn execute<R: Input + Print + Eprint + Env + AllocGlobal>(rt: &R) -> Result<Exit
     match matches.subcommand() {
         Some(("body", matches)) => body::run(rt, matches)?,
         Some(("replay", _)) => replay::run(rt)?,
+        Some(("serve", matches)) => serve::run(rt, matches)?,
+        Some(("ask", matches)) => ask::run(rt, matches)?,
         _ => return Ok(ExitCode::from(REFUSED)),
     }
     Ok(ExitCode::SUCCESS)

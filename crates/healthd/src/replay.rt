@@ -2,16 +2,15 @@ ghost use Rattle.std.specs.Prelude.{IfErr, IfOk};
 ghost use Rattle.healthd.specs.Replay.{EndsReplay, Replays};
 
 use crate::fault::Fault;
+use crate::input::read;
 use crate::line::Line;
 use crate::read_script::read_script;
 use crate::run_script::run_script;
 use crate::script::Mode;
 use probe_core::{Depends, Manual, Probe, Rule, Threshold};
 use std::alloc::Global;
-use std::io::{self, ErrorKind, Read, Write};
-
-/// One byte more than a script may have.
-const READ_AT_MOST: u64 = 65_537;
+use std::io;
+use std::io::Write;
 
 /// The command `replay`.
 pub fn run(rt: &(impl Input + Print + AllocGlobal)) -> Result<(), Fault> {
@@ -42,16 +41,6 @@ fn replay(alloc: Global, bytes: &[u8]) -> Result<Vec<u8>, Fault>
         }
     }
     Ok(run_script(alloc, script, probes)?)
-}
-
-/// Reads no more than what tells that a script is too long.
-fn read<R: Read + Drop>(alloc: Global, reader: R) -> Result<Vec<u8>, Fault> {
-    let mut bytes = Vec::new(alloc);
-    match reader.take(READ_AT_MOST).read_to_end(&mut bytes) {
-        Ok(_) => Ok(bytes),
-        Err(error) if error.kind() == ErrorKind::OutOfMemory => Err(Fault::OutOfMemory),
-        Err(_) => Err(Fault::Read),
-    }
 }
 
 #[cfg(test)]

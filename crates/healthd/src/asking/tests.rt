@@ -1,0 +1,185 @@
+use super::*;
+use crate::tests::same::same;
+use std::fmt::Debug;
+use std::process::Abort;
+
+mod bad_responses;
+mod bodies;
+mod chunks;
+mod faults;
+mod heads;
+mod memory;
+mod responses;
+
+use responses::{CHECK_OF_EMPTY, SERVING, UNKNOWN_SERVICE, WATCH_OF_UNKNOWN, WATCH_OF_ZZ};
+
+/// What a client is told: the statuses, and the code and the text of the end.
+type Seen<'a> = (&'a [u64], Option<(u32, &'a [u8])>);
+
+fn seen(told: &Told) -> Seen<'_> {
+    let end = match &told.end {
+        Some(ended) => Some((ended.code, ended.text.as_slice())),
+        None => None,
+    };
+    (told.statuses.as_slice(), end)
+}
+
+fn expect_told<A: Debug>(
+    rt: &impl Abort,
+    found: &Result<Told, AskFault>,
+    expected: &Result<Seen<'_>, AskFault>,
+    at: &A,
+) {
+    match found {
+        Ok(told) => same(rt, &Ok(seen(told)), expected, at),
+        Err(fault) => same(rt, &Err(*fault), expected, at),
+    }
+}
+
+/// Asks for the service of the empty name, and tells how many bytes of the input were not read.
+fn ask_over(
+    rt: &(impl Abort + AllocGlobal),
+    input: &[u8],
+    method: Method,
+    most: u32,
+) -> (Result<Told, AskFault>, usize) {
+    assert!(rt; most >= 1);
+    let mut rest = input;
+    let mut written = Vec::new(rt.alloc());
+    let result = ask(rt.alloc(), &mut rest, &mut written, method, "", most);
+    (result, rest.len())
+}
+
+/// What a call over this input has to tell, and how many bytes it has to leave unread.
+fn expect(
+    rt: &(impl Abort + AllocGlobal),
+    input: &[u8],
+    method: Method,
+    most: u32,
+    expected: &Result<Seen<'_>, AskFault>,
+    unread: usize,
+) {
+    let (result, rest) = ask_over(rt, input, method, most);
+    let at = (input.len(), method, most);
+    expect_told(rt, &result, expected, &at);
+    same(rt, &rest, &unread, &at);
+}
+
+/// A call that needs the first bytes of the input, up to `needed`, has to answer `Read` over fewer, and the same over more.
+fn expect_at_each_cut(
+    rt: &(impl Abort + AllocGlobal),
+    input: &[u8],
+    method: Method,
+    most: u32,
+    expected: &Result<Seen<'_>, AskFault>,
+    needed: usize,
+) {
+    for len in 0..needed {
+        let front = input.get(..len).unwrap_or(b"");
+        expect(rt, front, method, most, &Err(AskFault::Read), 0);
+    }
+    for len in needed..input.len() {
+        let front = input.get(..len).unwrap_or(b"");
+        expect(
+            rt,
+            front,
+            method,
+            most,
+            expected,
+            len.saturating_sub(needed),
+        );
+    }
+    let unread = input.len().saturating_sub(needed);
+    expect(rt, input, method, most, expected, unread);
+}
+
+/// A response, the method and the most statuses, what they tell, and how many bytes of the response that needs.
+const ANSWERS: [(&[u8], Method, u32, Seen<'static>, usize); 6] = [
+    (SERVING, Method::Check, 1, (&[1], Some((0, b""))), 127),
+    // a Check doesn't look at the most
+    (
+        UNKNOWN_SERVICE,
+        Method::Check,
+        1_000,
+        (&[], Some((5, b"unknown service"))),
+        150,
+    ),
+    // the first status is enough
+    (WATCH_OF_UNKNOWN, Method::Watch, 1, (&[3], None), 118),
+    // the trailers end at byte 171, and what comes behind them is not read
+    (
+        WATCH_OF_UNKNOWN,
+        Method::Watch,
+        2,
+        (&[3], Some((14, b"watch ended"))),
+        171,
+    ),
+    (
+        WATCH_OF_UNKNOWN,
+        Method::Watch,
+        1_000,
+        (&[3], Some((14, b"watch ended"))),
+        171,
+    ),
+    // a Watch that is refused at once
+    (
+        UNKNOWN_SERVICE,
+        Method::Watch,
+        1,
+        (&[], Some((5, b"unknown service"))),
+        150,
+    ),
+];
+
+#[test]
+fn tells_what_the_response_says_over_each_front_of_it(rt: HostRuntime) {
+    for (input, method, most, told, needed) in &ANSWERS {
+        expect_at_each_cut(&rt, *input, *method, *most, &Ok(*told), *needed);
+    }
+}
+
+fn expect_written(
+    rt: &(impl Abort + AllocGlobal),
+    input: &[u8],
+    method: Method,
+    name: &str,
+    expected: &[u8],
+) {
+    assert!(rt; name.len() <= 2);
+    let mut rest = input;
+    let mut written = Vec::new(rt.alloc());
+    let result = ask(rt.alloc(), &mut rest, &mut written, method, name, 1);
+    let at = (method, result);
+    same(rt, &written.as_slice(), &expected, &at);
+}
+
+#[test]
+fn writes_the_request_whatever_is_answered(rt: HostRuntime) {
+    let inputs: [&[u8]; 4] = [
+        b"",
+        SERVING,
+        b"HTTP/1.1 404 Not Found\r\n\r\n",
+        b"SSH-2.0-OpenSSH_9.6\r\n\r\n",
+    ];
+    for input in &inputs {
+        expect_written(&rt, *input, Method::Check, "", CHECK_OF_EMPTY);
+        expect_written(&rt, *input, Method::Watch, "zz", WATCH_OF_ZZ);
+    }
+}
+
+/// Each fault, and its text on standard error behind the program's name.
+const FAULTS: [(AskFault, &str); 5] = [
+    (AskFault::Read, "read"),
+    (AskFault::Write, "write"),
+    (AskFault::BadResponse, "bad response"),
+    (AskFault::Http(404), "http 404"),
+    (AskFault::NoMemory, "out of memory"),
+];
+
+#[test]
+fn tells_each_fault_in_words(rt: HostRuntime) {
+    for (fault, expected) in &FAULTS {
+        let text = format!(in rt.alloc(); "{fault}").ok().expect(&rt, "a text");
+        same(&rt, &text.as_str(), expected, fault);
+    }
+}

@@ -1,0 +1,94 @@
+use super::responses::of_length;
+use super::*;
+use crate::tests::texts::padded;
+
+/// The statuses 1, 2 and 1, without trailers and with them.
+const THREE: &[u8] = b"\0\0\0\0\x02\x08\x01\0\0\0\0\x02\x08\x02\0\0\0\0\x02\x08\x01";
+
+const THREE_AND_END: &[u8] =
+    b"\0\0\0\0\x02\x08\x01\0\0\0\0\x02\x08\x02\0\0\0\0\x02\x08\x01\x80\0\0\0\x0fgrpc-status:0\r\n";
+
+const OK: Option<(u32, &[u8])> = Some((0, b""));
+
+/// A body, the most statuses of a Watch, what it tells, and how many bytes of the body it leaves.
+const WATCHES: [(&[u8], u32, Seen<'static>, usize); 9] = [
+    (THREE_AND_END, 1, (&[1], None), 34),
+    (THREE_AND_END, 2, (&[1, 2], None), 27),
+    (THREE_AND_END, 3, (&[1, 2, 1], None), 20),
+    (THREE_AND_END, 4, (&[1, 2, 1], OK), 0),
+    // a Watch whose body ends without trailers was cut off
+    (THREE, 3, (&[1, 2, 1], None), 0),
+    (THREE, 4, (&[1, 2, 1], None), 0),
+    (b"", 1, (&[], None), 0),
+    (b"\x80\0\0\0\x0fgrpc-status:0\r\n", 1, (&[], OK), 0),
+    (b"\0\0\0\0\0", 1, (&[0], None), 0),
+];
+
+#[test]
+fn a_watch_tells_so_many_statuses_or_its_end(rt: HostRuntime) {
+    for (body, most, told, left) in &WATCHES {
+        let input = of_length(&rt, *body);
+        expect(&rt, &input, Method::Watch, *most, &Ok(*told), *left);
+    }
+}
+
+/// The body of a Check, and what it tells.
+const CHECKS: [(&[u8], Seen<'static>); 8] = [
+    // UNKNOWN is no byte, and a status that this program doesn't know is told by its number
+    (b"\0\0\0\0\0\x80\0\0\0\x0fgrpc-status:0\r\n", (&[0], OK)),
+    (
+        b"\0\0\0\0\x02\x08\x05\x80\0\0\0\x0fgrpc-status:0\r\n",
+        (&[5], OK),
+    ),
+    (
+        b"\0\0\0\0\x0b\x08\xff\xff\xff\xff\xff\xff\xff\xff\xff\x01\x80\0\0\0\x0fgrpc-status:0\r\n",
+        (&[18_446_744_073_709_551_615], OK),
+    ),
+    // an unknown field, and two statuses of which the last counts
+    (
+        b"\0\0\0\0\x06\x08\x02\x48\x05\x08\x01\x80\0\0\0\x0fgrpc-status:0\r\n",
+        (&[1], OK),
+    ),
+    // all messages are told
+    (THREE_AND_END, (&[1, 2, 1], OK)),
+    (
+        b"\x80\0\0\0\x24GRPC-Message: x\r\na:b\r\ngrpc-status:\t7",
+        (&[], Some((7, b"x"))),
+    ),
+    (
+        b"\x80\0\0\0\x15grpc-status:999999999",
+        (&[], Some((999_999_999, b""))),
+    ),
+    (
+        b"\x80\0\0\0\x24grpc-message:\xff%41\r\ngrpc-status:00013",
+        (&[], Some((13, b"\xff%41"))),
+    ),
+];
+
+#[test]
+fn a_check_tells_each_message_and_the_trailers(rt: HostRuntime) {
+    for (body, told) in &CHECKS {
+        let input = of_length(&rt, *body);
+        expect(&rt, &input, Method::Check, 1, &Ok(*told), 0);
+    }
+}
+
+/// A message of 1,048,551 bytes, which has one unknown field, and trailers of 20: a body of 1,048,576 bytes.
+fn longest_body(rt: &(impl Abort + AllocGlobal)) -> Vec<u8> {
+    let mut body = padded(rt, b"\0\0\x0f\xff\xe7\x12\xe3\xff\x3f", 1_048_556, 0);
+    let trailers = b"\x80\0\0\0\x0fgrpc-status:0\r\n";
+    assert!(rt; body.extend_from_slice(trailers).is_ok() && body.len() == 1_048_576);
+    body
+}
+
+#[test]
+fn reads_a_body_of_1_048_576_bytes(rt: HostRuntime) {
+    let mut body = longest_body(&rt);
+    let input = of_length(&rt, &body);
+    expect(&rt, &input, Method::Check, 1, &Ok((&[0], OK)), 0);
+    assert!(&rt; body.push(0).is_ok());
+    let longer = of_length(&rt, &body);
+    let bad = Err(AskFault::BadResponse);
+    expect(&rt, &longer, Method::Check, 1, &bad, 1_048_577);
+    expect(&rt, &longer, Method::Watch, 1, &bad, 1_048_577);
+}

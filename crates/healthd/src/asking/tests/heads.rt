@@ -1,0 +1,151 @@
+use super::responses::{SERVING_BODY, bytes_of};
+use super::*;
+use crate::tests::texts::padded;
+
+const TOLD: Result<Seen<'static>, AskFault> = Ok((&[1], Some((0, b""))));
+
+/// Heads of a response whose body has a length of 27.
+const WITH_LENGTH: [&[u8]; 8] = [
+    b"HTTP/1.1 200 OK\r\ncontent-length: 27\r\n\r\n",
+    b"HTTP/1.1 200 OK\r\nContent-Length:\t 27 \t\r\n\r\n",
+    b"HTTP/1.1 200 OK\r\ncontent-length: 000000000000000027\r\n\r\n",
+    // neither the reason, the minor version nor the content type is looked at
+    b"HTTP/1.1 200\r\ncontent-length: 27\r\n\r\n",
+    b"HTTP/1.1 200 Not Found\r\ncontent-length: 27\r\n\r\n",
+    b"HTTP/1.0 200 OK\r\ncontent-length: 27\r\n\r\n",
+    b"HTTP/1.1 200 OK\r\ncontent-type: text/html\r\ncontent-length: 27\r\n\r\n",
+    // another coding than chunks
+    b"HTTP/1.1 200 OK\r\ntransfer-encoding: identity\r\ncontent-length: 27\r\n\r\n",
+];
+
+/// Heads of a response in chunks.
+const WITH_CHUNKS: [&[u8]; 6] = [
+    b"HTTP/1.1 200 OK\r\ntransfer-encoding: chunked\r\n\r\n",
+    b"HTTP/1.1 200 OK\r\nTransfer-Encoding:\tChunked \r\n\r\n",
+    b"HTTP/1.1 200 OK\r\ntransfer-encoding: identity\r\ntransfer-encoding: chunked\r\n\r\n",
+    // chunks count before a length, also before a bad one
+    b"HTTP/1.1 200 OK\r\ncontent-length: 5\r\ntransfer-encoding: chunked\r\n\r\n",
+    b"HTTP/1.1 200 OK\r\ntransfer-encoding: chunked\r\ncontent-length: x\r\n\r\n",
+    b"HTTP/1.1 200 OK\r\ntransfer-encoding: chunked\r\ncontent-length: 5\r\ncontent-length: 6\r\n\r\n",
+];
+
+#[test]
+fn reads_a_body_by_its_length_or_its_chunks(rt: HostRuntime) {
+    for head in &WITH_LENGTH {
+        let input = bytes_of(&rt, &[*head, SERVING_BODY, b"more"]);
+        expect(&rt, &input, Method::Check, 1, &TOLD, 4);
+    }
+    for head in &WITH_CHUNKS {
+        let input = bytes_of(&rt, &[*head, b"1b\r\n", SERVING_BODY, b"\r\n0\r\n\r\n"]);
+        expect(&rt, &input, Method::Check, 1, &TOLD, 7);
+    }
+}
+
+/// Heads with another status than 200, whatever else they say.
+const OTHER_STATUSES: [(&[u8], u16); 6] = [
+    (b"HTTP/1.1 404 Not Found\r\n\r\n", 404),
+    (
+        b"HTTP/1.1 415 Unsupported Media Type\r\nconnection: close\r\ncontent-length: 0\r\n\r\n",
+        415,
+    ),
+    (
+        b"HTTP/1.1 503 Service Unavailable\r\ncontent-length: x\r\n\r\n",
+        503,
+    ),
+    (b"HTTP/1.1 201 Created\r\ncontent-length: 27\r\n\r\n", 201),
+    (b"HTTP/1.1 100 Continue\r\n\r\n", 100),
+    (b"HTTP/1.0 999 \r\n\r\n", 999),
+];
+
+/// What is no head of a response, or one that doesn't tell where its body ends.
+const BAD: [&[u8]; 23] = [
+    b"\r\n\r\n",
+    b"GET / HTTP/1.1\r\n\r\n",
+    b"SSH-2.0-OpenSSH_9.6\r\n\r\n",
+    b"HTTP/2.0 200 OK\r\ncontent-length: 27\r\n\r\n",
+    b"HTTP/1.1 20 OK\r\ncontent-length: 27\r\n\r\n",
+    b"HTTP/1.1 2000 OK\r\ncontent-length: 27\r\n\r\n",
+    b"HTTP/1.1 200 OK\r\ncontent-length 27\r\n\r\n",
+    // the head ends before its last four bytes
+    b"HTTP/1.1 200 OK\ncontent-length: 27\n\n\r\n\r\n",
+    // no length, no chunks
+    b"HTTP/1.1 200 OK\r\n\r\n",
+    b"HTTP/1.1 200 OK\r\ntransfer-encoding: identity\r\n\r\n",
+    b"HTTP/1.1 200 OK\r\ntransfer-encoding: gzip, chunked\r\n\r\n",
+    // a length that is none
+    b"HTTP/1.1 200 OK\r\ncontent-length:\r\n\r\n",
+    b"HTTP/1.1 200 OK\r\ncontent-length: x\r\n\r\n",
+    b"HTTP/1.1 200 OK\r\ncontent-length: -1\r\n\r\n",
+    b"HTTP/1.1 200 OK\r\ncontent-length: +27\r\n\r\n",
+    b"HTTP/1.1 200 OK\r\ncontent-length: 27, 27\r\n\r\n",
+    b"HTTP/1.1 200 OK\r\ncontent-length: 27 27\r\n\r\n",
+    b"HTTP/1.1 200 OK\r\ncontent-length: 0x1b\r\n\r\n",
+    b"HTTP/1.1 200 OK\r\ncontent-length: 0000000000000000027\r\n\r\n",
+    // two lengths
+    b"HTTP/1.1 200 OK\r\ncontent-length: 27\r\nContent-Length: 27\r\n\r\n",
+    // a length over 1,048,576
+    b"HTTP/1.1 200 OK\r\ncontent-length: 1048577\r\n\r\n",
+    b"HTTP/1.1 200 OK\r\ncontent-length: 4294967323\r\n\r\n",
+    b"HTTP/1.1 200 OK\r\ncontent-length: 999999999999999999\r\n\r\n",
+];
+
+fn expect_refused(rt: &(impl Abort + AllocGlobal), head: &[u8], fault: AskFault) {
+    let input = bytes_of(rt, &[head, SERVING_BODY]);
+    expect(rt, &input, Method::Check, 1, &Err(fault), 27);
+    expect(rt, &input, Method::Watch, 1, &Err(fault), 27);
+}
+
+#[test]
+fn refuses_a_response_by_its_head_alone(rt: HostRuntime) {
+    for (head, status) in &OTHER_STATUSES {
+        expect_refused(&rt, *head, AskFault::Http(*status));
+    }
+    for head in &BAD {
+        expect_refused(&rt, *head, AskFault::BadResponse);
+    }
+}
+
+/// A head with so many empty lines before it and so many lines besides the length, and a body.
+fn of_lines(rt: &(impl Abort + AllocGlobal), empty: usize, lines: usize) -> Vec<u8> {
+    let mut input = Vec::new(rt.alloc());
+    for _ in 0..empty {
+        assert!(rt; input.extend_from_slice(b"\n").is_ok());
+    }
+    assert!(rt; input.extend_from_slice(b"HTTP/1.1 200 OK\r\n").is_ok());
+    for _ in 0..lines {
+        assert!(rt; input.extend_from_slice(b"a: b\r\n").is_ok());
+    }
+    let rest = bytes_of(rt, &[b"content-length: 27\r\n\r\n", SERVING_BODY]);
+    assert!(rt; input.extend_from_slice(&rest).is_ok());
+    input
+}
+
+#[test]
+fn reads_a_head_of_at_most_32_lines_and_34_line_feeds(rt: HostRuntime) {
+    let bad = Err(AskFault::BadResponse);
+    expect(&rt, &of_lines(&rt, 0, 31), Method::Check, 1, &TOLD, 0);
+    expect(&rt, &of_lines(&rt, 0, 32), Method::Check, 1, &bad, 27);
+    expect(&rt, &of_lines(&rt, 31, 0), Method::Check, 1, &TOLD, 0);
+    expect(&rt, &of_lines(&rt, 32, 0), Method::Check, 1, &bad, 27);
+}
+
+/// A head of 8,192 bytes that ends in `end`, and what comes behind it.
+fn of_8192(rt: &(impl Abort + AllocGlobal), end: &[u8], behind: &[u8]) -> Vec<u8> {
+    let front = b"HTTP/1.1 200 OK\r\ncontent-length: 27\r\na: ";
+    let len = 8_192usize.saturating_sub(end.len());
+    let mut input = padded(rt, front, len, b'b');
+    assert!(rt; input.extend_from_slice(end).is_ok());
+    assert!(rt; input.extend_from_slice(behind).is_ok());
+    input
+}
+
+#[test]
+fn reads_a_head_of_at_most_8192_bytes(rt: HostRuntime) {
+    let bad = Err(AskFault::BadResponse);
+    let whole = of_8192(&rt, b"\r\n\r\n", SERVING_BODY);
+    expect(&rt, &whole, Method::Check, 1, &TOLD, 0);
+    let longer = of_8192(&rt, b"c\r\n\r", b"\n");
+    expect(&rt, &longer, Method::Check, 1, &bad, 1);
+    let endless = of_8192(&rt, b"", b"more");
+    expect(&rt, &endless, Method::Watch, 1, &bad, 4);
+}

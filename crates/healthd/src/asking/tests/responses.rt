@@ -1,0 +1,75 @@
+//! Requests and responses, each as health-checking.md and PROTOCOL-WEB.md of grpc and RFC 9112 have it.
+
+use std::process::Abort;
+
+pub(super) const CHECK_OF_EMPTY: &[u8] = b"POST /grpc.health.v1.Health/Check HTTP/1.1\r\n\
+    host: localhost\r\n\
+    content-type: application/grpc-web+proto\r\n\
+    x-grpc-web: 1\r\n\
+    content-length: 5\r\n\
+    \r\n\
+    \0\0\0\0\0";
+
+pub(super) const WATCH_OF_ZZ: &[u8] = b"POST /grpc.health.v1.Health/Watch HTTP/1.1\r\n\
+    host: localhost\r\n\
+    content-type: application/grpc-web+proto\r\n\
+    x-grpc-web: 1\r\n\
+    content-length: 9\r\n\
+    \r\n\
+    \0\0\0\0\x04\x0a\x02zz";
+
+/// A Check of a service that is serving: a head of 100 bytes and a body of 27.
+pub(super) const SERVING: &[u8] = b"HTTP/1.1 200 OK\r\n\
+    connection: close\r\n\
+    content-type: application/grpc-web+proto\r\n\
+    content-length: 27\r\n\
+    \r\n\
+    \0\0\0\0\x02\x08\x01\
+    \x80\0\0\0\x0fgrpc-status:0\r\n";
+
+/// The body of that response.
+pub(super) const SERVING_BODY: &[u8] = b"\0\0\0\0\x02\x08\x01\x80\0\0\0\x0fgrpc-status:0\r\n";
+
+pub(super) const UNKNOWN_SERVICE: &[u8] = b"HTTP/1.1 200 OK\r\n\
+    connection: close\r\n\
+    content-type: application/grpc-web+proto\r\n\
+    content-length: 50\r\n\
+    \r\n\
+    \x80\0\0\0\x2dgrpc-status:5\r\n\
+    grpc-message:unknown service\r\n";
+
+/// A Watch of an unknown service: the message ends at byte 118, and the trailers at byte 171.
+pub(super) const WATCH_OF_UNKNOWN: &[u8] = b"HTTP/1.1 200 OK\r\n\
+    connection: close\r\n\
+    content-type: application/grpc-web+proto\r\n\
+    transfer-encoding: chunked\r\n\
+    \r\n\
+    7\r\n\
+    \0\0\0\0\x02\x08\x03\r\n\
+    2f\r\n\
+    \x80\0\0\0\x2agrpc-status:14\r\n\
+    grpc-message:watch ended\r\n\
+    \r\n\
+    0\r\n\
+    \r\n";
+
+/// The head of a response in chunks.
+pub(super) const CHUNKED: &[u8] = b"HTTP/1.1 200 OK\r\ntransfer-encoding: chunked\r\n\r\n";
+
+/// The parts, one behind the other.
+pub(super) fn bytes_of(rt: &(impl Abort + AllocGlobal), parts: &[&[u8]]) -> Vec<u8> {
+    let mut bytes = Vec::new(rt.alloc());
+    for part in parts {
+        assert!(rt; bytes.extend_from_slice(*part).is_ok());
+    }
+    bytes
+}
+
+/// A response with this body, whose length its head tells.
+pub(super) fn of_length(rt: &(impl Abort + AllocGlobal), body: &[u8]) -> Vec<u8> {
+    let len = body.len();
+    let head = format!(in rt.alloc(); "HTTP/1.1 200 OK\r\ncontent-length: {len}\r\n\r\n")
+        .ok()
+        .expect(rt, "a head");
+    bytes_of(rt, &[head.as_bytes(), body])
+}

@@ -1,0 +1,52 @@
+use crew::CallEnd;
+use std::alloc::AllocError;
+use std::fmt::Write;
+use web_call::{Outcome, Why};
+
+/// What a server did before it ended.
+#[derive(Debug, Drop)]
+pub struct Served {
+    /// How each call ended, by its number.
+    pub calls: Vec<CallEnd>,
+    /// How many changes its journal has.
+    pub entries: usize,
+}
+
+impl Served {
+    /// Puts a line for each call, and one for the journal.
+    pub fn put(&self, output: &mut String) -> Result<(), AllocError> {
+        for (number, end) in self.calls.iter().enumerate() {
+            put_end(output, number, *end)?;
+        }
+        writeln!(output, "journal {}", self.entries)
+    }
+}
+
+fn put_end(output: &mut String, number: usize, end: CallEnd) -> Result<(), AllocError> {
+    match end {
+        CallEnd::Done(Outcome::Status(code)) => {
+            let code = code.number();
+            writeln!(output, "call {number} status {code}")
+        }
+        CallEnd::Done(Outcome::Http(code)) => writeln!(output, "call {number} http {code}"),
+        CallEnd::Done(Outcome::Watched { messages }) => {
+            writeln!(output, "call {number} watch {messages}")
+        }
+        CallEnd::Fault(fault) => {
+            let why = why_text(fault.why);
+            writeln!(output, "call {number} fault {why}")
+        }
+        CallEnd::Unopened => writeln!(output, "call {number} unopened"),
+    }
+}
+
+fn why_text(why: Why) -> &'static str {
+    match why {
+        Why::Read => "read",
+        Why::Write => "write",
+        Why::NoMemory => "memory",
+    }
+}
+
+#[cfg(test)]
+mod tests;

@@ -1,0 +1,45 @@
+//! Whole texts through a reader or a writer. An error of any kind ends both at once, `Interrupted` too.
+
+ghost use Rattle.std.specs.Prelude.{◌≡◌, ℕ, take, length, OnOk, OnErr, IfErr};
+ghost use Rattle.std.specs.Io.KnownBytes.{Appends};
+
+use crate::ask_fault::AskFault;
+use std::io::{Read, Write};
+
+/// Writes the whole text and flushes it.
+pub(crate) fn send<W: Write>(writer: &mut W, text: &[u8]) -> Result<(), AskFault>
+    ensures ok { OnOk result (Appends (W.contents writer.old) (W.contents writer.new) text.now) }
+    ensures front { OnErr result ((taken : ℕ)
+        × Appends (W.contents writer.old) (W.contents writer.new) (take taken text.now)) }
+    ensures err { IfErr result (λ fault. fault ≡ AskFault.Write) }
+{
+    let mut taken = 0;
+    while taken < text.len() {
+        let Ok(count) = writer.write(&text[taken..]) else {
+            return Err(AskFault::Write);
+        };
+        if count == 0 {
+            return Err(AskFault::Write);
+        }
+        taken += count;
+    }
+    match writer.flush() {
+        Ok(()) => Ok(()),
+        Err(_) => Err(AskFault::Write),
+    }
+}
+
+/// Fills the whole buffer, and reads nothing more.
+pub(crate) fn fill<R: Read>(reader: &mut R, bytes: &mut [u8]) -> Result<(), AskFault> {
+    let mut filled = 0;
+    while filled < bytes.len() {
+        let Ok(count) = reader.read(&mut bytes[filled..]) else {
+            return Err(AskFault::Read);
+        };
+        if count == 0 {
+            return Err(AskFault::Read);
+        }
+        filled += count;
+    }
+    Ok(())
+}
