@@ -27,34 +27,35 @@ kept_looked old new on own = record { same = on.same; begins = on.begins; own = 
 
 -- a change of a service, whose rule may be unlawful
 pub met_lawful : (names : List (List ℕ)) (call : ℕ → Call) (lawful : ℕ → Bool) (name : List ℕ) (old new : SeatState) (result : Result Reply Refusal)
-    → ((slot : ℕ) → lawful slot ≡ false → ¬ IsLawfulCall (call slot)) → GoesOn old new → IfOk result (λ reply. MakesAt names name call old new reply)
+    → ((slot : ℕ) → lawful slot ≡ true → IsLawfulCall (call slot)) → ((slot : ℕ) → lawful slot ≡ false → ¬ IsLawfulCall (call slot)) → GoesOn old new → IfOk result (λ reply. MakesAt names name call old new reply)
     → IfErr result (λ refusal. IsRefusedFor (slot_of names name) lawful old new refusal)
     → OnErr result (own_calls new ≡ own_calls old) → IsCarriedOut old new (call_at names call name) result
-met_lawful names call lawful name old new (Ok reply) unlawful on made refused kept = rw made.listed (Taken (call made.slot) reply on made.makes)
-met_lawful names call lawful name old new (Err refusals.NotListed) unlawful on made refused kept = rw refused.0 (NotListed refused.1)
-met_lawful names call lawful name old new (Err refusals.BadRule) unlawful on made refused kept =
+met_lawful names call lawful name old new (Ok reply) is_lawful unlawful on made refused kept = rw made.listed (Taken (call made.slot) reply on made.makes)
+met_lawful names call lawful name old new (Err refusals.NotListed) is_lawful unlawful on made refused kept = rw refused.0 (NotListed refused.1)
+met_lawful names call lawful name old new (Err refusals.BadRule) is_lawful unlawful on made refused kept =
     rw refused.1 (BadRule (call refused.0) (unlawful refused.0 refused.2) (kept_looked old new on kept))
-met_lawful names call lawful name old new (Err refusals.Full) unlawful on made refused kept =
-    rw refused.1 (Full (call refused.0) refused.3 (kept_looked old new on kept))
-met_lawful names call lawful name old new (Err refusals.NoMemory) unlawful on made refused kept =
-    rw refused.1 (NoMemory (call refused.0) refused.3 (kept_looked old new on kept))
+met_lawful names call lawful name old new (Err refusals.Full) is_lawful unlawful on made refused kept =
+    rw refused.1 (Full (call refused.0) (is_lawful refused.0 refused.2) refused.3 (kept_looked old new on kept))
+met_lawful names call lawful name old new (Err refusals.NoMemory) is_lawful unlawful on made refused kept =
+    rw refused.1 (NoMemory (call refused.0) (is_lawful refused.0 refused.2) refused.3 (kept_looked old new on kept))
 
 -- a change of a service without a rule
 pub met_at : (names : List (List ℕ)) (call : ℕ → Call) (name : List ℕ) (old new : SeatState) (result : Result Reply Refusal)
-    → GoesOn old new → IfOk result (λ reply. MakesAt names name call old new reply)
+    → ((slot : ℕ) → IsLawfulCall (call slot)) → GoesOn old new → IfOk result (λ reply. MakesAt names name call old new reply)
     → IfErr result (λ refusal. IsRefusedFor (slot_of names name) (λ slot. true) old new refusal)
     → OnErr result (own_calls new ≡ own_calls old) → IsCarriedOut old new (call_at names call name) result
-met_at names call name old new result = met_lawful names call (λ slot. true) name old new result (λ slot no. absurd (false≢true (sym no)))
+met_at names call name old new result all =
+    met_lawful names call (λ slot. true) name old new result (λ slot yes. all slot) (λ slot no. absurd (false≢true (sym no)))
 
 -- a change of all services
-pub met_by_all : (call : Call) (old new : SeatState) (result : Result Reply Refusal) → GoesOn old new
+pub met_by_all : (call : Call) (old new : SeatState) (result : Result Reply Refusal) → IsLawfulCall call → GoesOn old new
     → IfOk result (λ reply. Makes old new call reply) → IfErr result (λ refusal. IsOutOfRoom new refusal)
     → OnErr result (own_calls new ≡ own_calls old) → IsCarriedOut old new (Some call) result
-met_by_all call old new (Ok reply) on made refused kept = Taken call reply on made
-met_by_all call old new (Err refusals.NotListed) on made refused kept = absurd refused
-met_by_all call old new (Err refusals.BadRule) on made refused kept = absurd refused
-met_by_all call old new (Err refusals.Full) on made refused kept = Full call refused (kept_looked old new on kept)
-met_by_all call old new (Err refusals.NoMemory) on made refused kept = NoMemory call refused (kept_looked old new on kept)
+met_by_all call old new (Ok reply) all on made refused kept = Taken call reply on made
+met_by_all call old new (Err refusals.NotListed) all on made refused kept = absurd refused
+met_by_all call old new (Err refusals.BadRule) all on made refused kept = absurd refused
+met_by_all call old new (Err refusals.Full) all on made refused kept = Full call all refused (kept_looked old new on kept)
+met_by_all call old new (Err refusals.NoMemory) all on made refused kept = NoMemory call all refused (kept_looked old new on kept)
 
 -- one change more
 pub meets_more : (old between new : SeatState) (calls : List (Option Call)) (results : List (Result Reply Refusal)) (call : Option Call) (result : Result Reply Refusal)
@@ -68,8 +69,8 @@ pub met_same : (old new : SeatState) (call : Option Call) (result : Result Reply
 met_same old new call result (Taken made reply on makes) = on.same
 met_same old new call result (NotListed same) = same ∙ ap (λ (seat : SeatState). with_seen old seat.seen) (sym same)
 met_same old new call result (BadRule asks unlawful looked) = looked.same
-met_same old new call result (Full asks full looked) = looked.same
-met_same old new call result (NoMemory asks room looked) = looked.same
+met_same old new call result (Full asks lawful full looked) = looked.same
+met_same old new call result (NoMemory asks lawful room looked) = looked.same
 
 -- a seat's own entries after a change
 met_own : (old new : SeatState) (call : Option Call) (result : Result Reply Refusal) → IsCarriedOut old new call result
@@ -77,8 +78,8 @@ met_own : (old new : SeatState) (call : Option Call) (result : Result Reply Refu
 met_own old new call result (Taken made reply on makes) = makes.own
 met_own old new call result (NotListed same) = ap own_calls same
 met_own old new call result (BadRule asks unlawful looked) = looked.own
-met_own old new call result (Full asks full looked) = looked.own
-met_own old new call result (NoMemory asks room looked) = looked.own
+met_own old new call result (Full asks lawful full looked) = looked.own
+met_own old new call result (NoMemory asks lawful room looked) = looked.own
 
 -- the first change's entry stands before those of the others
 replied_first : (seat : ℕ) (call : Option Call) (result : Result Reply Refusal) (calls : List (Option Call)) (results : List (Result Reply Refusal))
@@ -114,8 +115,8 @@ met_begins : (old new : SeatState) (call : Option Call) (result : Result Reply R
 met_begins old new call result (Taken made reply on makes) = on.begins
 met_begins old new call result (NotListed same) = record { newer = []; is = ap (λ (seat : SeatState). seat.seen) same }
 met_begins old new call result (BadRule asks unlawful looked) = looked.begins
-met_begins old new call result (Full asks full looked) = looked.begins
-met_begins old new call result (NoMemory asks room looked) = looked.begins
+met_begins old new call result (Full asks lawful full looked) = looked.begins
+met_begins old new call result (NoMemory asks lawful room looked) = looked.begins
 
 are_begun : (old new : SeatState) (calls : List (Option Call)) (results : List (Result Reply Refusal)) → AreCarriedOut old new calls results → IsOlder old.seen new.seen
 are_begun old new calls results (Ends seat) = record { newer = []; is = refl }
@@ -127,8 +128,8 @@ one_full : (old new : SeatState) (call : Option Call) (result : Result Reply Ref
 one_full old new call result (Taken made reply on makes) is = let no : ⊥ = cc in absurd no
 one_full old new call result (NotListed same) is = let no : ⊥ = cc in absurd no
 one_full old new call result (BadRule asks unlawful looked) is = let no : ⊥ = cc in absurd no
-one_full old new call result (Full asks full looked) is = omega (arith, full)
-one_full old new call result (NoMemory asks room looked) is = let no : ⊥ = cc in absurd no
+one_full old new call result (Full asks lawful full looked) is = omega (arith, full)
+one_full old new call result (NoMemory asks lawful room looked) is = let no : ⊥ = cc in absurd no
 
 -- a full journal stays full
 full_stays : (old new : SeatState) (calls : List (Option Call)) (results : List (Result Reply Refusal)) → AreCarriedOut old new calls results

@@ -41,9 +41,9 @@ replies n old new calls results (Then old' between new' call result calls' resul
     omega (arith, sum_by-cons (λ (one : Result Reply Refusal). cond (is_ok one) 1 0) (Err refusals.NotListed) results', replies n between new calls' results' rest)
 replies n old new calls results (Then old' between new' call result calls' results' (BadRule asks unlawful looked) rest) =
     omega (arith, sum_by-cons (λ (one : Result Reply Refusal). cond (is_ok one) 1 0) (Err refusals.BadRule) results', replies n between new calls' results' rest)
-replies n old new calls results (Then old' between new' call result calls' results' (Full asks full looked) rest) =
+replies n old new calls results (Then old' between new' call result calls' results' (Full asks lawful full looked) rest) =
     omega (arith, sum_by-cons (λ (one : Result Reply Refusal). cond (is_ok one) 1 0) (Err refusals.Full) results', replies n between new calls' results' rest)
-replies n old new calls results (Then old' between new' call result calls' results' (NoMemory asks room looked) rest) =
+replies n old new calls results (Then old' between new' call result calls' results' (NoMemory asks lawful room looked) rest) =
     omega (arith, sum_by-cons (λ (one : Result Reply Refusal). cond (is_ok one) 1 0) (Err refusals.NoMemory) results', replies n between new calls' results' rest)
 
 -- a seat that met changes has made as many more as got a reply

@@ -16,13 +16,13 @@ use Rattle.crew.specs.Looking.{HasLooked}
 
 -- How a change that a seat is asked for comes out; it is none where its name is not listed. Of the seat before and after it, and its
 -- reply or refusal: a change that is taken is the newest entry of what the seat has then seen, in its name. A refused one leaves no
--- entry: its name is not listed, its rule is not lawful, the journal is full, or memory ran out
+-- entry; of its causes the first counts: its name is not listed, its rule is not lawful, the journal is full, memory ran out
 pub data IsCarriedOut (old new : SeatState) : Option Call → Result Reply Refusal → Type 0 where
   Taken : (call : Call) (reply : Reply) → GoesOn old new → Makes old new call reply → IsCarriedOut old new (Some call) (Ok reply)
   NotListed : new ≡ old → IsCarriedOut old new None (Err refusals.NotListed)
   BadRule : (call : Call) → ¬ IsLawfulCall call → HasLooked old new → IsCarriedOut old new (Some call) (Err refusals.BadRule)
-  Full : (call : Call) → length new.seen ≡ new.most → HasLooked old new → IsCarriedOut old new (Some call) (Err refusals.Full)
-  NoMemory : (call : Call) → length new.seen < new.most → HasLooked old new → IsCarriedOut old new (Some call) (Err refusals.NoMemory)
+  Full : (call : Call) → IsLawfulCall call → length new.seen ≡ new.most → HasLooked old new → IsCarriedOut old new (Some call) (Err refusals.Full)
+  NoMemory : (call : Call) → IsLawfulCall call → length new.seen < new.most → HasLooked old new → IsCarriedOut old new (Some call) (Err refusals.NoMemory)
 
 -- how changes come out that a seat is asked for one after the other
 pub data AreCarriedOut : SeatState → SeatState → List (Option Call) → List (Result Reply Refusal) → Type 0 where

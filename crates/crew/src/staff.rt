@@ -30,7 +30,7 @@ pub struct Room<P: Probe> {
 }
 
 impl<P: Probe> Room<P> {
-    ghost use Rattle.std.specs.Prelude.{IfOk};
+    ghost use Rattle.std.specs.Prelude.{◌≡◌, ◌≤◌, [], vec_capacity, IfOk};
     ghost use Rattle.crew.specs.Staff.{IsRoomFor};
 
     pub fn new(
@@ -40,7 +40,8 @@ impl<P: Probe> Room<P> {
         seats: usize,
         jobs: usize,
     ) -> Result<Room<P>, AllocError>
-        ensures { IfOk result (IsRoomFor workers lists seats) }
+        ensures room { IfOk result (IsRoomFor workers lists seats) }
+        ensures ends { IfOk result (λ room. (room.ends.items ≡ []) × (jobs ≤ vec_capacity room.ends)) }
     {
         Ok(Room {
             posts: Vec::with_capacity(alloc, workers as usize)?,

@@ -82,6 +82,7 @@ fn serve_one<R: Wait, P: Probe, J: Job, T>(
     let Ok((input, output)) = job.open() else {
         return CallEnd::Unopened;
     };
+    // The writer is dropped before the reader, so that a response ends before its connection is let go.
     let mut reader = Tap::new(input);
     let mut writer = Tap::new(output);
     let mut bell = place.ring.bell(rt);

@@ -1,4 +1,5 @@
 pub mod AnswerLemmas
+pub mod CopyLemmas
 pub mod LineCuts
 pub mod LineLemmas
 pub mod LineRunLemmas

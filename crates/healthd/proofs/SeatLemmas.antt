@@ -1,5 +1,5 @@
 -- Seats that stay their hall's.
-use Rattle.std.proofs.Common.{◌≡◌, ℕ, List, [], ◌∷◌, Option, Result, refl, sym, subst, arith}
+use Rattle.std.proofs.Common.{◌≡◌, ℕ, List, [], Option, Result, refl, sym, subst}
 use Rattle.std.specs.List.{All, range_with_len}
 use Rattle.std.proofs.lemmas.List.Elements.{All-map}
 use Rattle.desk_core.specs.declared.call.Call.{Call}

@@ -8,7 +8,9 @@ use std::alloc::{AllocError, Global};
 pub(crate) fn copy_of_catalogue(
     alloc: Global,
     catalogue: &Catalogue,
-) -> Result<Catalogue, AllocError> {
+) -> Result<Catalogue, AllocError>
+    ensures { IfOk result (λ copy. copy ≡ catalogue.now) }
+{
     let mut names = Vec::new(alloc);
     for number in 0..catalogue.len() as u8 {
         names.push(String::from_str(alloc, name_at(catalogue, number))?)?;

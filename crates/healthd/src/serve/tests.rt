@@ -8,9 +8,10 @@ use crate::tests::same::same;
 use crate::told::Told;
 use crew::CallEnd;
 use grpc_frame::Code;
+use std::io::Read;
 use std::process::Abort;
 use std::thread;
-use web_call::{Method, Outcome};
+use web_call::{Method, Outcome, Why};
 
 const SCRIPT: &str = "catalogue a -
 max 10
@@ -134,4 +135,137 @@ fn answers_checks_over_sockets(rt: HostRuntime) {
         .expect(&rt, "a probe");
     assert!(rt; probes.push(depends).is_ok());
     expect_served(&rt, alloc, &script, probes);
+}
+
+const CHANGING: &str = "catalogue a -
+max 10
+register a manual
+go
+down a
+up a
+";
+
+const REFUSED_TYPE: &[u8] = b"POST /grpc.health.v1.Health/Check HTTP/1.1\r\n\
+    content-type: application/grpc-web-text\r\n\
+    content-length: 5\r\n\r\n";
+
+/// What three clients were told, one after the other: of a Watch, of a request of a refused type, and nothing of one that only connects.
+#[derive(Drop)]
+struct Heard {
+    watch: Answer,
+    refused: io::Result<Vec<u8>>,
+    has_connected: bool,
+}
+
+fn watch<R: Net<Stream = TcpStream>>(rt: &R, alloc: Global, port: u16) -> Answer {
+    ask_at(rt, alloc, port, Method::Watch, "a", 3)
+}
+
+fn send_refused<R: Net<Stream = TcpStream>>(
+    rt: &R,
+    alloc: Global,
+    port: u16,
+) -> io::Result<Vec<u8>> {
+    let mut stream = TcpStream::connect(rt, (HOST, port))?;
+    stream.write_all(REFUSED_TYPE)?;
+    let mut answer = Vec::new(alloc);
+    stream.read_to_end(&mut answer)?;
+    Ok(answer)
+}
+
+fn disturb<R: Net<Stream = TcpStream>>(rt: &R, alloc: Global, port: u16) -> Heard {
+    Heard {
+        watch: watch(rt, alloc, port),
+        refused: send_refused(rt, alloc, port),
+        has_connected: TcpStream::connect(rt, (HOST, port)).is_ok(),
+    }
+}
+
+fn serve_and_disturb<R, P: Probe + Send>(
+    rt: &R,
+    alloc: Global,
+    script: &Script,
+    probes: Vec<P>,
+    listener: &TcpListener,
+    port: u16,
+) -> (Result<Served, Fault>, Heard)
+where
+    R: Wait + Threads + Sync + Net<Stream = TcpStream>,
+    requires { vec_len probes ≡ registers script.now.lines }
+{
+    let shift = Shift {
+        workers: 2,
+        calls: 3,
+    };
+    thread::join(
+        rt,
+        move || -> Result<Served, Fault>
+            requires { vec_len probes ≡ registers script.now.lines }
+        { serve_bound(rt, alloc, script, probes, listener, shift) },
+        move || disturb(rt, alloc, port),
+    )
+}
+
+fn expect_heard(rt: &impl Abort, heard: &Heard) {
+    assert!(rt; heard.has_connected);
+    assert!(rt;
+        heard
+            .refused
+            .as_ref()
+            .is_ok_and(|answer| answer.starts_with(b"HTTP/1.1 415 "))
+    );
+    assert!(rt;
+        heard
+            .watch
+            .as_ref()
+            .is_ok_and(|told| is_allowed(&told.statuses))
+    );
+}
+
+/// A Watch that opens before the orders, between them or after them is told so much.
+fn is_allowed(statuses: &[u64]) -> bool {
+    let allowed: [&[u64]; 3] = [&[1, 2, 1], &[2, 1], &[1]];
+    allowed.contains(&statuses)
+}
+
+/// How many of the calls were such: a Watch, a refusal, a request that was not whole.
+fn kinds_of(served: &Served) -> (usize, usize, usize) {
+    let mut kinds = (0usize, 0usize, 0usize);
+    for call in &served.calls {
+        match call {
+            CallEnd::Done(Outcome::Watched { .. }) => kinds.0 = kinds.0.wrapping_add(1),
+            CallEnd::Done(Outcome::Http(415)) => kinds.1 = kinds.1.wrapping_add(1),
+            CallEnd::Fault(fault) if fault.why == Why::Read => kinds.2 = kinds.2.wrapping_add(1),
+            _ => {}
+        }
+    }
+    kinds
+}
+
+fn expect_disturbed<R, P: Probe + Send>(rt: &R, alloc: Global, script: &Script, probes: Vec<P>)
+where
+    R: Wait + Threads + Sync + Abort + Net<Listener = TcpListener, Stream = TcpStream>,
+{
+    let listener = TcpListener::bind(rt, (HOST, 0u16))
+        .ok()
+        .expect(rt, "a port");
+    let port = listener.local_addr().ok().expect(rt, "an address").port();
+    assert!(rt; probes.len() == registers(script.lines()));
+    let (served, heard) = serve_and_disturb(rt, alloc, script, probes, &listener, port);
+    expect_heard(rt, &heard);
+    let served = served.ok().expect(rt, "a report");
+    same(rt, &kinds_of(&served), &(1, 1, 1), &"kinds");
+    same(rt, &served.entries, &3, &"entries");
+}
+
+#[test]
+fn serves_a_watch_beside_orders_a_refusal_and_a_client_that_goes_away(rt: HostRuntime) {
+    let alloc = rt.alloc();
+    let script = read_script(alloc, CHANGING.as_bytes(), Mode::Serve)
+        .ok()
+        .expect(&rt, "a script");
+    let mut probes: Vec<Box<dyn Probe + Send>> = Vec::new(alloc);
+    let manual: Box<dyn Probe + Send> = Box::new(alloc, Manual::new()).ok().expect(&rt, "a probe");
+    assert!(rt; probes.push(manual).is_ok());
+    expect_disturbed(&rt, alloc, &script, probes);
 }

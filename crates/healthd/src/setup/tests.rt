@@ -16,7 +16,7 @@ type Taken = Option<Result<Reply, Refusal>>;
 const OPENING: &str = "catalogue a b -\nmax 4\n";
 
 /// The lines of a script, with what comes of each.
-const LINES: [(&str, Taken); 11] = [
+const LINES: [(&str, Taken); 12] = [
     ("register a threshold 2", Some(Ok(Reply::Done))),
     ("check a", None),
     ("register b depends b", Some(Err(Refusal::BadRule))),
@@ -26,6 +26,7 @@ const LINES: [(&str, Taken); 11] = [
     ("open a", None),
     ("up a", Some(Ok(Reply::WrongKind))),
     ("pass a", Some(Err(Refusal::Full))),
+    ("register b depends b", Some(Err(Refusal::BadRule))),
     ("board", None),
     ("retire zz", Some(Err(Refusal::NotListed))),
 ];
@@ -93,8 +94,10 @@ fn makes_the_change_of_each_line(rt: HostRuntime) {
     let mut probes: Vec<Box<dyn Probe + Send>> = Vec::new(rt.alloc());
     let first: Box<dyn Probe + Send> = boxed(&rt, Threshold::new(2));
     assert!(&rt; probes.push(first).is_ok());
-    let second: Box<dyn Probe + Send> = boxed(&rt, Depends::new(2));
-    assert!(&rt; probes.push(second).is_ok());
+    for _ in 0..2u8 {
+        let unlawful: Box<dyn Probe + Send> = boxed(&rt, Depends::new(2));
+        assert!(&rt; probes.push(unlawful).is_ok());
+    }
     expect_setup(&rt, probes);
 }
 
