@@ -1,7 +1,7 @@
-ghost use Rattle.std.specs.Prelude.{◌≡◌, ◌+◌, ◌≤◌, [], ◌++◌, map, vec_len, vec_capacity, IfOk};
+ghost use Rattle.std.specs.Prelude.{◌≡◌, ◌+◌, ◌≤◌, [], ◌++◌, map, length, vec_len, vec_capacity, IfOk};
 ghost use Rattle.std.specs.List.{All};
 ghost use Rattle.std.specs.Vec.Iter.{into_iter_items, into_iter_len};
-ghost use Rattle.crew.specs.Staff.{IsEquipped, IsRoomFor, task_of};
+ghost use Rattle.crew.specs.Staff.{IsEquipped, IsRoomFor, reports_of, task_of};
 
 use crate::call_end::CallEnd;
 use crate::errand::Errand;
@@ -118,6 +118,8 @@ pub fn relieve<P: Probe>(
     requires { vec_len seats.old + vec_len posts ≤ vec_capacity seats.old }
     ensures seats { seats.new.items ≡ seats.old.items ++ map (λ post. post.seat) posts.items }
     ensures capacity { vec_capacity seats.old ≤ vec_capacity seats.new }
+    ensures ends { vec_len ends.old + length (reports_of posts.items) ≤ vec_capacity ends.old
+        → ends.new.items ≡ ends.old.items ++ reports_of posts.items }
 {
     for post in posts {
         let Post {

@@ -1,4 +1,5 @@
 mod crowds;
+mod drops;
 mod ends;
 mod gates;
 pub(crate) mod halls;

@@ -126,8 +126,29 @@ where
     T: Turnstile,
     requires { All (IsOf hall.now) seats.items }
 {
+    serve_within(rt, hall, seats, jobs, orders, turnstile, workers, 10)
+}
+
+/// Lets a crew serve, with at most so many Looks for each Watch.
+pub(crate) fn serve_within<R, J, T>(
+    rt: &R,
+    hall: &Hall<Manual>,
+    seats: Vec<Seat<Manual>>,
+    jobs: Vec<J>,
+    orders: Vec<Vec<Order>>,
+    turnstile: &T,
+    workers: u16,
+    looks: u32,
+) -> Found
+where
+    R: Wait + Threads + Sync + Abort + AllocGlobal,
+    J: Job + Send,
+    J::Input: Send,
+    J::Output: Send,
+    T: Turnstile,
+    requires { All (IsOf hall.now) seats.items }
+{
     assert!(rt; jobs.len() < 1_000);
-    let limits = Limits { looks: 10 };
     serve_all(
         rt,
         rt.alloc(),
@@ -137,7 +158,7 @@ where
         orders,
         turnstile,
         workers,
-        limits,
+        Limits { looks },
     )
 }
 

@@ -2,7 +2,7 @@ ghost use Rattle.std.specs.Prelude.{◌<◌};
 ghost use Rattle.hall.specs.Seats.{IsOf};
 
 use crate::tests::halls::{
-    Found, Wish, expect_results, expect_seats, lists, new_hall, register, serve,
+    Found, Wish, expect_results, expect_seats, lists, new_hall, register, serve_within,
 };
 use crate::tests::letters::{
     CHECK_OF_A, DOWN_UP, Letter, NOT_SERVING, UP, UP_DOWN, UP_DOWN_UP, WATCH_OF_A,
@@ -37,29 +37,66 @@ fn expect_told(rt: &impl Abort, found: Found, written: &[u8]) {
     expect_seats(rt, &report.seats, &[0, 3]);
 }
 
-/// Watches `a` while it is set Down and Up, and gives what was written.
+/// Watches `a` while these orders are made, with at most so many Looks, and gives what was written.
 fn watch_beside_orders<R: Wait + Threads + Sync + Abort + AllocGlobal>(
     rt: &R,
+    wishes: &[Wish],
+    looks: u32,
     written: &mut Vec<u8>,
 ) -> Found {
-    let (hall, seats) = new_hall(rt, 100, 2);
+    let (hall, seats) = new_hall(rt, 10_000, 2);
     let seats = register(rt, &hall, seats, "a");
     let opened = AtomicU32::new(0);
     let mut jobs = Vec::new(rt.alloc());
     let letter = Letter::new(Some((WATCH_OF_A, written)), &opened);
     assert!(rt; jobs.push(letter).is_ok());
-    let wishes = [Wish::Set("a", Setting::Down), Wish::Set("a", Setting::Up)];
-    let orders = lists(rt, &[&wishes]);
-    serve(rt, &hall, seats, jobs, orders, &OpenTurnstile, 1)
+    let orders = lists(rt, &[wishes]);
+    serve_within(rt, &hall, seats, jobs, orders, &OpenTurnstile, 1, looks)
 }
 
 // A crew that serves nobody and tells that all calls were lost has no report here.
 #[test]
 fn a_watch_tells_each_change_from_its_opening(rt: HostRuntime) {
+    let wishes = [Wish::Set("a", Setting::Down), Wish::Set("a", Setting::Up)];
     for _ in 0..50 {
         let mut written = Vec::new(rt.alloc());
-        let found = watch_beside_orders(&rt, &mut written);
+        let found = watch_beside_orders(&rt, &wishes, 10, &mut written);
         expect_told(&rt, found, &written);
+    }
+}
+
+/// So many orders, which set `a` Down and Up in turn.
+fn flips(rt: &(impl Abort + AllocGlobal), count: u32) -> Vec<Wish> {
+    let mut wishes = Vec::new(rt.alloc());
+    for number in 0..count {
+        let setting = if number % 2 == 0 {
+            Setting::Down
+        } else {
+            Setting::Up
+        };
+        assert!(rt; wishes.push(Wish::Set("a", setting)).is_ok());
+    }
+    wishes
+}
+
+fn expect_one_message(rt: &impl Abort, found: Found) {
+    let report = found.ok().expect(rt, "a report");
+    let end = CallEnd::Done(Outcome::Watched { messages: 1 });
+    assert!(rt;
+        report.calls.as_slice() == [end].as_slice(),
+        "{:?}",
+        report.calls
+    );
+}
+
+// There are so many orders that the Watch is opened while they are made: with a Look it would tell a later change.
+#[test]
+fn a_watch_without_looks_tells_its_opening_alone(rt: HostRuntime) {
+    let wishes = flips(&rt, 5_000);
+    for _ in 0..5 {
+        let mut written = Vec::new(rt.alloc());
+        let found = watch_beside_orders(&rt, &wishes, 0, &mut written);
+        expect_one_message(&rt, found);
     }
 }
 
