@@ -2,9 +2,9 @@
 use Rattle.std.proofs.Common.{◌≡◌, ◌≢◌, ℕ, ◌+◌, ◌<◌, false, List, length, take, get_or, refl, sym, ap, ◌∙◌}
 use Rattle.std.proofs.lemmas.List.Sums.{count_by_more_yes, count_by_more_no}
 use Rattle.probe_core.specs.declared.rule.Rule.{Rule}
-use Rattle.healthd.specs.declared.line.Line.{Line}
-use Rattle.healthd.specs.declared.line.Line.TheVariants.{Register, Retire, Order, Check, Open, Step, Board}
-use Rattle.healthd.specs.Run.{is_register, registers}
+use Rattle.script.specs.declared.line.Line.{Line}
+use Rattle.script.specs.declared.line.Line.TheVariants.{Register, Retire, Order, Check, Open, Step, Board}
+use Rattle.script.specs.Run.{is_register, registers}
 
 not_register : (line : Line) → ((name : List ℕ) (rule : Rule) → line ≢ Register name rule) → is_register line ≡ false
 not_register (Register name rule) other = absurd (other name rule refl)

@@ -1,13 +1,4 @@
 pub mod Answer
-pub mod Line
-pub mod Lines
-pub mod Opening
-pub mod Reading
+pub mod Fault
 pub mod Replay
-pub mod Request
-pub mod Run
-pub mod RunText
-pub mod Script
 pub mod Service
-pub mod Setup
-pub mod Word

@@ -2,11 +2,11 @@
 use Rattle.std.specs.Prelude.{ℕ, ◌≢◌, List}
 use Rattle.probe_core.specs.declared.rule.Rule.{Rule}
 use Rattle.healthd.specs.declared.fault.Fault.{Fault}
-use Rattle.healthd.specs.declared.fault.Fault.TheVariants.{BadHex, BadService, Script, Read, Write, Hall, Bind, Crew, SeatsMissing, NameTooLong, Connect, Ask, OutOfMemory}
-use Rattle.healthd.specs.declared.script.Mode.TheVariants.{Replay}
-use Rattle.healthd.specs.declared.script_fault.ScriptFault.TheVariants.{NoMemory}
-use Rattle.healthd.specs.Script.{ScriptParts, IsScript, IsScriptFault}
-use Rattle.healthd.specs.Run.{IsScriptRun}
+use Rattle.healthd.specs.declared.fault.Fault.TheVariants.{BadHex, BadService, Script, Read, Write, Bind, Crew, SeatsMissing, NameTooLong, Connect, Ask, OutOfMemory}
+use Rattle.script.specs.declared.script.Mode.TheVariants.{Replay}
+use Rattle.script.specs.declared.script_fault.ScriptFault.TheVariants.{NoMemory}
+use Rattle.script.specs.Script.{ScriptParts, IsScript, IsScriptFault}
+use Rattle.script.specs.Run.{IsScriptRun}
 
 -- the bytes are a script to replay, and the output is that of a run of it, with probes of some rules
 pub record Replays (bytes output : List ℕ) : Type 0 where
@@ -22,7 +22,6 @@ EndsReplay bytes BadService = ⊥
 EndsReplay bytes (Script fault) = fault ≢ NoMemory → IsScriptFault Replay bytes fault
 EndsReplay bytes Read = ⊥
 EndsReplay bytes Write = ⊥
-EndsReplay bytes (Hall fault) = ⊥
 EndsReplay bytes Bind = ⊥
 EndsReplay bytes (Crew why) = ⊥
 EndsReplay bytes SeatsMissing = ⊥

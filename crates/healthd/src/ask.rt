@@ -1,17 +1,15 @@
 ghost use Rattle.std.specs.Prelude.{◌≤◌, length};
 
-use crate::asking::ask;
+use crate::command::{HOST, port_in};
 use crate::fault::Fault;
-use crate::told::{Ended, Told};
 use clap::ArgMatches;
+use client::{Ended, Told, ask};
 use std::alloc::{AllocError, Global};
 use std::fmt::Write as _;
 use std::io;
 use std::io::{BufReader, Write};
 use std::net::{Net, TcpStream};
 use web_call::Method;
-
-const HOST: &str = "127.0.0.1";
 
 /// The longest name that is asked for, in bytes.
 const MAX_NAME_LEN: usize = 1_048_576;
@@ -22,12 +20,12 @@ where
     R: Print + AllocGlobal + Net<Stream = TcpStream>,
 {
     let alloc = rt.alloc();
-    let name = matches.get_str("name").unwrap_or("");
+    let name = name_in(matches);
     if name.len() > MAX_NAME_LEN {
         return Err(Fault::NameTooLong);
     }
-    let port = matches.get_one::<u16>("port").unwrap_or(0);
-    let told = match matches.get_one::<u32>("watch") {
+    let port = port_in(matches);
+    let told = match most_in(matches) {
         Some(most) => ask_at(rt, alloc, port, Method::Watch, name, most.max(1))?,
         None => ask_at(rt, alloc, port, Method::Check, name, 1)?,
     };
@@ -36,6 +34,16 @@ where
         Ok(()) => Ok(()),
         Err(_) => Err(Fault::Write),
     }
+}
+
+/// The service that is asked for: the server as a whole where none is named.
+fn name_in<'a>(matches: &ArgMatches<'a>) -> &'a str {
+    matches.get_str("name").unwrap_or("")
+}
+
+/// The most statuses of a Watch, if it is to be one.
+fn most_in(matches: &ArgMatches<'_>) -> Option<u32> {
+    matches.get_one::<u32>("watch")
 }
 
 /// Asks the server that listens at the port.

@@ -1,5 +1,11 @@
-use clap::{Arg, ArgAction, Command, value_parser};
+use clap::{Arg, ArgAction, ArgMatches, Command, value_parser};
 use std::alloc::{AllocError, Global};
+
+/// Where servers listen and clients ask.
+pub(crate) const HOST: &str = "127.0.0.1";
+
+/// The most workers of a server.
+pub(crate) const MAX_WORKERS: u16 = 64;
 
 const VERSION: &str = "0.1.0";
 
@@ -24,7 +30,7 @@ fn body<'a>(alloc: Global) -> Result<Command<'a>, AllocError> {
         .required(true);
     let services = Arg::new(alloc, "SERVICE")
         .help(
-            "A service and its status, as NAME=serving or NAME=not_serving; of two with one name the first counts",
+            "A service and its status, as api=serving or api=not_serving; of two with one name the first counts",
         )
         .action(ArgAction::Append)
         .num_args(0..)
@@ -41,13 +47,13 @@ fn serve<'a>(alloc: Global) -> Result<Command<'a>, AllocError> {
         .value_name("W")
         .help("How many calls are served at once, 1 to 64, as 4; an open Watch counts")
         .required(true)
-        .value_parser(value_parser!(u16).range(1..65));
+        .value_parser(value_parser!(u16).range(1..=i64::from(MAX_WORKERS)));
     let calls = Arg::new(alloc, "calls")
         .long("calls")
         .value_name("N")
         .help("How many connections are served before the server ends, 1 to 1000, as 10")
         .required(true)
-        .value_parser(value_parser!(u16).range(1..1_001));
+        .value_parser(value_parser!(u16).range(1..=1_000));
     Command::new(alloc, "serve")
         .about("Serve calls on 127.0.0.1 by the script on standard input, and print how each ended")
         .arg(port(alloc))?
@@ -69,7 +75,7 @@ fn ask<'a>(alloc: Global) -> Result<Command<'a>, AllocError> {
         .help(
             "Watch the service for at most so many statuses, 1 to 1000, as 3; without it one Check",
         )
-        .value_parser(value_parser!(u32).range(1..1_001));
+        .value_parser(value_parser!(u32).range(1..=1_000));
     Command::new(alloc, "ask")
         .about("Ask a server on 127.0.0.1 for the status of a service, and print what it tells")
         .arg(port(alloc))?
@@ -85,3 +91,11 @@ fn port<'a>(alloc: Global) -> Arg<'a> {
         .required(true)
         .value_parser(value_parser!(u16).range(1..))
 }
+
+/// The port that a command is given, which it has to be.
+pub(crate) fn port_in(matches: &ArgMatches<'_>) -> u16 {
+    matches.get_one::<u16>("port").unwrap_or(0)
+}
+
+#[cfg(test)]
+mod tests;

@@ -1,10 +1,11 @@
 ghost use Rattle.std.specs.Prelude.{◌≡◌};
 ghost use Rattle.healthd.specs.declared.fault.Fault.TheVariants.{OutOfMemory, Script, Ask};
+ghost use Rattle.healthd.specs.Fault.{fault_of};
 
-use crate::ask_fault::AskFault;
-use crate::script_fault::ScriptFault;
+use client::AskFault;
 use crew::CrewWhy;
-use hall::HallFault;
+use script::ScriptFault;
+use server::ServeFault;
 use std::alloc::{AllocError, AllocFailed};
 use thiserror::Error;
 
@@ -21,9 +22,7 @@ pub enum Fault {
     Read,
     #[error("write")]
     Write,
-    #[error("hall fault {}", .0.number())]
-    Hall(HallFault),
-    /// The port can't be listened to, as another program does.
+    /// The port can't be listened to, say because another program does.
     #[error("bind")]
     Bind,
     #[error("crew fault {}", .0.number())]
@@ -74,20 +73,17 @@ impl From<AskFault> for Fault {
     }
 }
 
-impl From<HallFault> for Fault {
-    fn from(fault: HallFault) -> Fault {
+impl From<ServeFault> for Fault {
+    ghost from_gives = { λ served fault. fault ≡ fault_of served };
+
+    fn from(fault: ServeFault) -> Fault {
         match fault {
-            HallFault::NoMemory => Fault::OutOfMemory,
-            _ => Fault::Hall(fault),
+            ServeFault::Crew(why) => Fault::Crew(why),
+            ServeFault::SeatsMissing => Fault::SeatsMissing,
+            ServeFault::NoMemory => Fault::OutOfMemory,
         }
     }
 }
 
-impl From<CrewWhy> for Fault {
-    fn from(why: CrewWhy) -> Fault {
-        match why {
-            CrewWhy::NoMemory => Fault::OutOfMemory,
-            _ => Fault::Crew(why),
-        }
-    }
-}
+#[cfg(test)]
+mod tests;

@@ -3,43 +3,15 @@
 
 mod answer;
 mod ask;
-mod ask_fault;
-mod asking;
 mod body;
 mod command;
-mod copies;
 mod fault;
 mod input;
-mod laws;
-mod line;
-mod lines;
-mod name;
-mod number;
-mod opening;
-mod order;
-mod outcome;
-mod part;
-mod read_script;
 mod replay;
-mod request;
-mod response;
-mod response_body;
-mod rule;
-mod run;
-mod run_script;
-mod script;
-mod script_fault;
 mod serve;
-mod served;
 mod service;
-mod setup;
-mod socket;
 #[cfg(test)]
 mod tests;
-mod texts;
-mod told;
-mod transfer;
-mod words;
 
 use clap::error::ErrorKind;
 use fault::Fault;

@@ -3,11 +3,8 @@ ghost use Rattle.healthd.specs.Replay.{EndsReplay, Replays};
 
 use crate::fault::Fault;
 use crate::input::read;
-use crate::line::Line;
-use crate::read_script::read_script;
-use crate::run_script::run_script;
-use crate::script::Mode;
 use probe_core::{Depends, Manual, Probe, Rule, Threshold};
+use script::{Line, Mode, read_script, run_script};
 use std::alloc::Global;
 use std::io;
 use std::io::Write;

@@ -6,17 +6,12 @@ ghost use Rattle.web_call.specs.HeadAnswer.{HasBodyLength, HasRefusal, HasStatus
 use crate::Method;
 use crate::content_length::content_length;
 use crate::content_type::has_grpc_web;
+use crate::head_limits::{HEAD_END, MAX_HEAD_LEN, MAX_LINE_FEEDS, MAX_LINES};
 use crate::lines::first_named;
 use crate::method::method_of;
-use crate::reading::MAX_HEAD_LEN;
 use grpc_frame::Code;
 use httparse::Status;
 use httparse::spans::{EMPTY_HEADER_SPAN, HeaderSpan, RequestSpans, parse_request};
-
-const MAX_LINES: usize = 32;
-
-// A request line, the header lines, and the empty line.
-const MAX_LINE_FEEDS: usize = MAX_LINES + 2;
 
 const MAX_BODY_LEN: u64 = 8192;
 
@@ -56,7 +51,7 @@ pub fn head_of(head: &[u8]) -> Headed
 fn is_too_large(head: &[u8]) -> bool
     ensures { result ≡ is_too_large head.now }
 {
-    head.len() >= MAX_HEAD_LEN && !head.ends_with(b"\r\n\r\n") || line_feeds(head) > MAX_LINE_FEEDS
+    head.len() >= MAX_HEAD_LEN && !head.ends_with(HEAD_END) || line_feeds(head) > MAX_LINE_FEEDS
 }
 
 fn line_feeds(head: &[u8]) -> usize

@@ -3,15 +3,10 @@ ghost use Rattle.std.specs.Io.KnownBytes.{Consumes, IsAtEnd};
 ghost use Rattle.web_call.specs.InputHead.{IsHead, IsOpenHead};
 ghost use Rattle.web_call.specs.Tap.{tap_inner, tap_failed, ConsumesFewer};
 
+use crate::head_limits::{HEAD_END, MAX_HEAD_LEN};
 use crate::tap::{Tap, fill};
 use std::alloc::{AllocError, Global};
 use std::io::Read;
-
-/// The most bytes that are read as a head.
-pub(crate) const MAX_HEAD_LEN: usize = 8_192;
-
-/// What a head ends in: the end of its last line, and an empty line.
-const HEAD_END: &[u8] = b"\r\n\r\n";
 
 /// Why a head or a body was not read.
 #[derive(Clone, Copy, Debug, PartialEq, Eq)]

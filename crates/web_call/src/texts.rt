@@ -3,6 +3,7 @@ ghost use Rattle.grpc_frame.specs.Trailers.{IsStatusText};
 ghost use Rattle.web_call.specs.Pieces.{text_of};
 ghost use Rattle.web_call.specs.Texts.{IsRefusal, refusal_response, status_response, check_response, body_head, watch_head_text, message_chunk, watch_end};
 
+use crate::head_limits::HEAD_END;
 use crate::response::{check_body, status_body};
 use grpc_frame::Code;
 use health_wire::Serving;
@@ -11,8 +12,6 @@ use std::alloc::{AllocError, Global};
 /// The head of a response with a body, up to the body's length.
 const BODY_HEAD: &[u8] =
     b"HTTP/1.1 200 OK\r\nconnection: close\r\ncontent-type: application/grpc-web+proto\r\ncontent-length: ";
-
-const HEAD_END: &[u8] = b"\r\n\r\n";
 
 /// The response to a request that is refused by HTTP: with 400, 405, 411, 415, 431 or 505.
 pub fn refuse_text(alloc: Global, http: u16) -> Result<Vec<u8>, AllocError>

@@ -1,8 +1,8 @@
 use super::*;
-use crate::script_fault::ScriptFault;
 use crate::tests::same::same;
 use crate::tests::texts::padded;
 use desk_core::CatalogueFault;
+use script::ScriptFault;
 use std::fmt::Display;
 use std::process::Abort;
 

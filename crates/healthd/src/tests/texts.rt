@@ -1,14 +1,5 @@
 use std::process::Abort;
 
-/// The parts, one behind the other.
-pub(crate) fn joined(rt: &(impl Abort + AllocGlobal), parts: &[&str]) -> String {
-    let mut text = String::new(rt.alloc());
-    for part in parts {
-        assert!(rt; text.push_str(part).is_ok());
-    }
-    text
-}
-
 /// The bytes and then so many times one byte that there are `size` in all.
 pub(crate) fn padded(
     rt: &(impl Abort + AllocGlobal),

@@ -1,6 +1,6 @@
 use Rattle.std.proofs.Common.{◌≡◌, take}
 use Rattle.std.specs.Vec.{vec_len}
-use Rattle.healthd.specs.Run.{registers}
+use Rattle.script.specs.Run.{registers}
 use Rattle.healthd.proofs.serve.serve_script.Given as goal
 
 abbrev pub invariant-loop-line : goal.invariant-loop-line

@@ -1,0 +1,3 @@
+pub(crate) mod room;
+pub(crate) mod same;
+pub(crate) mod texts;

@@ -1,6 +1,0 @@
-use Rattle.std.proofs.Common.{arith}
-use Rattle.healthd.proofs.LineCuts.{few_lines}
-use Rattle.healthd.proofs.lines.Lines.new.Goals as goal
-
-pub invariant_of-result : goal.invariant_of-result
-invariant_of-result c = omega (arith, few_lines c.args.text.now)

@@ -1,8 +1,0 @@
-use Rattle.std.proofs.Common.{◌≡◌, map, take}
-use Rattle.std.specs.String.{string_bytes}
-use Rattle.healthd.specs.Lines.{texts}
-use Rattle.healthd.specs.Word.{name_of}
-use Rattle.healthd.proofs.opening.names_of.Given as goal
-
-abbrev pub invariant-loop-word : goal.invariant-loop-word
-invariant-loop-word l = map string_bytes l.names.items ≡ map name_of (texts (take l.word-index l.words))

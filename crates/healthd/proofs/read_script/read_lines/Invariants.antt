@@ -1,9 +1,0 @@
-use Rattle.healthd.proofs.ScriptLemmas.{Reading}
-use Rattle.healthd.proofs.read_script.read_lines.Given as goal
-use Rattle.std.proofs.Common.{length}
-
-abbrev pub invariant-loop-number : goal.invariant-loop-number
-invariant-loop-number l = Reading l.mode l.catalogue l.fn.lines.lines l.watches l.taken.items l.lines.lines
-
-abbrev pub decreases-loop-number : goal.decreases-loop-number
-decreases-loop-number l = length l.lines.lines

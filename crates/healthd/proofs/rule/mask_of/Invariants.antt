@@ -1,7 +1,0 @@
-use Rattle.std.proofs.Common.{take}
-use Rattle.healthd.specs.Line.{IsMaskOf}
-use Rattle.healthd.specs.Lines.{texts}
-use Rattle.healthd.proofs.rule.mask_of.Given as goal
-
-abbrev pub invariant-loop-word : goal.invariant-loop-word
-invariant-loop-word l = IsMaskOf l.catalogue (texts (take l.word-index l.words)) l.mask

@@ -1,0 +1,39 @@
+use super::*;
+use crate::tests::same::same;
+use desk_core::CatalogueFault;
+use std::process::Abort;
+
+/// Each fault, and its text on standard error behind the program's name.
+const TEXTS: [(Fault, &str); 16] = [
+    (Fault::BadHex, "bad hex"),
+    (Fault::BadService, "bad service"),
+    (Fault::Script(ScriptFault::BadLine(7)), "script line 7"),
+    (
+        Fault::Script(ScriptFault::Catalogue(CatalogueFault::NoEmptyName)),
+        "catalogue fault 5",
+    ),
+    (Fault::Script(ScriptFault::TooLong), "script too long"),
+    (Fault::Script(ScriptFault::NotText), "script not text"),
+    (Fault::Read, "read"),
+    (Fault::Write, "write"),
+    (Fault::Bind, "bind"),
+    (Fault::Crew(CrewWhy::Lost), "crew fault 5"),
+    (Fault::SeatsMissing, "seats missing"),
+    (Fault::NameTooLong, "name too long"),
+    (Fault::Connect, "connect"),
+    (Fault::Ask(AskFault::BadResponse), "bad response"),
+    (Fault::Ask(AskFault::Http(404)), "http 404"),
+    (Fault::OutOfMemory, "out of memory"),
+];
+
+fn expect_text(rt: &(impl Abort + AllocGlobal), fault: &Fault, expected: &str) {
+    let text = format!(in rt.alloc(); "{fault}").ok().expect(rt, "a text");
+    same(rt, &text.as_str(), &expected, fault);
+}
+
+#[test]
+fn tells_each_fault_in_words(rt: HostRuntime) {
+    for (fault, expected) in &TEXTS {
+        expect_text(&rt, fault, *expected);
+    }
+}

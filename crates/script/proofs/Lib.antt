@@ -1,0 +1,13 @@
+pub mod CopyLemmas
+pub mod LineCuts
+pub mod LineLemmas
+pub mod LineRunLemmas
+pub mod MaskLemmas
+pub mod NumberLemmas
+pub mod OneLine
+pub mod OneScript
+pub mod OpeningLemmas
+pub mod RunLemmas
+pub mod RunningLemmas
+pub mod ScriptLemmas
+pub mod WordLemmas

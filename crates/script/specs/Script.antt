@@ -1,0 +1,139 @@
+-- What a script says.
+use Rattle.std.specs.Prelude.{ℕ, suc, ◌≡◌, ◌<◌, ◌≤◌, List, [], ◌∷◌, length, codes}
+use Rattle.std.specs.Str.{IsUtf8}
+use Rattle.desk_core.specs.declared.order.Order.{Order as OrderOf}
+use Rattle.script.specs.declared.line.Line.{Line}
+use Rattle.script.specs.declared.line.Line.TheVariants.{Register, Retire, Order, Check, Open, Step, Board}
+use Rattle.script.specs.declared.script.Mode.{Mode}
+use Rattle.script.specs.declared.script.Mode.TheVariants.{Replay, Serve}
+use Rattle.script.specs.declared.script_fault.ScriptFault.{ScriptFault}
+use Rattle.script.specs.declared.script_fault.ScriptFault.TheVariants.{TooLong, NotText, BadLine}
+use Rattle.script.specs.Lines.{Left, left_from}
+use Rattle.script.specs.Line.{IsLineText, IsOrderText}
+use Rattle.script.specs.Opening.{TakesCatalogue, TakesMax, IsCatalogueFault, IsMaxFault}
+
+-- a script: the names of its catalogue, the most entries of its journal, its lines, and the orders behind its line `go`
+pub record ScriptParts : Type 0 where
+  pub names : List (List ℕ)
+  pub max : ℕ
+  pub lines : List Line
+  pub orders : List OrderOf
+
+-- how many watches there are after a line
+abbrev pub watches_after : Line → ℕ → ℕ
+watches_after (Register name rule) watches = watches
+watches_after (Retire name) watches = watches
+watches_after (Order order) watches = watches
+watches_after (Check name) watches = watches
+watches_after (Open name) watches = suc watches
+watches_after (Step k) watches = watches
+watches_after Board watches = watches
+
+-- a step is one of a watch that an earlier line opened
+abbrev pub IsStepOfOpened : Line → ℕ → Type 0
+IsStepOfOpened (Register name rule) watches = Unit {0}
+IsStepOfOpened (Retire name) watches = Unit {0}
+IsStepOfOpened (Order order) watches = Unit {0}
+IsStepOfOpened (Check name) watches = Unit {0}
+IsStepOfOpened (Open name) watches = Unit {0}
+IsStepOfOpened (Step k) watches = k < watches
+IsStepOfOpened Board watches = Unit {0}
+
+-- all steps of the lines are, where there are so many watches before them
+abbrev pub StepsFollow : ℕ → List Line → Type 0
+StepsFollow watches [] = Unit {0}
+StepsFollow watches (line ∷ lines) = IsStepOfOpened line watches × StepsFollow (watches_after line watches) lines
+
+-- the line changes the registry, and asks nothing of it
+abbrev pub IsChange : Line → Type 0
+IsChange (Register name rule) = Unit {0}
+IsChange (Retire name) = Unit {0}
+IsChange (Order order) = Unit {0}
+IsChange (Check name) = ⊥
+IsChange (Open name) = ⊥
+IsChange (Step k) = ⊥
+IsChange Board = ⊥
+
+-- the line may stand behind lines that opened so many watches. A script to be served has changes alone
+abbrev pub IsAllowed : Mode → ℕ → Line → Type 0
+IsAllowed Replay watches line = IsStepOfOpened line watches
+IsAllowed Serve watches line = IsChange line
+
+-- the text is a line that may stand there
+pub record IsNextLine (mode : Mode) (names : List (List ℕ)) (watches : ℕ) (text : List ℕ) (line : Line) : Type 0 where
+  pub is : IsLineText names text line
+  pub allowed : IsAllowed mode watches line
+
+-- the text is the line `go`, which may stand in a script to be served
+pub record IsGo (mode : Mode) (text : List ℕ) : Type 0 where
+  pub serves : mode ≡ Serve
+  pub is : text ≡ codes "go"
+
+-- the lines up to `go` or to the end, behind lines that opened so many watches, and what is left behind `go`
+pub data TakesLines (mode : Mode) (names : List (List ℕ)) : ℕ → List (ℕ × List ℕ) → List Line → List (ℕ × List ℕ) → Type 0 where
+  AtEnd : (watches : ℕ) → TakesLines mode names watches [] [] []
+  AtGo : (watches number : ℕ) (text : List ℕ) (rest : List (ℕ × List ℕ)) → IsGo mode text
+      → TakesLines mode names watches ((number, text) ∷ rest) [] rest
+  NextLine : (watches number : ℕ) (text : List ℕ) (line : Line) (body rest : List (ℕ × List ℕ)) (lines : List Line)
+      → IsNextLine mode names watches text line → TakesLines mode names (watches_after line watches) body lines rest
+      → TakesLines mode names watches ((number, text) ∷ body) (line ∷ lines) rest
+
+-- the first line that is neither `go` nor a line that may stand there
+pub data IsLinesFault (mode : Mode) (names : List (List ℕ)) : ℕ → List (ℕ × List ℕ) → ScriptFault → Type 0 where
+  BadHere : (watches number : ℕ) (text : List ℕ) (rest : List (ℕ × List ℕ)) → ¬ IsGo mode text
+      → ((line : Line) → ¬ IsNextLine mode names watches text line) → IsLinesFault mode names watches ((number, text) ∷ rest) (BadLine number)
+  BadLater : (watches number : ℕ) (text : List ℕ) (line : Line) (rest : List (ℕ × List ℕ)) (fault : ScriptFault)
+      → IsNextLine mode names watches text line → IsLinesFault mode names (watches_after line watches) rest fault
+      → IsLinesFault mode names watches ((number, text) ∷ rest) fault
+
+-- each line is the order in its place
+pub data AreOrders : List (ℕ × List ℕ) → List OrderOf → Type 0 where
+  NoOrder : AreOrders [] []
+  NextOrder : (number : ℕ) (text : List ℕ) (order : OrderOf) (rest : List (ℕ × List ℕ)) (orders : List OrderOf) → IsOrderText text order
+      → AreOrders rest orders → AreOrders ((number, text) ∷ rest) (order ∷ orders)
+
+-- the first line that is no order
+pub data IsOrdersFault : List (ℕ × List ℕ) → ScriptFault → Type 0 where
+  NotHere : (number : ℕ) (text : List ℕ) (rest : List (ℕ × List ℕ)) → ((order : OrderOf) → ¬ IsOrderText text order)
+      → IsOrdersFault ((number, text) ∷ rest) (BadLine number)
+  NotLater : (number : ℕ) (text : List ℕ) (order : OrderOf) (rest : List (ℕ × List ℕ)) (fault : ScriptFault) → IsOrderText text order
+      → IsOrdersFault rest fault → IsOrdersFault ((number, text) ∷ rest) fault
+
+-- the bytes are few enough, and text
+pub record IsText (bytes : List ℕ) : Type 0 where
+  pub short : length bytes ≤ 65536
+  pub text : IsUtf8 bytes
+
+-- the text opens with a catalogue and the most entries, and this is left behind them
+pub record Opens (bytes : List ℕ) (names : List (List ℕ)) (max : ℕ) (body : Left) : Type 0 where
+  pub is_text : IsText bytes
+  pub behind_catalogue : Left
+  pub catalogue : TakesCatalogue (left_from 1 bytes) names behind_catalogue
+  pub most : TakesMax behind_catalogue max body
+
+-- the bytes are this script
+pub record IsScript (mode : Mode) (bytes : List ℕ) (script : ScriptParts) : Type 0 where
+  pub body : Left
+  pub behind_go : List (ℕ × List ℕ)
+  pub opens : Opens bytes script.names script.max body
+  pub lines : TakesLines mode script.names 0 body.lines script.lines behind_go
+  pub orders : AreOrders behind_go script.orders
+
+-- why the bytes are no script: the first fault, by rules
+pub data IsScriptFault (mode : Mode) (bytes : List ℕ) : ScriptFault → Type 0 where
+  -- too many bytes, which counts before all else
+  Long : 65536 < length bytes → IsScriptFault mode bytes TooLong
+  -- no text
+  NoText : length bytes ≤ 65536 → ¬ IsUtf8 bytes → IsScriptFault mode bytes NotText
+  -- a fault of the first line
+  InCatalogue : (fault : ScriptFault) → IsText bytes → IsCatalogueFault (left_from 1 bytes) fault → IsScriptFault mode bytes fault
+  -- a fault of the second line, behind a catalogue
+  InMax : (names : List (List ℕ)) (rest : Left) (fault : ScriptFault) → IsText bytes → TakesCatalogue (left_from 1 bytes) names rest
+      → IsMaxFault rest fault → IsScriptFault mode bytes fault
+  -- a fault of a line behind the opening, up to `go`
+  InLines : (names : List (List ℕ)) (max : ℕ) (body : Left) (fault : ScriptFault) → Opens bytes names max body
+      → IsLinesFault mode names 0 body.lines fault → IsScriptFault mode bytes fault
+  -- a fault of a line behind `go`
+  InOrders : (names : List (List ℕ)) (max : ℕ) (body : Left) (lines : List Line) (behind_go : List (ℕ × List ℕ)) (fault : ScriptFault)
+      → Opens bytes names max body → TakesLines mode names 0 body.lines lines behind_go → IsOrdersFault behind_go fault
+      → IsScriptFault mode bytes fault

@@ -1,0 +1,93 @@
+ghost use Rattle.std.specs.Prelude.{IfOk};
+ghost use Rattle.script.specs.Line.{IsLine, IsLineText};
+ghost use Rattle.script.specs.Lines.{texts};
+ghost use Rattle.script.specs.Reading.{IsReading};
+
+use crate::name::read_name;
+use crate::number::number_of;
+use crate::order::order_of;
+use crate::rule::rule_of;
+use crate::script::Mode;
+use crate::words::words_of;
+use desk_core::{Catalogue, Name, Order};
+use probe_core::Rule;
+use std::alloc::{AllocError, Global};
+
+/// What a line of a script says.
+#[derive(Debug, Drop)]
+pub enum Line {
+    Register(Name, Rule),
+    Retire(Name),
+    Order(Order),
+    Check(Name),
+    Open(Name),
+    /// A step of the watch with this number, which counts from 0 in the order of the opening lines.
+    Step(u32),
+    Board,
+}
+
+impl Line {
+    ghost use Rattle.std.specs.Prelude.{◌≡◌, ◌+◌, ◌^◌, ◌<◌, ◌↔◌, IsTrue};
+    ghost use Rattle.script.specs.Script.{IsAllowed, watches_after};
+
+    /// Whether the line may stand behind lines that opened so many watches.
+    pub(crate) fn is_allowed(&self, mode: Mode, watches: usize) -> bool
+        ensures { IsTrue result ↔ IsAllowed mode watches self.now }
+    {
+        match (mode, self) {
+            (Mode::Replay, Line::Step(watch)) => (*watch as usize) < watches,
+            (Mode::Serve, Line::Check(_) | Line::Open(_) | Line::Step(_) | Line::Board) => false,
+            _ => true,
+        }
+    }
+
+    /// How many watches there are after the line.
+    pub(crate) fn watches_after(&self, watches: usize) -> usize
+        requires { watches + 1 < 2 ^ 64 }
+        ensures { result ≡ watches_after self.now watches }
+    {
+        match self {
+            Line::Open(_) => watches + 1,
+            _ => watches,
+        }
+    }
+}
+
+/// The line that a text gives.
+pub(crate) fn read_line(
+    alloc: Global,
+    catalogue: &Catalogue,
+    text: &str,
+) -> Result<Option<Line>, AllocError>
+    ensures { IfOk result (λ line. IsReading (IsLineText catalogue.now) text.now line) }
+{
+    match words_of(alloc, text)? {
+        Some(words) => line_of(alloc, catalogue, &words),
+        None => Ok(None),
+    }
+}
+
+fn line_of(alloc: Global, catalogue: &Catalogue, words: &[&str]) -> Result<Option<Line>, AllocError>
+    ensures { IfOk result (λ line. IsReading (IsLine catalogue.now) (texts words.now) line) }
+{
+    if let ["register", name, rule @ ..] = words {
+        return match rule_of(catalogue, rule) {
+            Some(rule) => Ok(Some(Line::Register(read_name(alloc, name)?, rule))),
+            None => Ok(None),
+        };
+    }
+    match words {
+        ["retire", name] => Ok(Some(Line::Retire(read_name(alloc, name)?))),
+        ["check", name] => Ok(Some(Line::Check(read_name(alloc, name)?))),
+        ["open", name] => Ok(Some(Line::Open(read_name(alloc, name)?))),
+        ["step", word] => match number_of(word) {
+            Some(watch) => Ok(Some(Line::Step(watch))),
+            None => Ok(None),
+        },
+        ["board"] => Ok(Some(Line::Board)),
+        _ => match order_of(alloc, words)? {
+            Some(order) => Ok(Some(Line::Order(order))),
+            None => Ok(None),
+        },
+    }
+}

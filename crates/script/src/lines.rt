@@ -1,0 +1,63 @@
+ghost use Rattle.std.specs.Prelude.{◌≡◌, ◌<◌, ◌∷◌, length};
+ghost use Rattle.script.specs.Lines.{lines};
+
+use std::marker::Model;
+
+/// What is left of a text: it gives its lines that have a byte, each with its number.
+#[derive(Drop)]
+pub(crate) struct Lines<'a> {
+    rest: &'a str,
+    number: u32,
+}
+
+impl<'a> Model for Lines<'a> {
+    ghost use Rattle.std.specs.Prelude.{◌+◌, ◌^◌, ◌<◌, length};
+    ghost use Rattle.script.specs.Lines.{Left, left_from, lines};
+
+    ghost Value = { Left };
+
+    ghost view = { λ left. left_from left.number left.rest.now };
+
+    ghost invariant = { λ left. left.number + length (lines left.rest.now) < 2 ^ 32 };
+}
+
+impl<'a> Lines<'a> {
+    ghost use Rattle.std.specs.Prelude.{◌≡◌, ◌≤◌, [], length, IfOk, IfErr};
+    ghost use Rattle.script.specs.Lines.{left_from, with_line};
+
+    /// The lines of a text, whose numbers count from 1.
+    pub(crate) fn new(text: &'a str) -> Lines<'a>
+        requires { length text.now ≤ 65536 }
+        ensures { result ≡ left_from 1 text.now }
+    {
+        Lines {
+            rest: text,
+            number: 1,
+        }
+    }
+
+    /// Takes the next line that has a byte, with its number. Where there is none it gives the number after the last line.
+    pub(crate) fn next(&mut self) -> Result<(u32, &'a str), u32>
+        ensures line { IfOk result (λ line. self.old ≡ with_line (line.0, line.1.now) self.new) }
+        ensures none { IfErr result (λ end. (self.old.lines ≡ []) × (self.new.lines ≡ []) × (end ≡ self.old.end)) }
+    {
+        while !self.rest.is_empty() {
+            let (line, rest) = first_line(self.rest);
+            let number = self.number;
+            self.rest = rest;
+            self.number += 1;
+            if !line.is_empty() {
+                return Ok((number, line));
+            }
+        }
+        Err(self.number)
+    }
+}
+
+fn first_line(text: &str) -> (&str, &str)
+    requires { 0 < length text.now }
+    ensures line { lines text.now ≡ result.0.now ∷ lines result.1.now }
+    ensures shorter { length result.1.now < length text.now }
+{
+    text.split_once('\n').unwrap_or((text, ""))
+}

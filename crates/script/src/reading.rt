@@ -1,0 +1,103 @@
+ghost use Rattle.std.specs.Prelude.{◌≡◌, ◌≢◌, ◌+◌, ◌^◌, ◌<◌, ◌↔◌, IsTrue, IfOk, IfErr};
+ghost use Rattle.script.specs.Reading.{IsReading};
+ghost use Rattle.script.specs.Script.{IsGo, IsNextLine, TakesLines, IsLinesFault, AreOrders, IsOrdersFault, IsText, IsScript, IsScriptFault};
+
+use crate::line::{Line, read_line};
+use crate::lines::Lines;
+use crate::opening::{read_catalogue, read_max};
+use crate::order::read_order;
+use crate::script::{Mode, Script};
+use crate::script_fault::ScriptFault;
+use desk_core::{Catalogue, Order};
+use std::alloc::{AllocError, Global};
+
+const MAX_LEN: usize = 65_536;
+
+/// Reads the bytes as a script, up to the first fault.
+pub fn read_script(alloc: Global, bytes: &[u8], mode: Mode) -> Result<Script, ScriptFault>
+    ensures ok { IfOk result (λ script. IsScript mode bytes.now script) }
+    ensures fault { IfErr result (λ fault. fault ≢ ScriptFault.NoMemory → IsScriptFault mode bytes.now fault) }
+
+    // Want of memory comes after too many bytes and after bytes that are no text.
+    ensures no_memory { IfErr result (λ fault. fault ≡ ScriptFault.NoMemory → IsText bytes.now) }
+{
+    if bytes.len() > MAX_LEN {
+        return Err(ScriptFault::TooLong);
+    }
+    let Ok(text) = str::from_utf8(bytes) else {
+        return Err(ScriptFault::NotText);
+    };
+    let mut lines = Lines::new(text);
+    let catalogue = read_catalogue(alloc, &mut lines)?;
+    let max = read_max(alloc, &mut lines)?;
+    let steps = read_lines(alloc, mode, &catalogue, &mut lines)?;
+    let orders = read_orders(alloc, &mut lines)?;
+    Ok(Script::new(catalogue, max, steps, orders))
+}
+
+/// Takes the lines up to `go`, and `go` itself, or to the end.
+fn read_lines(
+    alloc: Global,
+    mode: Mode,
+    catalogue: &Catalogue,
+    lines: &mut Lines<'_>,
+) -> Result<Vec<Line>, ScriptFault>
+    ensures ok { IfOk result (λ taken. TakesLines mode catalogue.now 0 lines.old.lines taken.items lines.new.lines) }
+    ensures fault { IfErr result (λ fault. fault ≢ ScriptFault.NoMemory → IsLinesFault mode catalogue.now 0 lines.old.lines fault) }
+{
+    let mut taken = Vec::new(alloc);
+    let mut watches = 0;
+    while let Ok((number, text)) = lines.next() {
+        if is_go(mode, text) {
+            return Ok(taken);
+        }
+        let Some(line) = next_line(alloc, mode, catalogue, watches, text)? else {
+            return Err(ScriptFault::BadLine(number));
+        };
+        watches = line.watches_after(watches);
+        taken.push(line)?;
+    }
+    Ok(taken)
+}
+
+fn is_go(mode: Mode, text: &str) -> bool
+    ensures { IsTrue result ↔ IsGo mode text.now }
+{
+    mode == Mode::Serve && text == "go"
+}
+
+fn next_line(
+    alloc: Global,
+    mode: Mode,
+    catalogue: &Catalogue,
+    watches: usize,
+    text: &str,
+) -> Result<Option<Line>, AllocError>
+    ensures { IfOk result (λ line. IsReading (IsNextLine mode catalogue.now watches) text.now line) }
+{
+    let Some(line) = read_line(alloc, catalogue, text)? else {
+        return Ok(None);
+    };
+    if !line.is_allowed(mode, watches) {
+        return Ok(None);
+    }
+    Ok(Some(line))
+}
+
+/// Takes all lines as orders.
+fn read_orders(alloc: Global, lines: &mut Lines<'_>) -> Result<Vec<Order>, ScriptFault>
+    ensures ok { IfOk result (λ orders. AreOrders lines.old.lines orders.items) }
+    ensures fault { IfErr result (λ fault. fault ≢ ScriptFault.NoMemory → IsOrdersFault lines.old.lines fault) }
+{
+    let mut orders = Vec::new(alloc);
+    while let Ok((number, text)) = lines.next() {
+        match read_order(alloc, text)? {
+            Some(order) => orders.push(order)?,
+            None => return Err(ScriptFault::BadLine(number)),
+        }
+    }
+    Ok(orders)
+}
+
+#[cfg(test)]
+mod tests;

@@ -1,0 +1,2 @@
+pub(crate) mod room;
+pub(crate) mod same;
