@@ -1,6 +1,9 @@
-ghost use Rattle.std.specs.Prelude.{◌≡◌, ◌≢◌, ◌∷◌, [], IfOk, IsErrOf, vec_len};
+ghost use Rattle.std.specs.Prelude.{◌≡◌, ◌≢◌, ◌⊎◌, ◌∷◌, [], ℕ, List, Err, IfOk, IfSome, IfNone, IsErrOf, vec_len};
 ghost use Rattle.std.specs.List.{All};
 ghost use Rattle.hall.specs.Seats.{IsOf};
+ghost use Rattle.crew.specs.declared.crew_why.CrewWhy.{CrewWhy};
+ghost use Rattle.crew.specs.CrewWhy.{crew_fault};
+ghost use Rattle.crew.specs.Gather.{Fails};
 ghost use Rattle.crew.specs.Serve.{lists_in};
 ghost use Rattle.server.specs.Serving.{HasServedOrders};
 
@@ -43,6 +46,9 @@ pub fn serve<R, P: Probe + Send>(
 where
     R: Wait + Threads + Sync,
     requires { All (IsOf hall) seats.items }
+    // A crew that has too few seats, or no workers, is refused, and no other for that; of which other fault there is, tests show.
+    ensures refused { IfSome (crew_fault capacity.workers 1 (vec_len seats)) (λ why. (result ≡ Err (ServeFault.Crew why)) ⊎ (result ≡ Err ServeFault.NoMemory)) }
+    ensures failed { IfNone (crew_fault capacity.workers 1 (vec_len seats)) ((why : CrewWhy) → IsErrOf result (ServeFault.Crew why) → (numbers : List ℕ) × Fails capacity.calls numbers why) }
     ensures calls { IfOk result (λ served. vec_len served.calls ≡ capacity.calls) }
     ensures entries { IfOk result (λ served. HasServedOrders hall.names capacity.workers orders.items seats.items served.entries) }
     ensures missing { IsErrOf result ServeFault.SeatsMissing → vec_len seats ≢ hall.seats }
@@ -86,6 +92,7 @@ fn work_of<'a>(
 ) -> Result<(Vec<Accept<'a>>, Vec<Vec<Order>>), AllocError>
     ensures jobs { IfOk result (λ work. vec_len work.0 ≡ calls) }
     ensures orders { IfOk result (λ work. lists_in work.1 ≡ orders.items ∷ []) }
+    ensures one { IfOk result (λ work. vec_len work.1 ≡ 1) }
 {
     let mut jobs = Vec::new(alloc);
     jobs.resize(calls as usize, Accept::new(alloc, listener))?;

@@ -1,4 +1,4 @@
-use Rattle.std.proofs.Common.{length, ap, sym, ◌∙◌}
+use Rattle.std.proofs.Common.{length, ap, ◌∙◌}
 use Rattle.server.proofs.ServingLemmas.{one_list, not_missing}
 use Rattle.server.proofs.serving.serve.Goals as goal
 
