@@ -19,6 +19,7 @@ pub enum AskFault {
     /// The response has this status code of HTTP, and not 200.
     #[error("http {0}")]
     Http(u16),
+    /// An allocation failed, for the request or for what is kept of the response.
     #[error("out of memory")]
     NoMemory,
 }

@@ -2,21 +2,24 @@ use std::alloc::{AllocError, AllocFailed};
 use std::error::Error;
 use std::fmt;
 
-/// Why the body of a request is not the frame of one message.
+/// An allocation failed, and nothing else can have gone wrong.
+pub type NoMemory = AllocError;
+
+/// Why the body of a request is not the frame of one message. Faults are met from the left, and the first one counts.
 #[derive(Clone, Copy, Debug, PartialEq, Eq, Hash)]
 pub enum FrameFault {
     /// The frame of a message ends in its header or in its content.
-    Truncated,
+    Truncated = 1,
     /// The message is compressed, by its flag alone.
-    Compressed,
+    Compressed = 2,
     /// The body has no byte.
-    NoMessage,
+    NoMessage = 3,
     /// A second whole message follows the first.
-    MoreThanOne,
+    MoreThanOne = 4,
     /// A flag has its top bit set, as that of trailers has.
-    TrailerInRequest,
+    TrailerInRequest = 5,
     /// A flag is from 2 to 127, which no frame has.
-    BadFlag,
+    BadFlag = 6,
 }
 
 impl fmt::Display for FrameFault {
@@ -39,13 +42,13 @@ impl fmt::Display for FrameFault {
 
 impl Error for FrameFault {}
 
-/// Why a stream gives no frame now.
+/// Why a stream gives no frame now. The stream stays as it was.
 #[derive(Clone, Copy, Debug, PartialEq, Eq, Hash)]
 pub enum SplitFault {
-    /// Memory ran out.
-    NoMemory,
-    /// The next frame's length is over 1,048,576 bytes, and no more can be read of the stream.
-    TooLong,
+    /// An allocation failed. The frame stays in the rest, and a later call may take it.
+    NoMemory = 1,
+    /// The next frame's length is over 1,048,576 bytes. Each later call answers the same.
+    TooLong = 2,
 }
 
 impl fmt::Display for SplitFault {
@@ -90,11 +93,11 @@ impl<T: Drop> From<AllocFailed<T>> for SplitFault {
 #[derive(Clone, Copy, Debug, PartialEq, Eq, Hash)]
 pub enum TrailerFault {
     /// A line has no colon. It counts before the other faults.
-    NoColon,
+    NoColon = 1,
     /// No line is named `grpc-status`.
-    NoStatus,
+    NoStatus = 2,
     /// The status is not one to nine ASCII digits.
-    BadStatus,
+    BadStatus = 3,
 }
 
 impl fmt::Display for TrailerFault {

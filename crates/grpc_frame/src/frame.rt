@@ -1,7 +1,7 @@
 ghost use Rattle.std.specs.Prelude.{◌≡◌, ◌+◌, ◌^◌, ◌<◌, ◌≤◌, ◌∷◌, ◌++◌, vec_len, vec_capacity, OnOk, OnErr};
 ghost use Rattle.std.specs.Int.{w32, to_be_bytes};
 
-use std::alloc::AllocError;
+use crate::NoMemory;
 
 /// A frame that was taken off a stream.
 #[derive(Debug, Drop, PartialEq, Eq)]
@@ -11,7 +11,7 @@ pub struct Frame {
 }
 
 /// Writes a frame's flag and length, and leaves room for its content.
-pub(crate) fn open_frame(out: &mut Vec<u8>, flag: u8, len: usize) -> Result<(), AllocError>
+pub(crate) fn open_frame(out: &mut Vec<u8>, flag: u8, len: usize) -> Result<(), NoMemory>
     requires { len < 2 ^ 32 }
     ensures ok { OnOk result (out.new.items ≡ out.old.items ++ flag ∷ to_be_bytes w32 len) }
     ensures room { OnOk result (vec_len out.new + len ≤ vec_capacity out.new) }

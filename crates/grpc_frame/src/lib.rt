@@ -11,7 +11,7 @@ mod splitter;
 mod trailers;
 
 pub use code::Code;
-pub use fault::{FrameFault, SplitFault, TrailerFault};
+pub use fault::{FrameFault, NoMemory, SplitFault, TrailerFault};
 pub use frame::Frame;
 pub use laws::{
     any_cutting, first_frame, one_answer, one_cut, read_back, stays_too_long, trailers_read_back,

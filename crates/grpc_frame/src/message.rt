@@ -2,9 +2,8 @@ ghost use Rattle.std.specs.Prelude.{◌≡◌, ◌+◌, ◌^◌, ◌<◌, ◌≤
 ghost use Rattle.grpc_frame.specs.Frame.{frame};
 ghost use Rattle.grpc_frame.specs.Message.{BeginsWith, BeginsWithNone, IsOneMessage, fault_at};
 
-use crate::FrameFault;
 use crate::frame::open_frame;
-use std::alloc::AllocError;
+use crate::{FrameFault, NoMemory};
 
 const MESSAGE: u8 = 0;
 
@@ -27,7 +26,7 @@ pub fn one_message(body: &[u8]) -> Result<&[u8], FrameFault>
 }
 
 /// Appends the frame of an uncompressed message.
-pub fn put_message(out: &mut Vec<u8>, message: &[u8]) -> Result<(), AllocError>
+pub fn put_message(out: &mut Vec<u8>, message: &[u8]) -> Result<(), NoMemory>
     requires { length message.now < 2 ^ 32 }
     ensures ok { OnOk result (out.new.items ≡ out.old.items ++ frame 0 message.now) }
     ensures err { OnErr result (out.new.items ≡ out.old.items) }

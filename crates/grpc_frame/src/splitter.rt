@@ -1,9 +1,9 @@
 ghost use Rattle.std.specs.Prelude.{◌≡◌, ◌↔◌, ◌<◌, ◌≤◌, ◌++◌, [], length, drop, vec_len, IsTrue, IfOk, IfSome, IfNone, OnOk, OnErr, IsErrOf};
 ghost use Rattle.grpc_frame.specs.Split.{BeginsWithFrame, BeginsWhole, BeginsWithNoFrame, BeginsTooLong};
 
-use crate::SplitFault;
 use crate::frame::Frame;
-use std::alloc::{AllocError, Global};
+use crate::{NoMemory, SplitFault};
+use std::alloc::Global;
 use std::marker::Model;
 
 /// The longest content of a frame that is taken, in bytes.
@@ -38,7 +38,7 @@ impl Splitter {
     }
 
     /// Adds a piece to the rest. Bytes that were taken leave the memory here, once they are half of it or more.
-    pub fn feed(&mut self, piece: &[u8]) -> Result<(), AllocError>
+    pub fn feed(&mut self, piece: &[u8]) -> Result<(), NoMemory>
         ensures ok { OnOk result (self.new ≡ self.old ++ piece.now) }
         ensures err { OnErr result (self.new ≡ self.old) }
         ensures some { OnErr result (0 < length piece.now) }

@@ -1,9 +1,9 @@
 ghost use Rattle.grpc_frame.specs.Trailers.{IsStatusText};
 
 use super::*;
-use std::alloc::{AllocFailed, Global};
-use std::process::Abort;
+use std::alloc::AllocFailed;
 use std::test::Fail;
+use test_support::same;
 
 mod memory;
 
@@ -30,18 +30,27 @@ const BODIES: [(&[u8], Result<&[u8], FrameFault>); 17] = [
     ),
 ];
 
+const VALUES: [(&[u8], &[u8]); 4] = [
+    (b" \t7 8\t ", b"7 8"),
+    (b"\n", b"\n"),
+    (b" ", b""),
+    (b"", b""),
+];
+
 #[test]
-fn trims_spaces_and_tabs_at_both_ends(rt: HostRuntime) {
-    for (value, trimmed) in [(" \t7 8\t ", "7 8"), ("\n", "\n"), (" ", ""), ("", "")] {
-        assert_eq!(rt; trim(value.as_bytes()), trimmed.as_bytes(), "at {value:?}");
+fn trims_spaces_and_tabs_at_both_ends() -> Result<(), Fail> {
+    for (value, trimmed) in &VALUES {
+        same(&trim(*value), trimmed, value)?;
     }
+    Ok(())
 }
 
 #[test]
-fn reads_one_message_or_the_first_fault(rt: HostRuntime) {
-    for (body, expected) in BODIES {
-        assert_eq!(rt; one_message(body), expected, "at {body:?}");
+fn reads_one_message_or_the_first_fault() -> Result<(), Fail> {
+    for (body, expected) in &BODIES {
+        same(&one_message(*body), expected, body)?;
     }
+    Ok(())
 }
 
 #[test]
@@ -49,9 +58,8 @@ fn appends_a_message(rt: HostRuntime) -> Result<(), Fail> {
     let mut out = [7].to_vec(rt.alloc())?;
     put_message(&mut out, b"\x08\x01")?;
     put_message(&mut out, b"")?;
-    let expected = b"\x07\0\0\0\0\x02\x08\x01\0\0\0\0\0";
-    assert_eq!(rt; out.as_slice(), expected.as_slice());
-    Ok(())
+    let expected: &[u8] = b"\x07\0\0\0\0\x02\x08\x01\0\0\0\0\0";
+    same(&out.as_slice(), &expected, &"two messages")
 }
 
 const STATUSES: [(Code, &str, &[u8]); 7] = [
@@ -93,8 +101,7 @@ fn appends_the_trailers_of_each_status(rt: HostRuntime) -> Result<(), Fail> {
     for (code, text, expected) in STATUSES {
         let mut out = [7].to_vec(rt.alloc())?;
         put_trailers(&mut out, code, text)?;
-        assert_eq!(rt; out.first(), Some(&7), "at {text}");
-        assert_eq!(rt; out.get(1..), Some(expected), "at {text}");
+        same(&out.split_first(), &Some((&7, expected)), &text)?;
     }
     Ok(())
 }
@@ -111,12 +118,14 @@ fn takes_the_frames_of_a_response_fed_byte_by_byte(rt: HostRuntime) -> Result<()
     }
     for (flag, body) in FRAMES {
         let frame = splitter.take()?.ok_or("no frame")?;
-        assert_eq!(rt; frame.flag, flag);
-        assert_eq!(rt; frame.body.as_slice(), body, "at flag {flag}");
+        same(
+            &(frame.flag, frame.body.as_slice()),
+            &(flag, body),
+            &"a frame",
+        )?;
     }
-    assert_eq!(rt; splitter.take()?, None);
-    assert_eq!(rt; splitter.rest(), b"".as_slice());
-    Ok(())
+    same(&splitter.take(), &Ok(None), &"the end")?;
+    same(&splitter.rest(), &b"".as_slice(), &"the rest")
 }
 
 #[test]
@@ -129,8 +138,7 @@ fn takes_each_frame_as_soon_as_it_is_whole(rt: HostRuntime) -> Result<(), Fail> 
             ends.push(i)?;
         }
     }
-    assert_eq!(rt; ends.as_slice(), [6, 26].as_slice());
-    Ok(())
+    same(&ends.as_slice(), &[6, 26].as_slice(), &"the ends")
 }
 
 const STARTS: [(&[u8], Result<bool, SplitFault>); 8] = [
@@ -147,19 +155,21 @@ const STARTS: [(&[u8], Result<bool, SplitFault>); 8] = [
     (b"\0\0\0\0\x02\x08", Ok(false)),
 ];
 
+fn is_taken(splitter: &mut Splitter) -> Result<bool, SplitFault> {
+    Ok(splitter.take()?.is_some())
+}
+
 #[test]
 fn takes_a_frame_none_or_refuses_its_length(rt: HostRuntime) -> Result<(), Fail> {
     for (bytes, expected) in STARTS {
         let mut splitter = Splitter::new(rt.alloc());
         splitter.feed(bytes)?;
-        let first = splitter.take().map(|frame| frame.is_some());
-        assert_eq!(rt; first, expected, "at {bytes:?}");
+        same(&is_taken(&mut splitter), &expected, &bytes)?;
         if expected == Ok(true) {
             continue;
         }
-        let second = splitter.take().map(|frame| frame.is_some());
-        assert_eq!(rt; second, expected, "at {bytes:?}");
-        assert_eq!(rt; splitter.rest(), bytes);
+        same(&is_taken(&mut splitter), &expected, &bytes)?;
+        same(&splitter.rest(), &bytes, &expected)?;
     }
     Ok(())
 }
@@ -168,16 +178,19 @@ fn takes_a_frame_none_or_refuses_its_length(rt: HostRuntime) -> Result<(), Fail>
 fn stays_too_long_whatever_is_fed(rt: HostRuntime) -> Result<(), Fail> {
     let mut splitter = Splitter::new(rt.alloc());
     splitter.feed(b"\0\0\x10\0\x01")?;
-    assert_eq!(rt; splitter.take(), Err(SplitFault::TooLong));
+    same(&splitter.take(), &Err(SplitFault::TooLong), &"first")?;
     splitter.feed(b"\0\0\0\0\0")?;
-    assert_eq!(rt; splitter.take(), Err(SplitFault::TooLong));
-    Ok(())
+    same(&splitter.take(), &Err(SplitFault::TooLong), &"second")
 }
 
 #[test]
-fn tells_want_of_memory(rt: HostRuntime) {
-    let refused = AllocFailed { value: 7u8 };
-    assert_eq!(rt; SplitFault::from(refused), SplitFault::NoMemory);
+fn tells_that_an_allocation_failed() -> Result<(), Fail> {
+    let refused = SplitFault::from(AllocFailed { value: 7u8 });
+    same(
+        &refused,
+        &SplitFault::NoMemory,
+        &"a value that found no room",
+    )
 }
 
 const BLOCKS: [(&[u8], Result<(u32, &[u8]), TrailerFault>); 20] = [
@@ -216,9 +229,10 @@ const BLOCKS: [(&[u8], Result<(u32, &[u8]), TrailerFault>); 20] = [
 ];
 
 #[test]
-fn reads_trailers_or_the_first_fault(rt: HostRuntime) {
-    for (block, expected) in BLOCKS {
-        let read = read_trailers(block).map(|read| (read.code, read.text));
-        assert_eq!(rt; read, expected, "at {block:?}");
+fn reads_trailers_or_the_first_fault() -> Result<(), Fail> {
+    for (block, expected) in &BLOCKS {
+        let read = read_trailers(*block).map(|read| (read.code, read.text));
+        same(&read, expected, block)?;
     }
+    Ok(())
 }

@@ -8,8 +8,7 @@ ghost use Rattle.grpc_frame.specs.Lines.{lines};
 
 use crate::frame::open_frame;
 use crate::lines::{have_colons, value_of};
-use crate::{Code, TrailerFault};
-use std::alloc::AllocError;
+use crate::{Code, NoMemory, TrailerFault};
 
 const TRAILERS: u8 = 0x80;
 
@@ -27,7 +26,7 @@ pub struct Trailers<'a> {
 }
 
 /// Appends the frame of a response's trailers, which PROTOCOL-WEB.md of grpc puts last in the body. The text of `Ok` is left out.
-pub fn put_trailers(out: &mut Vec<u8>, code: Code, text: &str) -> Result<(), AllocError>
+pub fn put_trailers(out: &mut Vec<u8>, code: Code, text: &str) -> Result<(), NoMemory>
     requires status_text { IsStatusText text.now }
     ensures ok { OnOk result (out.new.items ≡ out.old.items ++ frame 128 (block code text.now)) }
     ensures err { OnErr result (out.new.items ≡ out.old.items) }

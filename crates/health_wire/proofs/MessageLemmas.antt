@@ -62,6 +62,10 @@ last_given-more {V} given default field found is value fields value_is =
     latest None = value_is
     latest (Some new) = refl
 
+-- the same, where the new value is told by the field
+pub given_after : {V : Type 0} (given : WireField → Option V) (default : V) (field : WireField) (value new : V) → new ≡ unwrap_or (given field) value → (fields : List WireField) → value ≡ unwrap_or (last_given given fields) default → new ≡ unwrap_or (last_given given (fields ++ field ∷ [])) default
+given_after {V} given default field value new new_is fields value_is = new_is ∙ last_given-more given default field (given field) refl value fields value_is
+
 field_some : (bytes : List ℕ) (field : WireField) → IsField bytes field → 0 < length bytes
 field_some bytes field is = omega (arith, is.tag_is.form.some, front_within bytes is.tag is.rest is.parts)
 

@@ -1,24 +1,26 @@
-ghost use Rattle.std.specs.Prelude.{◌≡◌, Some};
-ghost use Rattle.health_wire.specs.declared.fault.WireFault.TheVariants.{NoMemory};
+ghost use Rattle.std.specs.Prelude.{Some};
 ghost use Rattle.health_wire.specs.Fault.{text_of};
 
-use std::alloc::AllocFailed;
+use std::alloc::{AllocError, AllocFailed};
 use std::error::Error;
 use std::fmt;
+
+/// An allocation failed, and nothing else can have gone wrong.
+pub type NoMemory = AllocError;
 
 /// Why bytes hold no message. Faults are met from the left, and the first one counts.
 #[derive(Clone, Copy, Debug, PartialEq, Eq, Hash)]
 pub enum WireFault {
     /// The bytes end inside a varint, or before a value is whole.
-    Truncated,
+    Truncated = 1,
     /// A field number is out of range, or a wire type is none of the four.
-    BadTag,
+    BadTag = 2,
     /// A varint goes on past its tenth byte.
-    BadVarint,
-    /// The service's name is no UTF-8. It comes after all faults of the wire.
-    NotText,
-    /// Memory ran out.
-    NoMemory,
+    BadVarint = 3,
+    /// The service's name is no UTF-8. It comes after all faults of the wire, and from `read_request` alone.
+    NotText = 4,
+    /// An allocation failed. It comes from `fields` alone.
+    NoMemory = 5,
 }
 
 impl fmt::Display for WireFault {
@@ -38,6 +40,9 @@ impl fmt::Display for WireFault {
 impl Error for WireFault {}
 
 impl<T: Drop> From<AllocFailed<T>> for WireFault {
+    ghost use Rattle.std.specs.Prelude.{◌≡◌};
+    ghost use Rattle.health_wire.specs.declared.fault.WireFault.TheVariants.{NoMemory};
+
     ghost from_gives = { λ _ fault. fault ≡ NoMemory };
 
     fn from(_error: AllocFailed<T>) -> WireFault {

@@ -10,7 +10,7 @@ mod response;
 mod serving;
 mod varint;
 
-pub use fault::WireFault;
+pub use fault::{NoMemory, WireFault};
 pub use field::{Field, Value};
 pub use laws::{one_reading, one_request, one_spelling, round_trip};
 pub use message::fields;

@@ -1,12 +1,12 @@
-ghost use Rattle.std.specs.Prelude.{◌≡◌, IfOk, IfErr, option_map};
+ghost use Rattle.std.specs.Prelude.{◌≡◌, IfOk, IfErr, unwrap_or};
 ghost use Rattle.std.specs.Str.{IsUtf8};
 ghost use Rattle.health_wire.specs.Field.{field_of};
 ghost use Rattle.health_wire.specs.Request.{IsRequest, IsRequestBytes, IsRequestFault, service_in};
 
-use crate::fault::WireFault;
+use crate::fault::{NoMemory, WireFault};
 use crate::field::{Field, Value, field_at};
 use crate::varint::put_varint;
-use std::alloc::{AllocError, Global};
+use std::alloc::Global;
 
 /// The field number of `service` in `HealthCheckRequest`.
 const SERVICE: u32 = 1;
@@ -24,9 +24,7 @@ pub fn read_request(bytes: &[u8]) -> Result<&str, WireFault>
     let mut rest = bytes;
     while !rest.is_empty() {
         let (field, after) = field_at(rest)?;
-        if let Some(text) = service_text(field) {
-            service = text;
-        }
+        service = service_after(service, field);
         rest = after;
     }
     match str::from_utf8(service) {
@@ -35,17 +33,18 @@ pub fn read_request(bytes: &[u8]) -> Result<&str, WireFault>
     }
 }
 
-fn service_text(field: Field<'_>) -> Option<&[u8]>
-    ensures { option_map (λ text. text.now) result ≡ service_in (field_of field.entry) }
+/// What the field gives, or else what was given before it: the last one wins.
+fn service_after<'a>(service: &'a [u8], field: Field<'a>) -> &'a [u8]
+    ensures { result.now ≡ unwrap_or (service_in (field_of field.entry)) service.now }
 {
     match field.value {
-        Value::Bytes(text) if field.number == SERVICE => Some(text),
-        _ => None,
+        Value::Bytes(text) if field.number == SERVICE => text,
+        _ => service,
     }
 }
 
 /// Writes the `HealthCheckRequest` for a service. The empty name is proto3's default, which no writer spells out.
-pub fn write_request(alloc: Global, name: &str) -> Result<Vec<u8>, AllocError>
+pub fn write_request(alloc: Global, name: &str) -> Result<Vec<u8>, NoMemory>
     ensures { IfOk result (λ bytes. IsRequestBytes bytes.items name.now) }
 {
     let mut bytes = Vec::new(alloc);

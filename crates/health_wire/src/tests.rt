@@ -1,8 +1,10 @@
 use super::*;
-use scarce::Scarcity;
 use std::test::Fail;
+use test_support::same;
 
-const REQUESTS: [(&[u8], Result<&str, WireFault>); 22] = [
+mod memory;
+
+const REQUESTS: [(&[u8], Result<&str, WireFault>); 31] = [
     (b"", Ok("")),
     (b"\x0a\x01a", Ok("a")),
     (b"\x0a\x02a", Err(WireFault::Truncated)),
@@ -46,38 +48,24 @@ const REQUESTS: [(&[u8], Result<&str, WireFault>); 22] = [
     // the empty name of a later field counts too
     (b"\x0a\x01a\x0a\x00", Ok("")),
     (b"\x0a\x01a\x48\x05\x0a\x01b", Ok("b")),
+    // each front of a request, from no byte to all eight
+    (b"", Ok("")),
+    (b"\x0a", Err(WireFault::Truncated)),
+    (b"\x0a\x01", Err(WireFault::Truncated)),
+    (b"\x0a\x01a", Ok("a")),
+    (b"\x0a\x01a\x48", Err(WireFault::Truncated)),
+    (b"\x0a\x01a\x48\x05", Ok("a")),
+    (b"\x0a\x01a\x48\x05\x0a", Err(WireFault::Truncated)),
+    (b"\x0a\x01a\x48\x05\x0a\x01", Err(WireFault::Truncated)),
+    (b"\x0a\x01a\x48\x05\x0a\x01b", Ok("b")),
 ];
 
 #[test]
-fn reads_the_last_service_name_or_the_first_fault(rt: HostRuntime) {
-    for (bytes, expected) in REQUESTS {
-        assert_eq!(rt; read_request(bytes), expected, "at {bytes:?}");
+fn reads_the_last_service_name_or_the_first_fault() -> Result<(), Fail> {
+    for (bytes, expected) in &REQUESTS {
+        same(&read_request(*bytes), expected, bytes)?;
     }
-}
-
-/// What is read of the first bytes of `0a 01 61 48 05 0a 01 62`, from none of them to all.
-const CUT_REQUESTS: [Result<&str, WireFault>; 9] = [
-    Ok(""),
-    Err(WireFault::Truncated),
-    Err(WireFault::Truncated),
-    Ok("a"),
-    Err(WireFault::Truncated),
-    Ok("a"),
-    Err(WireFault::Truncated),
-    Err(WireFault::Truncated),
-    Ok("b"),
-];
-
-#[test]
-fn reads_each_front_of_a_request(rt: HostRuntime) {
-    let bytes: &[u8] = b"\x0a\x01a\x48\x05\x0a\x01b";
-    for (len, expected) in CUT_REQUESTS.iter().enumerate() {
-        assert_eq!(rt;
-            bytes.get(..len).map(read_request),
-            Some(*expected),
-            "of {len} bytes"
-        );
-    }
+    Ok(())
 }
 
 const RESPONSES: [(&[u8], Result<u64, WireFault>); 7] = [
@@ -94,46 +82,50 @@ const RESPONSES: [(&[u8], Result<u64, WireFault>); 7] = [
 ];
 
 #[test]
-fn reads_the_last_status_number_or_the_first_fault(rt: HostRuntime) {
-    for (bytes, expected) in RESPONSES {
-        assert_eq!(rt; read_response(bytes), expected, "at {bytes:?}");
+fn reads_the_last_status_number_or_the_first_fault() -> Result<(), Fail> {
+    for (bytes, expected) in &RESPONSES {
+        same(&read_response(*bytes), expected, bytes)?;
     }
+    Ok(())
 }
+
+const FIELDS: [(&[u8], [Field<'static>; 2]); 2] = [
+    (
+        b"\x0a\x01a\x48\x05",
+        [
+            Field {
+                number: 1,
+                value: Value::Bytes(b"a"),
+            },
+            Field {
+                number: 9,
+                value: Value::Varint(5),
+            },
+        ],
+    ),
+    (
+        b"\x11\x01\x02\x03\x04\x05\x06\x07\x08\x1d\x01\x02\x03\x04",
+        [
+            Field {
+                number: 2,
+                value: Value::Eight([1, 2, 3, 4, 5, 6, 7, 8]),
+            },
+            Field {
+                number: 3,
+                value: Value::Four([1, 2, 3, 4]),
+            },
+        ],
+    ),
+];
 
 #[test]
 fn reads_fields_in_order(rt: HostRuntime) -> Result<(), Fail> {
-    let expected = [
-        Field {
-            number: 1,
-            value: Value::Bytes(b"a"),
-        },
-        Field {
-            number: 9,
-            value: Value::Varint(5),
-        },
-    ];
-    let found = fields(rt.alloc(), b"\x0a\x01a\x48\x05")?;
-    assert_eq!(rt; found.as_slice(), expected.as_slice());
-    let expected = [
-        Field {
-            number: 2,
-            value: Value::Eight([1, 2, 3, 4, 5, 6, 7, 8]),
-        },
-        Field {
-            number: 3,
-            value: Value::Four([1, 2, 3, 4]),
-        },
-    ];
-    let found = fields(
-        rt.alloc(),
-        b"\x11\x01\x02\x03\x04\x05\x06\x07\x08\x1d\x01\x02\x03\x04",
-    )?;
-    assert_eq!(rt; found.as_slice(), expected.as_slice());
-    assert_eq!(rt;
-        fields(rt.alloc(), b"\x0a\x01a\x48").err(),
-        Some(WireFault::Truncated)
-    );
-    Ok(())
+    for (bytes, expected) in &FIELDS {
+        let found = fields(rt.alloc(), *bytes)?;
+        same(&found.as_slice(), &expected.as_slice(), bytes)?;
+    }
+    let cut = fields(rt.alloc(), b"\x0a\x01a\x48").err();
+    same(&cut, &Some(WireFault::Truncated), &"a cut field")
 }
 
 const STATUSES: [(Serving, &[u8]); 4] = [
@@ -144,83 +136,29 @@ const STATUSES: [(Serving, &[u8]); 4] = [
 ];
 
 #[test]
-fn writes_each_status(rt: HostRuntime) {
-    for (status, expected) in STATUSES {
-        assert_eq!(rt;
-            write_response(status).as_slice(),
-            expected,
-            "for {status:?}"
-        );
+fn writes_each_status() -> Result<(), Fail> {
+    for (status, expected) in &STATUSES {
+        same(&write_response(*status).as_slice(), expected, status)?;
     }
+    Ok(())
 }
+
+/// A name of 128 bytes, whose length takes two.
+const LONG_NAME: &str = "nnnnnnnnnnnnnnnnnnnnnnnnnnnnnnnnnnnnnnnnnnnnnnnnnnnnnnnnnnnnnnnn\
+    nnnnnnnnnnnnnnnnnnnnnnnnnnnnnnnnnnnnnnnnnnnnnnnnnnnnnnnnnnnnnnnn";
+
+const LONG_REQUEST: &[u8] =
+    b"\x0a\x80\x01nnnnnnnnnnnnnnnnnnnnnnnnnnnnnnnnnnnnnnnnnnnnnnnnnnnnnnnnnnnnnnnn\
+    nnnnnnnnnnnnnnnnnnnnnnnnnnnnnnnnnnnnnnnnnnnnnnnnnnnnnnnnnnnnnnnn";
+
+/// Names, and the requests for them, each of which takes more memory than the one before.
+const NAMES: [(&str, &[u8]); 3] = [("", b""), ("a", b"\x0a\x01a"), (LONG_NAME, LONG_REQUEST)];
 
 #[test]
 fn writes_a_name_behind_its_shortest_length(rt: HostRuntime) -> Result<(), Fail> {
-    let alloc = rt.alloc();
-    assert_eq!(rt; write_request(alloc, "")?.as_slice(), b"".as_slice());
-    assert_eq!(rt;
-        write_request(alloc, "a")?.as_slice(),
-        b"\x0a\x01a".as_slice()
-    );
-    let mut name = String::new(alloc);
-    for _ in 0..128 {
-        name.push('n')?;
+    for (name, expected) in &NAMES {
+        let bytes = write_request(rt.alloc(), *name)?;
+        same(&bytes.as_slice(), expected, name)?;
     }
-    let bytes = write_request(alloc, name.as_str())?;
-    assert_eq!(rt; bytes.get(..3), Some(b"\x0a\x80\x01".as_slice()));
-    assert_eq!(rt; bytes.get(3..), Some(name.as_bytes()));
-    Ok(())
-}
-
-#[test]
-fn refuses_each_growth_of_a_written_request(rt: HostRuntime) -> Result<(), Fail> {
-    let alloc = rt.alloc();
-    let scarcity = Scarcity::new(alloc, 16_384)?;
-    let mut refused = 0u32;
-    let mut whole = 0u32;
-    for step in 0..64usize {
-        let filler = scarcity.leave(16 * step);
-        assert!(rt; filler.is_ok());
-        match write_request(alloc, "a service with a longer name than most") {
-            Ok(bytes) => {
-                assert_eq!(rt;
-                    bytes.as_slice(),
-                    b"\x0a\x26a service with a longer name than most".as_slice()
-                );
-                whole = whole.wrapping_add(1);
-            }
-            Err(_) => refused = refused.wrapping_add(1),
-        }
-    }
-    assert!(rt; refused > 1);
-    assert!(rt; whole > 0);
-    Ok(())
-}
-
-#[test]
-fn refuses_each_growth_of_the_fields(rt: HostRuntime) -> Result<(), Fail> {
-    let alloc = rt.alloc();
-    let scarcity = Scarcity::new(alloc, 16_384)?;
-    let mut refused = 0u32;
-    let mut whole = 0u32;
-    for step in 0..512usize {
-        let filler = scarcity.leave(16 * step);
-        assert!(rt; filler.is_ok());
-        match fields(
-            alloc,
-            b"\x08\x01\x08\x02\x08\x03\x08\x04\x08\x05\x08\x06\x08\x07\x08\x08\x08\x09",
-        ) {
-            Ok(found) => {
-                assert_eq!(rt; found.len(), 9);
-                whole = whole.wrapping_add(1);
-            }
-            Err(fault) => {
-                assert_eq!(rt; fault, WireFault::NoMemory);
-                refused = refused.wrapping_add(1);
-            }
-        }
-    }
-    assert!(rt; refused > 2);
-    assert!(rt; whole > 0);
     Ok(())
 }

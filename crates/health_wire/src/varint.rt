@@ -2,8 +2,7 @@ ghost use Rattle.std.specs.Prelude.{◌≡◌, ◌+◌, ◌<◌, ◌≤◌, ◌%
 ghost use Rattle.health_wire.specs.Varint.{IsVarint, IsVarintForm, IsVarintFault, IsShortestVarint, AllContinue, groups_value};
 ghost use Rattle.health_wire.specs.Parts.{Appends, Begins};
 
-use crate::fault::WireFault;
-use std::alloc::AllocError;
+use crate::fault::{NoMemory, WireFault};
 
 /// A varint has at most this many bytes: seven bits each, for 64 bits.
 const MAX_VARINT_LEN: usize = 10;
@@ -46,7 +45,7 @@ fn varint_value(varint: &[u8]) -> u64
 }
 
 /// Writes the shortest spelling of the value at the end.
-pub(crate) fn put_varint(out: &mut Vec<u8>, value: u64) -> Result<(), AllocError>
+pub(crate) fn put_varint(out: &mut Vec<u8>, value: u64) -> Result<(), NoMemory>
     ensures { OnOk result (Appends (λ varint. IsShortestVarint varint value) out.old.items out.new.items) }
 {
     let mut rest = value;

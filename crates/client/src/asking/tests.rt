@@ -1,7 +1,7 @@
 use super::*;
-use crate::tests::same::same;
 use std::fmt::Debug;
-use std::process::Abort;
+use std::test::Fail;
+use test_support::same;
 
 mod bad_responses;
 mod bodies;
@@ -25,72 +25,55 @@ fn seen(told: &Told) -> Seen<'_> {
 }
 
 fn expect_told<A: Debug>(
-    rt: &impl Abort,
     found: &Result<Told, AskFault>,
     expected: &Result<Seen<'_>, AskFault>,
     at: &A,
-) {
+) -> Result<(), Fail> {
     match found {
-        Ok(told) => same(rt, &Ok(seen(told)), expected, at),
-        Err(fault) => same(rt, &Err(*fault), expected, at),
+        Ok(told) => same(&Ok(seen(told)), expected, at),
+        Err(fault) => same(&Err(*fault), expected, at),
     }
 }
 
-/// Asks for the service of the empty name, and tells how many bytes of the input were not read.
-fn ask_over(
-    rt: &(impl Abort + AllocGlobal),
-    input: &[u8],
-    method: Method,
-    most: u32,
-) -> (Result<Told, AskFault>, usize) {
-    assert!(rt; most >= 1);
-    let mut rest = input;
-    let mut written = Vec::new(rt.alloc());
-    let result = ask(rt.alloc(), &mut rest, &mut written, method, "", most);
-    (result, rest.len())
-}
-
-/// What a call over this input has to tell, and how many bytes it has to leave unread.
+/// What a call for the empty name over this input has to tell, and how many bytes it has to leave unread.
 fn expect(
-    rt: &(impl Abort + AllocGlobal),
+    alloc: Global,
     input: &[u8],
     method: Method,
     most: u32,
     expected: &Result<Seen<'_>, AskFault>,
     unread: usize,
-) {
-    let (result, rest) = ask_over(rt, input, method, most);
+) -> Result<(), Fail> {
+    if most == 0 {
+        return Err(Fail::new("no status is asked for"));
+    }
+    let mut rest = input;
+    let mut written = Vec::new(alloc);
+    let result = ask(alloc, &mut rest, &mut written, method, "", most);
     let at = (input.len(), method, most);
-    expect_told(rt, &result, expected, &at);
-    same(rt, &rest, &unread, &at);
+    expect_told(&result, expected, &at)?;
+    same(&rest.len(), &unread, &at)
 }
 
 /// A call that needs the first bytes of the input, up to `needed`, has to answer `Read` over fewer, and the same over more.
 fn expect_at_each_cut(
-    rt: &(impl Abort + AllocGlobal),
+    alloc: Global,
     input: &[u8],
     method: Method,
     most: u32,
     expected: &Result<Seen<'_>, AskFault>,
     needed: usize,
-) {
-    for len in 0..needed {
-        let front = input.get(..len).unwrap_or(b"");
-        expect(rt, front, method, most, &Err(AskFault::Read), 0);
-    }
-    for len in needed..input.len() {
-        let front = input.get(..len).unwrap_or(b"");
-        expect(
-            rt,
-            front,
-            method,
-            most,
-            expected,
-            len.saturating_sub(needed),
-        );
+) -> Result<(), Fail> {
+    for len in 0..input.len() {
+        let front = &input[..len];
+        if len < needed {
+            expect(alloc, front, method, most, &Err(AskFault::Read), 0)?;
+        } else {
+            expect(alloc, front, method, most, expected, len - needed)?;
+        }
     }
     let unread = input.len().saturating_sub(needed);
-    expect(rt, input, method, most, expected, unread);
+    expect(alloc, input, method, most, expected, unread)
 }
 
 /// A response, the method and the most statuses, what they tell, and how many bytes of the response that needs.
@@ -132,29 +115,31 @@ const ANSWERS: [(&[u8], Method, u32, Seen<'static>, usize); 6] = [
 ];
 
 #[test]
-fn tells_what_the_response_says_over_each_front_of_it(rt: HostRuntime) {
+fn tells_what_the_response_says_over_each_front_of_it(rt: HostRuntime) -> Result<(), Fail> {
     for (input, method, most, told, needed) in &ANSWERS {
-        expect_at_each_cut(&rt, *input, *method, *most, &Ok(*told), *needed);
+        expect_at_each_cut(rt.alloc(), *input, *method, *most, &Ok(*told), *needed)?;
     }
+    Ok(())
 }
 
 fn expect_written(
-    rt: &(impl Abort + AllocGlobal),
+    alloc: Global,
     input: &[u8],
     method: Method,
     name: &str,
     expected: &[u8],
-) {
-    assert!(rt; name.len() <= 2);
+) -> Result<(), Fail> {
+    if name.len() > 2 {
+        return Err(Fail::new("the name is too long"));
+    }
     let mut rest = input;
-    let mut written = Vec::new(rt.alloc());
-    let result = ask(rt.alloc(), &mut rest, &mut written, method, name, 1);
-    let at = (method, result);
-    same(rt, &written.as_slice(), &expected, &at);
+    let mut written = Vec::new(alloc);
+    let result = ask(alloc, &mut rest, &mut written, method, name, 1);
+    same(&written.as_slice(), &expected, &(method, result))
 }
 
 #[test]
-fn writes_the_request_whatever_is_answered(rt: HostRuntime) {
+fn writes_the_request_whatever_is_answered(rt: HostRuntime) -> Result<(), Fail> {
     let inputs: [&[u8]; 4] = [
         b"",
         SERVING,
@@ -162,9 +147,10 @@ fn writes_the_request_whatever_is_answered(rt: HostRuntime) {
         b"SSH-2.0-OpenSSH_9.6\r\n\r\n",
     ];
     for input in &inputs {
-        expect_written(&rt, *input, Method::Check, "", CHECK_OF_EMPTY);
-        expect_written(&rt, *input, Method::Watch, "zz", WATCH_OF_ZZ);
+        expect_written(rt.alloc(), *input, Method::Check, "", CHECK_OF_EMPTY)?;
+        expect_written(rt.alloc(), *input, Method::Watch, "zz", WATCH_OF_ZZ)?;
     }
+    Ok(())
 }
 
 /// Each fault, and its text on standard error behind the program's name.
@@ -177,9 +163,10 @@ const FAULTS: [(AskFault, &str); 5] = [
 ];
 
 #[test]
-fn tells_each_fault_in_words(rt: HostRuntime) {
+fn tells_each_fault_in_words(rt: HostRuntime) -> Result<(), Fail> {
     for (fault, expected) in &FAULTS {
-        let text = format!(in rt.alloc(); "{fault}").ok().expect(&rt, "a text");
-        same(&rt, &text.as_str(), expected, fault);
+        let text = fault.to_string(rt.alloc())?;
+        same(&text.as_str(), expected, fault)?;
     }
+    Ok(())
 }

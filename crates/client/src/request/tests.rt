@@ -1,7 +1,7 @@
 use super::*;
-use crate::tests::same::same;
 use crate::tests::texts::padded;
-use std::process::Abort;
+use std::test::Fail;
+use test_support::same;
 
 /// A method and a name, and the request for it.
 const REQUESTS: [(Method, &str, &[u8]); 4] = [
@@ -52,19 +52,21 @@ const REQUESTS: [(Method, &str, &[u8]); 4] = [
     ),
 ];
 
-fn expect_request(rt: &(impl Abort + AllocGlobal), method: Method, name: &str, expected: &[u8]) {
-    assert!(rt; name.len() <= 1_048_576);
-    let text = request_text(rt.alloc(), method, name)
-        .ok()
-        .expect(rt, "a request");
-    same(rt, &text.as_slice(), &expected, &(method, name.len()));
+fn expect_request(alloc: Global, method: Method, name: &str, expected: &[u8]) -> Result<(), Fail> {
+    let len = name.len();
+    if len > 1_048_576 {
+        return Err(Fail::new("the name is too long"));
+    }
+    let text = request_text(alloc, method, name)?;
+    same(&text.as_slice(), &expected, &(method, len))
 }
 
 #[test]
-fn asks_for_each_name_by_each_method(rt: HostRuntime) {
+fn asks_for_each_name_by_each_method(rt: HostRuntime) -> Result<(), Fail> {
     for (method, name, expected) in &REQUESTS {
-        expect_request(&rt, *method, *name, *expected);
+        expect_request(rt.alloc(), *method, *name, *expected)?;
     }
+    Ok(())
 }
 
 const LONG_FRONT: &[u8] = b"POST /grpc.health.v1.Health/Check HTTP/1.1\r\n\
@@ -76,10 +78,13 @@ const LONG_FRONT: &[u8] = b"POST /grpc.health.v1.Health/Check HTTP/1.1\r\n\
     \0\0\x10\0\x04\x0a\x80\x80\x40";
 
 #[test]
-fn asks_for_the_longest_name(rt: HostRuntime) {
-    let bytes = padded(&rt, b"", 1_048_576, b'a');
-    let name = str::from_utf8(&bytes).ok().expect(&rt, "a name");
-    let len = LONG_FRONT.len().saturating_add(1_048_576);
-    let expected = padded(&rt, LONG_FRONT, len, b'a');
-    expect_request(&rt, Method::Check, name, &expected);
+fn asks_for_the_longest_name(rt: HostRuntime) -> Result<(), Fail> {
+    let bytes = padded(rt.alloc(), b"", 1_048_576, b'a')?;
+    let expected = padded(rt.alloc(), LONG_FRONT, LONG_FRONT.len() + 1_048_576, b'a')?;
+    expect_request(
+        rt.alloc(),
+        Method::Check,
+        str::from_utf8(&bytes)?,
+        &expected,
+    )
 }

@@ -25,11 +25,12 @@ const WATCHES: [(&[u8], u32, Seen<'static>, usize); 9] = [
 ];
 
 #[test]
-fn a_watch_tells_so_many_statuses_or_its_end(rt: HostRuntime) {
+fn a_watch_tells_so_many_statuses_or_its_end(rt: HostRuntime) -> Result<(), Fail> {
     for (body, most, told, left) in &WATCHES {
-        let input = of_length(&rt, *body);
-        expect(&rt, &input, Method::Watch, *most, &Ok(*told), *left);
+        let input = of_length(rt.alloc(), *body)?;
+        expect(rt.alloc(), &input, Method::Watch, *most, &Ok(*told), *left)?;
     }
+    Ok(())
 }
 
 /// The body of a Check, and what it tells.
@@ -66,29 +67,25 @@ const CHECKS: [(&[u8], Seen<'static>); 8] = [
 ];
 
 #[test]
-fn a_check_tells_each_message_and_the_trailers(rt: HostRuntime) {
+fn a_check_tells_each_message_and_the_trailers(rt: HostRuntime) -> Result<(), Fail> {
     for (body, told) in &CHECKS {
-        let input = of_length(&rt, *body);
-        expect(&rt, &input, Method::Check, 1, &Ok(*told), 0);
+        let input = of_length(rt.alloc(), *body)?;
+        expect(rt.alloc(), &input, Method::Check, 1, &Ok(*told), 0)?;
     }
+    Ok(())
 }
 
-/// A message of 1,048,551 bytes, which has one unknown field, and trailers of 20: a body of 1,048,576 bytes.
-fn longest_body(rt: &(impl Abort + AllocGlobal)) -> Vec<u8> {
-    let mut body = padded(rt, b"\0\0\x0f\xff\xe7\x12\xe3\xff\x3f", 1_048_556, 0);
-    let trailers = b"\x80\0\0\0\x0fgrpc-status:0\r\n";
-    assert!(rt; body.extend_from_slice(trailers).is_ok() && body.len() == 1_048_576);
-    body
-}
-
+/// A message of 1,048,551 bytes, which has one unknown field, and trailers of 20: a body of 1,048,576 bytes. One more is too many.
 #[test]
-fn reads_a_body_of_1_048_576_bytes(rt: HostRuntime) {
-    let mut body = longest_body(&rt);
-    let input = of_length(&rt, &body);
-    expect(&rt, &input, Method::Check, 1, &Ok((&[0], OK)), 0);
-    assert!(&rt; body.push(0).is_ok());
-    let longer = of_length(&rt, &body);
+fn reads_a_body_of_1_048_576_bytes(rt: HostRuntime) -> Result<(), Fail> {
+    let front = b"\0\0\x0f\xff\xe7\x12\xe3\xff\x3f";
+    let mut body = padded(rt.alloc(), front, 1_048_556, 0)?;
+    body.extend_from_slice(b"\x80\0\0\0\x0fgrpc-status:0\r\n")?;
+    let input = of_length(rt.alloc(), &body)?;
+    expect(rt.alloc(), &input, Method::Check, 1, &Ok((&[0], OK)), 0)?;
+    body.push(0)?;
+    let longer = of_length(rt.alloc(), &body)?;
     let bad = Err(AskFault::BadResponse);
-    expect(&rt, &longer, Method::Check, 1, &bad, 1_048_577);
-    expect(&rt, &longer, Method::Watch, 1, &bad, 1_048_577);
+    expect(rt.alloc(), &longer, Method::Check, 1, &bad, 1_048_577)?;
+    expect(rt.alloc(), &longer, Method::Watch, 1, &bad, 1_048_577)
 }

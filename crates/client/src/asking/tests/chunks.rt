@@ -6,70 +6,56 @@ const TOLD: Result<Seen<'static>, AskFault> = Ok((&[1], Some((0, b""))));
 /// What comes behind the last byte of a body in chunks.
 const END: &[u8] = b"\r\n0\r\n\r\n";
 
-fn push(rt: &impl Abort, input: &mut Vec<u8>, bytes: &[u8]) {
-    assert!(rt; input.extend_from_slice(bytes).is_ok());
-}
-
 /// Adds a chunk, behind the end of the one before it. No bytes are no chunk.
-fn push_chunk(rt: &(impl Abort + AllocGlobal), input: &mut Vec<u8>, bytes: &[u8]) {
+fn push_chunk(alloc: Global, input: &mut Vec<u8>, bytes: &[u8]) -> Result<(), Fail> {
     if bytes.is_empty() {
-        return;
+        return Ok(());
     }
     if input.len() > CHUNKED.len() {
-        push(rt, input, b"\r\n");
+        input.extend_from_slice(b"\r\n")?;
     }
-    let len = bytes.len();
-    let line = format!(in rt.alloc(); "{len:x}\r\n")
-        .ok()
-        .expect(rt, "a line");
-    push(rt, input, line.as_bytes());
-    push(rt, input, bytes);
-}
-
-/// A Check's response, whose body is cut at two places.
-fn cut_at(rt: &(impl Abort + AllocGlobal), first: usize, second: usize) -> Vec<u8> {
-    let mut input = bytes_of(rt, &[CHUNKED]);
-    push_chunk(rt, &mut input, SERVING_BODY.get(..first).unwrap_or(b""));
-    push_chunk(
-        rt,
-        &mut input,
-        SERVING_BODY.get(first..second).unwrap_or(b""),
-    );
-    push_chunk(rt, &mut input, SERVING_BODY.get(second..).unwrap_or(b""));
-    push(rt, &mut input, END);
-    input
+    let line = format!(in alloc; "{:x}\r\n", bytes.len())?;
+    input.extend_from_slice(line.as_bytes())?;
+    input.extend_from_slice(bytes)?;
+    Ok(())
 }
 
 #[test]
-fn reads_frames_from_three_chunks_cut_anywhere(rt: HostRuntime) {
+fn reads_frames_from_three_chunks_cut_anywhere(rt: HostRuntime) -> Result<(), Fail> {
     for first in 0..28usize {
         for second in first..28 {
-            let input = cut_at(&rt, first, second);
-            expect(&rt, &input, Method::Check, 1, &TOLD, END.len());
+            let mut input = CHUNKED.to_vec(rt.alloc())?;
+            push_chunk(rt.alloc(), &mut input, &SERVING_BODY[..first])?;
+            push_chunk(rt.alloc(), &mut input, &SERVING_BODY[first..second])?;
+            push_chunk(rt.alloc(), &mut input, &SERVING_BODY[second..])?;
+            input.extend_from_slice(END)?;
+            expect(rt.alloc(), &input, Method::Check, 1, &TOLD, END.len())?;
         }
     }
+    Ok(())
 }
 
 /// A Check's response, in chunks of so many bytes.
-fn in_chunks_of(rt: &(impl Abort + AllocGlobal), len: usize) -> Vec<u8> {
-    let mut input = bytes_of(rt, &[CHUNKED]);
+fn in_chunks_of(alloc: Global, len: usize) -> Result<Vec<u8>, Fail> {
+    let mut input = CHUNKED.to_vec(alloc)?;
     let mut rest = SERVING_BODY;
     for _ in 0..SERVING_BODY.len() {
         let (chunk, behind) = rest.split_at(len.min(rest.len()));
-        push_chunk(rt, &mut input, chunk);
+        push_chunk(alloc, &mut input, chunk)?;
         rest = behind;
     }
-    push(rt, &mut input, END);
-    input
+    input.extend_from_slice(END)?;
+    Ok(input)
 }
 
 #[test]
-fn needs_each_byte_of_chunks_up_to_the_trailers(rt: HostRuntime) {
+fn needs_each_byte_of_chunks_up_to_the_trailers(rt: HostRuntime) -> Result<(), Fail> {
     for len in 1..28usize {
-        let input = in_chunks_of(&rt, len);
+        let input = in_chunks_of(rt.alloc(), len)?;
         let needed = input.len().saturating_sub(END.len());
-        expect_at_each_cut(&rt, &input, Method::Check, 1, &TOLD, needed);
+        expect_at_each_cut(rt.alloc(), &input, Method::Check, 1, &TOLD, needed)?;
     }
+    Ok(())
 }
 
 /// Lines of a chunk of 27 bytes. The longest has 64 bytes.
@@ -85,31 +71,33 @@ const LINES: [&[u8]; 8] = [
 ];
 
 #[test]
-fn reads_each_spelling_of_a_chunks_line(rt: HostRuntime) {
+fn reads_each_spelling_of_a_chunks_line(rt: HostRuntime) -> Result<(), Fail> {
     for line in &LINES {
-        let input = bytes_of(&rt, &[CHUNKED, *line, SERVING_BODY, END]);
-        expect(&rt, &input, Method::Check, 1, &TOLD, 7);
+        let input = bytes_of(rt.alloc(), &[CHUNKED, *line, SERVING_BODY, END])?;
+        expect(rt.alloc(), &input, Method::Check, 1, &TOLD, 7)?;
     }
+    Ok(())
 }
 
 #[test]
-fn refuses_a_chunks_line_of_65_bytes(rt: HostRuntime) {
+fn refuses_a_chunks_line_of_65_bytes(rt: HostRuntime) -> Result<(), Fail> {
     let line = b"1b;xxxxxxxxxxxxxxxxxxxxxxxxxxxxxxxxxxxxxxxxxxxxxxxxxxxxxxxxxxxx\r\n";
-    assert!(&rt; line.len() == 65);
-    let input = bytes_of(&rt, &[CHUNKED, line, SERVING_BODY, END]);
+    same(&line.len(), &65, &"the line")?;
+    let input = bytes_of(rt.alloc(), &[CHUNKED, line, SERVING_BODY, END])?;
     let bad = Err(AskFault::BadResponse);
-    expect(&rt, &input, Method::Check, 1, &bad, 35);
+    expect(rt.alloc(), &input, Method::Check, 1, &bad, 35)
 }
 
 /// What comes behind the chunk of the trailers is not read.
 const BEHIND: [&[u8]; 4] = [b"", b"x", b"\r\n1\r\nx", b"\r\n7\r\n\0\0\0\0\x02\x08\x01"];
 
 #[test]
-fn reads_nothing_behind_the_chunk_of_the_trailers(rt: HostRuntime) {
+fn reads_nothing_behind_the_chunk_of_the_trailers(rt: HostRuntime) -> Result<(), Fail> {
     for behind in &BEHIND {
-        let input = bytes_of(&rt, &[CHUNKED, b"1b\r\n", SERVING_BODY, *behind]);
-        expect(&rt, &input, Method::Check, 1, &TOLD, behind.len());
+        let input = bytes_of(rt.alloc(), &[CHUNKED, b"1b\r\n", SERVING_BODY, *behind])?;
+        expect(rt.alloc(), &input, Method::Check, 1, &TOLD, behind.len())?;
     }
+    Ok(())
 }
 
 /// Chunks of a Watch, the most statuses, what they tell, and how many bytes are not read.
@@ -140,9 +128,17 @@ const WATCHES: [(&[u8], u32, Seen<'static>, usize); 5] = [
 ];
 
 #[test]
-fn a_watch_in_chunks_reads_no_further_than_its_last_status(rt: HostRuntime) {
+fn a_watch_in_chunks_reads_no_further_than_its_last_status(rt: HostRuntime) -> Result<(), Fail> {
     for (chunks, most, told, unread) in &WATCHES {
-        let input = bytes_of(&rt, &[CHUNKED, *chunks]);
-        expect(&rt, &input, Method::Watch, *most, &Ok(*told), *unread);
+        let input = bytes_of(rt.alloc(), &[CHUNKED, *chunks])?;
+        expect(
+            rt.alloc(),
+            &input,
+            Method::Watch,
+            *most,
+            &Ok(*told),
+            *unread,
+        )?;
     }
+    Ok(())
 }

@@ -1,6 +1,7 @@
 use super::responses::{SERVING_BODY, bytes_of};
 use super::*;
 use crate::tests::texts::padded;
+use std::alloc::AllocError;
 
 const TOLD: Result<Seen<'static>, AskFault> = Ok((&[1], Some((0, b""))));
 
@@ -30,15 +31,19 @@ const WITH_CHUNKS: [&[u8]; 6] = [
 ];
 
 #[test]
-fn reads_a_body_by_its_length_or_its_chunks(rt: HostRuntime) {
+fn reads_a_body_by_its_length_or_its_chunks(rt: HostRuntime) -> Result<(), Fail> {
     for head in &WITH_LENGTH {
-        let input = bytes_of(&rt, &[*head, SERVING_BODY, b"more"]);
-        expect(&rt, &input, Method::Check, 1, &TOLD, 4);
+        let input = bytes_of(rt.alloc(), &[*head, SERVING_BODY, b"more"])?;
+        expect(rt.alloc(), &input, Method::Check, 1, &TOLD, 4)?;
     }
     for head in &WITH_CHUNKS {
-        let input = bytes_of(&rt, &[*head, b"1b\r\n", SERVING_BODY, b"\r\n0\r\n\r\n"]);
-        expect(&rt, &input, Method::Check, 1, &TOLD, 7);
+        let input = bytes_of(
+            rt.alloc(),
+            &[*head, b"1b\r\n", SERVING_BODY, b"\r\n0\r\n\r\n"],
+        )?;
+        expect(rt.alloc(), &input, Method::Check, 1, &TOLD, 7)?;
     }
+    Ok(())
 }
 
 /// Heads with another status than 200, whatever else they say.
@@ -89,63 +94,67 @@ const BAD: [&[u8]; 23] = [
     b"HTTP/1.1 200 OK\r\ncontent-length: 999999999999999999\r\n\r\n",
 ];
 
-fn expect_refused(rt: &(impl Abort + AllocGlobal), head: &[u8], fault: AskFault) {
-    let input = bytes_of(rt, &[head, SERVING_BODY]);
-    expect(rt, &input, Method::Check, 1, &Err(fault), 27);
-    expect(rt, &input, Method::Watch, 1, &Err(fault), 27);
+fn expect_refused(alloc: Global, head: &[u8], fault: AskFault) -> Result<(), Fail> {
+    let input = bytes_of(alloc, &[head, SERVING_BODY])?;
+    expect(alloc, &input, Method::Check, 1, &Err(fault), 27)?;
+    expect(alloc, &input, Method::Watch, 1, &Err(fault), 27)
 }
 
 #[test]
-fn refuses_a_response_by_its_head_alone(rt: HostRuntime) {
+fn refuses_a_response_by_its_head_alone(rt: HostRuntime) -> Result<(), Fail> {
     for (head, status) in &OTHER_STATUSES {
-        expect_refused(&rt, *head, AskFault::Http(*status));
+        expect_refused(rt.alloc(), *head, AskFault::Http(*status))?;
     }
     for head in &BAD {
-        expect_refused(&rt, *head, AskFault::BadResponse);
+        expect_refused(rt.alloc(), *head, AskFault::BadResponse)?;
     }
+    Ok(())
 }
 
 /// A head with so many empty lines before it and so many lines besides the length, and a body.
-fn of_lines(rt: &(impl Abort + AllocGlobal), empty: usize, lines: usize) -> Vec<u8> {
-    let mut input = Vec::new(rt.alloc());
-    for _ in 0..empty {
-        assert!(rt; input.extend_from_slice(b"\n").is_ok());
-    }
-    assert!(rt; input.extend_from_slice(b"HTTP/1.1 200 OK\r\n").is_ok());
+fn of_lines(alloc: Global, empty: usize, lines: usize) -> Result<Vec<u8>, AllocError> {
+    let mut input = padded(alloc, b"", empty, b'\n')?;
+    input.extend_from_slice(b"HTTP/1.1 200 OK\r\n")?;
     for _ in 0..lines {
-        assert!(rt; input.extend_from_slice(b"a: b\r\n").is_ok());
+        input.extend_from_slice(b"a: b\r\n")?;
     }
-    let rest = bytes_of(rt, &[b"content-length: 27\r\n\r\n", SERVING_BODY]);
-    assert!(rt; input.extend_from_slice(&rest).is_ok());
-    input
+    input.extend_from_slice(b"content-length: 27\r\n\r\n")?;
+    input.extend_from_slice(SERVING_BODY)?;
+    Ok(input)
 }
+
+/// How many empty lines and how many lines besides the length, what a head of them tells, and how many bytes are not read.
+const COUNTS: [(usize, usize, Result<Seen<'static>, AskFault>, usize); 4] = [
+    (0, 31, TOLD, 0),
+    (0, 32, Err(AskFault::BadResponse), 27),
+    (31, 0, TOLD, 0),
+    (32, 0, Err(AskFault::BadResponse), 27),
+];
 
 #[test]
-fn reads_a_head_of_at_most_32_lines_and_34_line_feeds(rt: HostRuntime) {
-    let bad = Err(AskFault::BadResponse);
-    expect(&rt, &of_lines(&rt, 0, 31), Method::Check, 1, &TOLD, 0);
-    expect(&rt, &of_lines(&rt, 0, 32), Method::Check, 1, &bad, 27);
-    expect(&rt, &of_lines(&rt, 31, 0), Method::Check, 1, &TOLD, 0);
-    expect(&rt, &of_lines(&rt, 32, 0), Method::Check, 1, &bad, 27);
+fn reads_a_head_of_at_most_32_lines_and_34_line_feeds(rt: HostRuntime) -> Result<(), Fail> {
+    for (empty, lines, told, unread) in &COUNTS {
+        let input = of_lines(rt.alloc(), *empty, *lines)?;
+        expect(rt.alloc(), &input, Method::Check, 1, told, *unread)?;
+    }
+    Ok(())
 }
 
-/// A head of 8,192 bytes that ends in `end`, and what comes behind it.
-fn of_8192(rt: &(impl Abort + AllocGlobal), end: &[u8], behind: &[u8]) -> Vec<u8> {
+/// The end of a head of 8,192 bytes, what comes behind it, what they tell, and how many bytes are not read.
+const ENDS: [(&[u8], &[u8], Result<Seen<'static>, AskFault>, usize); 3] = [
+    (b"\r\n\r\n", SERVING_BODY, TOLD, 0),
+    (b"c\r\n\r", b"\n", Err(AskFault::BadResponse), 1),
+    (b"bbbb", b"more", Err(AskFault::BadResponse), 4),
+];
+
+#[test]
+fn reads_a_head_of_at_most_8192_bytes(rt: HostRuntime) -> Result<(), Fail> {
     let front = b"HTTP/1.1 200 OK\r\ncontent-length: 27\r\na: ";
-    let len = 8_192usize.saturating_sub(end.len());
-    let mut input = padded(rt, front, len, b'b');
-    assert!(rt; input.extend_from_slice(end).is_ok());
-    assert!(rt; input.extend_from_slice(behind).is_ok());
-    input
-}
-
-#[test]
-fn reads_a_head_of_at_most_8192_bytes(rt: HostRuntime) {
-    let bad = Err(AskFault::BadResponse);
-    let whole = of_8192(&rt, b"\r\n\r\n", SERVING_BODY);
-    expect(&rt, &whole, Method::Check, 1, &TOLD, 0);
-    let longer = of_8192(&rt, b"c\r\n\r", b"\n");
-    expect(&rt, &longer, Method::Check, 1, &bad, 1);
-    let endless = of_8192(&rt, b"", b"more");
-    expect(&rt, &endless, Method::Watch, 1, &bad, 4);
+    for (end, behind, told, unread) in &ENDS {
+        let mut input = padded(rt.alloc(), front, 8_188, b'b')?;
+        input.extend_from_slice(*end)?;
+        input.extend_from_slice(*behind)?;
+        expect(rt.alloc(), &input, Method::Check, 1, told, *unread)?;
+    }
+    Ok(())
 }

@@ -1,6 +1,7 @@
 //! Requests and responses, each as health-checking.md and PROTOCOL-WEB.md of grpc and RFC 9112 have it.
 
-use std::process::Abort;
+use std::alloc::{AllocError, Global};
+use web_call::HEAD_END;
 
 pub(super) const CHECK_OF_EMPTY: &[u8] = b"POST /grpc.health.v1.Health/Check HTTP/1.1\r\n\
     host: localhost\r\n\
@@ -57,19 +58,17 @@ pub(super) const WATCH_OF_UNKNOWN: &[u8] = b"HTTP/1.1 200 OK\r\n\
 pub(super) const CHUNKED: &[u8] = b"HTTP/1.1 200 OK\r\ntransfer-encoding: chunked\r\n\r\n";
 
 /// The parts, one behind the other.
-pub(super) fn bytes_of(rt: &(impl Abort + AllocGlobal), parts: &[&[u8]]) -> Vec<u8> {
-    let mut bytes = Vec::new(rt.alloc());
+pub(super) fn bytes_of(alloc: Global, parts: &[&[u8]]) -> Result<Vec<u8>, AllocError> {
+    let mut bytes = Vec::new(alloc);
     for part in parts {
-        assert!(rt; bytes.extend_from_slice(*part).is_ok());
+        bytes.extend_from_slice(*part)?;
     }
-    bytes
+    Ok(bytes)
 }
 
 /// A response with this body, whose length its head tells.
-pub(super) fn of_length(rt: &(impl Abort + AllocGlobal), body: &[u8]) -> Vec<u8> {
-    let len = body.len();
-    let head = format!(in rt.alloc(); "HTTP/1.1 200 OK\r\ncontent-length: {len}\r\n\r\n")
-        .ok()
-        .expect(rt, "a head");
-    bytes_of(rt, &[head.as_bytes(), body])
+pub(super) fn of_length(alloc: Global, body: &[u8]) -> Result<Vec<u8>, AllocError> {
+    let len = body.len().to_string(alloc)?;
+    let line = b"HTTP/1.1 200 OK\r\ncontent-length: ";
+    bytes_of(alloc, &[line, len.as_bytes(), HEAD_END, body])
 }

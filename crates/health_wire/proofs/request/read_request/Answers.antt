@@ -1,9 +1,9 @@
-use Rattle.std.proofs.Common.{◌≡◌, ◌<◌, Some, None, [], length, sym, rules, arith}
+use Rattle.std.proofs.Common.{◌≡◌, ◌<◌, [], length, rules, arith}
 use Rattle.std.proofs.lemmas.Grind.{common_steps}
 use Rattle.std.proofs.lemmas.Result.{err_from_is_err_and}
 use Rattle.health_wire.specs.Request.{service_in, name_of}
 use Rattle.health_wire.specs.Request.IsRequestFault.{Wire, Name}
-use Rattle.health_wire.proofs.MessageLemmas.{start, next, done, stuck, last_given-more}
+use Rattle.health_wire.proofs.MessageLemmas.{start, next, done, stuck, given_after}
 use Rattle.health_wire.proofs.request.read_request.Goals as goal
 
 pub loop-rest-init : goal.loop-rest-init
@@ -15,11 +15,8 @@ returns-in_err-field-clause-err c =
     let more : 0 < length c.loop-rest.rest.now = search rules in
     rw (p.1, p.2) (Wire _ (stuck name_of _ _ _ _ c.loop-rest.invariant more c.in_err-field.ensures.fault))
 
-pub loop-rest-preserved-in-Some : goal.loop-rest-preserved-in-Some
-loop-rest-preserved-in-Some c = next name_of _ _ _ _ _ _ c.loop-rest.invariant c.in_ok-field.ensures.found (last_given-more service_in [] _ (Some c.in-Some.text.now) (sym c.in-Some.ensures) c.loop-rest.service.now)
-
 pub loop-rest-preserved : goal.loop-rest-preserved
-loop-rest-preserved c = next name_of _ _ _ _ _ _ c.loop-rest.invariant c.in_ok-field.ensures.found (last_given-more service_in [] _ None (sym c.in_default.ensures) c.loop-rest.service.now)
+loop-rest-preserved c = next name_of _ _ _ _ _ _ c.loop-rest.invariant c.in_ok-field.ensures.found (given_after service_in [] _ _ _ c.service_after-service.ensures)
 
 pub returns-in-Ok-clause-ok : goal.returns-in-Ok-clause-ok
 returns-in-Ok-clause-ok c =
