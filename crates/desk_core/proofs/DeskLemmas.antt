@@ -1,5 +1,5 @@
 -- What a desk keeps, before and after an entry.
-use Rattle.std.proofs.Common.{◌≡◌, ◌≢◌, ℕ, zero, suc, ◌^◌, ◌<◌, ◌≤◌, ◌==◌, Bool, true, false, if◌then◌else◌, Option, None, Some, unwrap_or, List, [], ◌∷◌, ◌++◌, length, get_or, set, replicate, refl, sym, ap, subst, ◌∙◌, inl, inr, ◌⊎◌, arith, ltb-true}
+use Rattle.std.proofs.Common.{◌≡◌, ◌≢◌, ℕ, zero, suc, ◌^◌, ◌<◌, ◌≤◌, ◌==◌, ◌&&◌, Bool, true, false, if◌then◌else◌, Option, None, Some, unwrap_or, List, [], ◌∷◌, ◌++◌, length, get_or, set, replicate, refl, sym, ap, subst, ◌∙◌, inl, inr, ◌⊎◌, arith, ltb-true}
 use Rattle.std.specs.Option.{option_map, option_or}
 use Rattle.std.proofs.lemmas.Bool.{eqb-true, eqb-false, eq-eqb, cases_lt}
 use Rattle.std.proofs.lemmas.List.{length-reverse, get_or-set_other}
@@ -8,8 +8,7 @@ use Rattle.health_wire.specs.declared.serving.Serving.{Serving}
 use Rattle.health_wire.specs.declared.serving.Serving.TheVariants.{NotServing, ServiceUnknown, Serving as IsServing}
 use Rattle.probe_core.specs.declared.event.Event.{Event}
 use Rattle.probe_core.specs.declared.rule.Rule.{Rule}
-use Rattle.probe_core.specs.declared.rule.Rule.TheVariants.{Threshold, Manual, Depends}
-use Rattle.probe_core.specs.Rule.{is_up_at}
+use Rattle.probe_core.specs.Rule.{is_up_at, relied_on}
 use Rattle.probe_core.specs.Events.{all_fit, is_up, memory_after}
 use Rattle.desk_core.specs.declared.call.Call.{Call}
 use Rattle.desk_core.specs.declared.call.Call.TheVariants.{Register, Retire, Observe, Set, Shutdown, Resume}
@@ -28,7 +27,7 @@ use Rattle.desk_core.specs.Slots.{covers_below, status_from, shown_in, HasSame}
 use Rattle.desk_core.specs.Cache.{relies_on, rule_in, IsMapOf, LooksBack, HasDependents, Leaves, HasRule}
 use Rattle.desk_core.specs.Desk.{Brings, Keeps, IsDesk, IsShown, probe_at}
 use Rattle.desk_core.proofs.HistoryLemmas.{past_more, rule_of_probe}
-use Rattle.desk_core.proofs.StatusLemmas.{status_of_probe, lawful_rule}
+use Rattle.desk_core.proofs.StatusLemmas.{status_of_probe, lawful_rule, relied_below}
 use Rattle.desk_core.proofs.BoardLemmas.{IsKept, status_in_packed}
 use Rattle.desk_core.proofs.ChangeLemmas.{changed_same}
 
@@ -41,9 +40,7 @@ each_status P none up down entries i = by_rule (rule_at entries i)
     by_serving false = down
 
     by_opinion : (events : List Event) (rule : Rule) → P (Some (opinion (all_serving entries i) events rule))
-    by_opinion events (Threshold fall) = by_serving (is_up (Threshold fall) events)
-    by_opinion events Manual = by_serving (is_up Manual events)
-    by_opinion events (Depends mask) = by_serving (all_serving entries i mask)
+    by_opinion events rule = by_serving (is_up rule events && all_serving entries i (relied_on rule))
 
     by_shut : (b : Bool) (rule : Rule) → P (Some (if b then NotServing else opinion (all_serving entries i) (heard entries i rule) rule))
     by_shut true rule = down
@@ -76,17 +73,15 @@ map_of_parts tells slots shut journal max_entries keeps i few =
     ∙ status_of_probe tells (past journal) i (status_at (past journal)) keeps.legal few (λ j below. refl))
 
 -- a lawful rule relies on slots before its own
-relies_before : (i j : ℕ) (rule : Option Rule) → ((r : Rule) → rule ≡ Some r → (mask : ℕ) → r ≡ Depends mask → mask < 2 ^ i) → relies_on rule j ≡ true → j < i
-relies_before i j None lawful relies = let never : false ≡ true = relies in cc
-relies_before i j (Some (Threshold fall)) lawful relies = let never : false ≡ true = relies in cc
-relies_before i j (Some Manual) lawful relies = let never : false ≡ true = relies in cc
-relies_before i j (Some (Depends mask)) lawful relies = by_place (cases_lt j i)
+relies_before : (i j : ℕ) (rule : Option Rule) → ((r : Rule) → rule ≡ Some r → relied_on r < 2 ^ i) → relies_on rule j ≡ true → j < i
+relies_before i j None small relies = let never : false ≡ true = relies in cc
+relies_before i j (Some rule) small relies = by_place (cases_lt j i)
   where
     by_place : (j < i) ⊎ (i ≤ j) → j < i
     by_place (inl before) = before
     by_place (inr past_it) =
-        let above = bit_at_above mask i j (lawful (Depends mask) refl mask refl) past_it in
-        let clear : has_slot mask j ≡ false = ap (λ k. k == 1) above in
+        let above = bit_at_above (relied_on rule) i j (small rule refl) past_it in
+        let clear : has_slot (relied_on rule) j ≡ false = ap (λ k. k == 1) above in
         let never : false ≡ true = sym clear ∙ relies in
         cc
 
@@ -94,9 +89,7 @@ pub looks_back : (slots : List (Option (Rule × ℕ))) (shut : Bool) (journal : 
 looks_back slots shut journal max_entries keeps i j few relies =
     let rule_is = rule_of_parts slots shut journal max_entries i keeps few in
     relies_before i j (rule_at (past journal) i)
-    (λ r said mask is.
-    let both : rule_at (past journal) i ≡ Some (Depends mask) = said ∙ ap Some is in
-    ltb-true mask (2 ^ i) (lawful_rule (past journal) i (Depends mask) keeps.legal both))
+    (λ r said. relied_below i r (lawful_rule (past journal) i r keeps.legal said))
     (ap (λ o. relies_on o j) (sym rule_is) ∙ relies)
 
 pub related_of_parts : (slots : List (Option (Rule × ℕ))) (shut : Bool) (journal : List Entry) (max_entries : ℕ) (dependents : List ℕ) → Keeps slots shut journal max_entries

@@ -5,13 +5,18 @@ use Rattle.desk_core.specs.declared.entry.Entry.{Entry}
 use Rattle.desk_core.specs.Past.{past}
 use Rattle.std.proofs.Math.Nat.{pow-le-pow_right}
 use Rattle.health_wire.specs.declared.serving.Serving.TheVariants.{NotServing, Serving as IsServing}
+use Rattle.probe_core.specs.declared.rule.Rule.{Rule}
 use Rattle.probe_core.specs.declared.rule.Rule.TheVariants.{Depends}
+use Rattle.probe_core.specs.Events.{is_up}
+use Rattle.probe_core.specs.Rule.{relied_on}
+use Rattle.desk_core.specs.Heard.{heard}
 use Rattle.desk_core.specs.Shut.{is_shut}
 use Rattle.desk_core.specs.Present.{rule_at}
 use Rattle.desk_core.specs.Reply.{reply_to}
 use Rattle.desk_core.specs.Status.{all_serving, status_by, status_at, has_slot, is_serving, serving_if, AllServe}
 use Rattle.desk_core.proofs.HistoryLemmas.{past_more}
-use Rattle.desk_core.proofs.StatusLemmas.{lawful_rule, no_slot_above}
+use Rattle.desk_core.proofs.SlotLemmas.{covers-nothing}
+use Rattle.desk_core.proofs.StatusLemmas.{all_serving-covers, and_true, lawful_rule, relied_below, no_slot_above}
 use Rattle.desk_core.specs.Legal.{IsLegal, IsLawfulCall}
 
 -- each slot of the mask is serving, of the slots below the n-th
@@ -62,7 +67,7 @@ serves_below entries i mask small are j in_mask =
 pub depends_on : (entries : List Entry) (i mask : ℕ) → IsLegal entries → rule_at entries i ≡ Some (Depends mask) → is_shut entries ≡ false → ((status_at entries i ≡ Some IsServing) ↔ AllServe entries mask)
 depends_on entries i mask legal rule resumed =
     let status : status_at entries i ≡ Some (serving_if (all_serving entries i mask)) = ap (status_by (all_serving entries i) entries i) rule ∙ ap (λ b. Some (if b then NotServing else serving_if (all_serving entries i mask))) resumed in
-    let small : mask < 2 ^ i = ltb-true mask (2 ^ i) (lawful_rule entries i (Depends mask) legal rule) in (
+    let small : mask < 2 ^ i = relied_below i (Depends mask) (lawful_rule entries i (Depends mask) legal rule) in (
       λ serving. serves_below entries i mask small (all_asked entries i mask (up (all_serving entries i mask) (sym status ∙ serving))),
       λ all. status ∙ ap (λ b. Some (serving_if b)) (all_answered entries i mask (λ j below. all j)),
     )
@@ -70,6 +75,16 @@ depends_on entries i mask legal rule resumed =
     up : (b : Bool) → Some (serving_if b) ≡ Some IsServing → b ≡ true
     up true is = refl
     up false is = cc
+
+-- a rule that relies on no slot leaves the status to the events
+pub by_events : (entries : List Entry) (i : ℕ) (rule : Rule) → rule_at entries i ≡ Some rule → relied_on rule ≡ 0 → is_shut entries ≡ false → status_at entries i ≡ Some (serving_if (is_up rule (heard entries i rule)))
+by_events entries i rule is none resumed =
+    let up = is_up rule (heard entries i rule) in
+    let covered : all_serving entries i (relied_on rule) ≡ true = ap (all_serving entries i) none ∙ all_serving-covers entries i 0 ∙ covers-nothing (status_at entries) i in
+    ap (status_by (all_serving entries i) entries i) is
+    ∙ ap (λ b. Some (if b then NotServing else serving_if (up && all_serving entries i (relied_on rule)))) resumed
+    ∙ ap (λ b. Some (serving_if (up && b))) covered
+    ∙ ap (λ b. Some (serving_if b)) (and_true up)
 
 pub legal_grown : (journal : List Entry) (entry : Entry) → IsLegal (past journal) → entry.reply ≡ reply_to (past journal) entry.call → IsLawfulCall entry.call → IsLegal (past (journal ++ entry ∷ []))
 legal_grown journal entry legal reply lawful =

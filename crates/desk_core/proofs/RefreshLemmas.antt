@@ -5,7 +5,7 @@ use Rattle.std.proofs.lemmas.Bool.{eqb-true, eqb-false, cases_lt}
 use Rattle.std.proofs.lemmas.Nat.Bits.{bit_at_or, bit_at-lt}
 use Rattle.health_wire.specs.declared.serving.Serving.{Serving}
 use Rattle.probe_core.specs.declared.rule.Rule.{Rule}
-use Rattle.probe_core.specs.declared.rule.Rule.TheVariants.{Threshold, Manual, Depends}
+use Rattle.probe_core.specs.Rule.{relied_on}
 use Rattle.desk_core.specs.Status.{has_slot, is_serving}
 use Rattle.desk_core.specs.Board.{packed, status_in}
 use Rattle.desk_core.specs.Slots.{covers_below, status_from, with_status}
@@ -30,11 +30,9 @@ status_agree : (f g : ℕ → Option Serving) (shut : Bool) (o : Option (Rule ×
     → ((j : ℕ) → j < 16 → relies_on (option_map (λ state. state.0) o) j ≡ true → f j ≡ g j)
     → option_map (status_from (covers_below f 16) shut) o ≡ option_map (status_from (covers_below g 16) shut) o
 status_agree f g shut None agree = refl
-status_agree f g shut (Some (Threshold fall, memory)) agree = refl
-status_agree f g shut (Some (Manual, memory)) agree = refl
-status_agree f g shut (Some (Depends mask, memory)) agree =
-    let covered : covers_below f 16 mask ≡ covers_below g 16 mask = covers_agree f g 16 mask agree in
-    ap (λ b. option_map (status_from (λ m. b) shut) (Some (Depends mask, memory))) covered
+status_agree f g shut (Some state) agree =
+    let covered : covers_below f 16 (relied_on state.0) ≡ covers_below g 16 (relied_on state.0) = covers_agree f g 16 (relied_on state.0) agree in
+    ap (λ b. option_map (status_from (λ m. b) shut) (Some state)) covered
 
 -- the new statuses below the n-th slot, and the old ones from it on
 abbrev pub mixed : (ℕ → Option Serving) → (ℕ → Option Serving) → ℕ → ℕ → Option Serving

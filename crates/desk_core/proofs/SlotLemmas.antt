@@ -1,5 +1,6 @@
-use Rattle.std.proofs.Common.{◌&&◌, ◌||◌, not, true, add-one, refl, ◌≡◌, ℕ, ◌+◌, ◌<◌, Option, List, [], ◌∷◌, ◌++◌, length, take, drop, map, get_or, set, sym, ap, ◌∙◌, arith, append_assoc}
+use Rattle.std.proofs.Common.{◌&&◌, ◌||◌, ◌==◌, not, true, zero, suc, add-one, refl, ◌≡◌, ℕ, ◌+◌, ◌<◌, Option, List, [], ◌∷◌, ◌++◌, length, take, drop, map, get_or, set, sym, ap, ◌∙◌, arith, append_assoc}
 use Rattle.std.proofs.lemmas.List.{drop_more, map_more, get_or_at, set_at, length-map, length-take-le}
+use Rattle.std.proofs.lemmas.Nat.Bits.{bit_at-zero}
 use Rattle.probe_core.specs.declared.rule.Rule.{Rule}
 use Rattle.health_wire.specs.declared.serving.Serving.{Serving}
 use Rattle.desk_core.specs.Status.{has_slot, is_serving}
@@ -27,6 +28,14 @@ reset_more old now new index default below reset is =
 pub covers-none : (statuses : ℕ → Option Serving) (mask : ℕ) → covers_below statuses 0 mask ≡ true
 unfolding covers_below
 covers-none statuses mask = refl
+
+-- a mask of no slots is covered
+pub covers-nothing : (statuses : ℕ → Option Serving) (n : ℕ) → covers_below statuses n 0 ≡ true
+unfolding covers_below
+covers-nothing statuses zero = refl
+covers-nothing statuses (suc n) =
+    ap (λ b. b && (not (has_slot 0 n) || is_serving (statuses n))) (covers-nothing statuses n)
+    ∙ ap (λ k. not (k == 1) || is_serving (statuses n)) (bit_at-zero n)
 
 pub covers-more : (statuses : ℕ → Option Serving) (n mask : ℕ) → covers_below statuses (n + 1) mask ≡ (covers_below statuses n mask && (not (has_slot mask n) || is_serving (statuses n)))
 unfolding covers_below

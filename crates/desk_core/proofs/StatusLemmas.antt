@@ -6,8 +6,7 @@ use Rattle.health_wire.specs.declared.serving.Serving.{Serving}
 use Rattle.health_wire.specs.declared.serving.Serving.TheVariants.{NotServing}
 use Rattle.probe_core.specs.declared.event.Event.{Event}
 use Rattle.probe_core.specs.declared.rule.Rule.{Rule}
-use Rattle.probe_core.specs.declared.rule.Rule.TheVariants.{Threshold, Manual, Depends}
-use Rattle.probe_core.specs.Rule.{fits, is_up_at}
+use Rattle.probe_core.specs.Rule.{fits, is_up_at, relied_on, is_in_range}
 use Rattle.probe_core.specs.Events.{all_fit, is_up, memory_after}
 use Rattle.desk_core.specs.declared.call.Call.{Call}
 use Rattle.desk_core.specs.declared.call.Call.TheVariants.{Register, Retire, Observe, Set, Shutdown, Resume}
@@ -19,7 +18,7 @@ use Rattle.desk_core.specs.Heard.{heard, with_event, forgets, event_for}
 use Rattle.desk_core.specs.Status.{status_by, status_at, all_serving, has_slot, is_serving, serving_if, opinion}
 use Rattle.desk_core.specs.Legal.{IsLegal, IsLawfulCall}
 use Rattle.desk_core.specs.Board.{packed, status_in}
-use Rattle.desk_core.specs.Slots.{covers_below, is_up_by, status_from, with_status}
+use Rattle.desk_core.specs.Slots.{covers_below, opinion_at, status_from, with_status}
 use Rattle.desk_core.specs.Desk.{Keeps, probe_at}
 use Rattle.desk_core.proofs.HistoryLemmas.{state_of}
 use Rattle.desk_core.proofs.BoardLemmas.{IsKept, read_same, read_other}
@@ -49,7 +48,7 @@ pow_more n (suc more) mask small =
 pub no_slot_above : (mask n : ℕ) → mask < 2 ^ n → has_slot mask n ≡ false
 no_slot_above mask n small = rw (div-eq_of_lt small) refl
 
-and_true : (b : Bool) → (b && true) ≡ b
+pub and_true : (b : Bool) → (b && true) ≡ b
 and_true true = refl
 and_true false = refl
 
@@ -90,6 +89,14 @@ lawful_rule [] i rule legal is = let none : None ≡ Some rule = is in cc
 lawful_rule (entry ∷ older) i rule legal is =
     lawful_more i rule entry.call (last_said (says_rule i) older) (λ before. lawful_rule older i rule legal.0 before) legal.2 is
 
+right_true : (a b : Bool) → (a && b) ≡ true → b ≡ true
+right_true true b both = both
+right_true false b both = let never : false ≡ true = both in cc
+
+-- a lawful rule relies on slots before its own
+pub relied_below : (i : ℕ) (rule : Rule) → IsLawful i rule → relied_on rule < 2 ^ i
+relied_below i rule lawful = ltb-true (relied_on rule) (2 ^ i) (right_true (is_in_range rule) _ lawful)
+
 -- one more event keeps what was heard to what fits
 fits_more : (rule : Rule) (events : List Event) (event : Event) (fit shut : Bool) → all_fit rule events ≡ true → fits rule event ≡ fit → all_fit rule (if not shut && fit then event ∷ events else events) ≡ true
 fits_more rule events event true true until is = until
@@ -113,17 +120,18 @@ pub status_of_probe : ((rule : Rule) (events : List Event) → all_fit rule even
     → option_map (status_from (covers_below below 16) (is_shut entries)) (probe_at entries i) ≡ status_at entries i
 status_of_probe tells entries i below legal in_range known = by_rule (rule_at entries i) refl
   where
-    opinion_of : (rule : Rule) → rule_at entries i ≡ Some rule → serving_if (is_up_by (covers_below below 16) rule (memory_after rule (heard entries i rule))) ≡ opinion (all_serving entries i) (heard entries i rule) rule
-    opinion_of (Threshold fall) is = ap serving_if (tells (Threshold fall) (heard entries i (Threshold fall)) (heard_fits entries i (Threshold fall)))
-    opinion_of Manual is = ap serving_if (tells Manual (heard entries i Manual) (heard_fits entries i Manual))
-    opinion_of (Depends mask) is =
-        let small : mask < 2 ^ i = ltb-true mask (2 ^ i) (lawful_rule entries i (Depends mask) legal is) in
+    covered : (mask : ℕ) → mask < 2 ^ i → covers_below below 16 mask ≡ all_serving entries i mask
+    covered mask small =
         let whole : i + (16 - i) ≡ 16 = omega arith in
-        ap serving_if (
         ap (λ n. covers_below below n mask) (sym whole)
         ∙ covers_short below i (16 - i) mask small
         ∙ covers_same below (status_at entries) i mask known
-        ∙ sym (all_serving-covers entries i mask))
+        ∙ sym (all_serving-covers entries i mask)
+
+    opinion_of : (rule : Rule) → rule_at entries i ≡ Some rule → opinion_at (covers_below below 16) rule (memory_after rule (heard entries i rule)) ≡ opinion (all_serving entries i) (heard entries i rule) rule
+    opinion_of rule is =
+        ap (λ b. serving_if (b && covers_below below 16 (relied_on rule))) (tells rule (heard entries i rule) (heard_fits entries i rule))
+        ∙ ap (λ b. serving_if (is_up rule (heard entries i rule) && b)) (covered (relied_on rule) (relied_below i rule (lawful_rule entries i rule legal is)))
 
     by_rule : (o : Option Rule) → rule_at entries i ≡ o → option_map (status_from (covers_below below 16) (is_shut entries)) (option_map (λ rule. state_of rule (heard entries i rule)) o) ≡ status_by (all_serving entries i) entries i o
     by_rule None is = refl
@@ -145,7 +153,7 @@ status_of_parts tells slots shut journal max_entries slot below status keeps in_
 pub kept_from : (covers : ℕ → Bool) (shut : Bool) (o : Option (Rule × ℕ)) → IsKept (option_map (status_from covers shut) o)
 kept_from covers shut None = refl
 kept_from covers true (Some state) = refl
-kept_from covers false (Some state) = by_opinion (is_up_by covers state.0 state.1)
+kept_from covers false (Some state) = by_opinion (is_up_at state.0 state.1 && covers (relied_on state.0))
   where
     by_opinion : (b : Bool) → IsKept (Some (serving_if b))
     by_opinion true = refl

@@ -4,7 +4,7 @@ use Rattle.std.specs.Prelude.{◌≡◌, ℕ, ◌<◌, ◌==◌, Bool, true, fal
 use Rattle.std.specs.Option.{option_map}
 use Rattle.health_wire.specs.declared.serving.Serving.{Serving}
 use Rattle.probe_core.specs.declared.rule.Rule.{Rule}
-use Rattle.probe_core.specs.declared.rule.Rule.TheVariants.{Threshold, Manual, Depends}
+use Rattle.probe_core.specs.Rule.{relied_on}
 use Rattle.desk_core.specs.Status.{has_slot}
 use Rattle.desk_core.specs.Board.{packed}
 use Rattle.desk_core.specs.Slots.{covers_below, status_from}
@@ -12,9 +12,7 @@ use Rattle.desk_core.specs.Slots.{covers_below, status_from}
 -- a slot of this rule depends on slot j
 abbrev pub relies_on : Option Rule → ℕ → Bool
 relies_on None j = false
-relies_on (Some (Threshold fall)) j = false
-relies_on (Some Manual) j = false
-relies_on (Some (Depends mask)) j = has_slot mask j
+relies_on (Some rule) j = has_slot (relied_on rule) j
 
 -- the rule of a slot's probe
 abbrev pub rule_in : List (Option (Rule × ℕ)) → ℕ → Option Rule

@@ -1,7 +1,7 @@
 -- Which slots are registered, and under which rule.
-use Rattle.std.specs.Prelude.{ℕ, ◌≡◌, ◌^◌, ◌==◌, ◌&&◌, nat_le, nat_lt, Bool, true, if◌then◌else◌, Option, None, Some, unwrap_or, is_some, List}
+use Rattle.std.specs.Prelude.{ℕ, ◌≡◌, ◌^◌, ◌==◌, ◌&&◌, nat_lt, Bool, true, if◌then◌else◌, Option, None, Some, unwrap_or, is_some, List}
 use Rattle.probe_core.specs.declared.rule.Rule.{Rule}
-use Rattle.probe_core.specs.declared.rule.Rule.TheVariants.{Threshold, Manual, Depends}
+use Rattle.probe_core.specs.Rule.{relied_on, is_in_range}
 use Rattle.desk_core.specs.declared.call.Call.{Call}
 use Rattle.desk_core.specs.declared.call.Call.TheVariants.{Register, Retire, Observe, Set, Shutdown, Resume}
 use Rattle.desk_core.specs.declared.entry.Entry.{Entry}
@@ -24,11 +24,9 @@ rule_at entries i = unwrap_or (last_said (says_rule i) entries) None
 abbrev pub is_present : List Entry → ℕ → Bool
 is_present entries i = is_some (rule_at entries i)
 
--- a threshold from 1 to 1,000, any manual rule, or a mask with no bit at the slot's own place or above it
+-- what the rule counts to is in range, and it relies on no slot at its own place or above it
 abbrev pub is_lawful : ℕ → Rule → Bool
-is_lawful i (Threshold fall) = nat_le 1 fall && nat_le fall 1000
-is_lawful i Manual = true
-is_lawful i (Depends mask) = nat_lt mask (2 ^ i)
+is_lawful i rule = is_in_range rule && nat_lt (relied_on rule) (2 ^ i)
 
 -- the rule may be registered there
 abbrev pub IsLawful : ℕ → Rule → Type 0

@@ -5,8 +5,7 @@ use Rattle.health_wire.specs.declared.serving.Serving.{Serving}
 use Rattle.health_wire.specs.declared.serving.Serving.TheVariants.{NotServing, ServiceUnknown}
 use Rattle.probe_core.specs.declared.event.Event.{Event}
 use Rattle.probe_core.specs.declared.rule.Rule.{Rule}
-use Rattle.probe_core.specs.declared.rule.Rule.TheVariants.{Threshold, Manual, Depends}
-use Rattle.probe_core.specs.Rule.{is_up_at, memory_next, opening_memory}
+use Rattle.probe_core.specs.Rule.{is_up_at, memory_next, opening_memory, relied_on}
 use Rattle.desk_core.specs.Status.{has_slot, is_serving, serving_if}
 use Rattle.desk_core.specs.Board.{status_in}
 
@@ -29,15 +28,13 @@ unfoldable pub covers_below : (ℕ → Option Serving) → ℕ → ℕ → Bool
 covers_below statuses zero mask = true
 covers_below statuses (suc n) mask = covers_below statuses n mask && (not (has_slot mask n) || is_serving (statuses n))
 
--- whether a probe's service is up, by whether the slots of a mask are all serving
-abbrev pub is_up_by : (ℕ → Bool) → Rule → ℕ → Bool
-is_up_by covers (Threshold fall) memory = is_up_at (Threshold fall) memory
-is_up_by covers Manual memory = is_up_at Manual memory
-is_up_by covers (Depends mask) memory = covers mask
+-- what a service's rule says of it, by the memory of its probe and by whether the slots of a mask are all serving
+abbrev pub opinion_at : (ℕ → Bool) → Rule → ℕ → Serving
+opinion_at covers rule memory = serving_if (is_up_at rule memory && covers (relied_on rule))
 
 -- the status of a registered service, by its probe
 abbrev pub status_from : (ℕ → Bool) → Bool → Rule × ℕ → Serving
-status_from covers shut state = if shut then NotServing else serving_if (is_up_by covers state.0 state.1)
+status_from covers shut state = if shut then NotServing else opinion_at covers state.0 state.1
 
 -- the same statuses, but for one slot
 abbrev pub with_status : (ℕ → Option Serving) → ℕ → Option Serving → ℕ → Option Serving

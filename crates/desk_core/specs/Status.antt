@@ -4,7 +4,7 @@ use Rattle.health_wire.specs.declared.serving.Serving.{Serving}
 use Rattle.health_wire.specs.declared.serving.Serving.TheVariants.{Unknown, NotServing, ServiceUnknown, Serving as IsServing}
 use Rattle.probe_core.specs.declared.event.Event.{Event}
 use Rattle.probe_core.specs.declared.rule.Rule.{Rule}
-use Rattle.probe_core.specs.declared.rule.Rule.TheVariants.{Threshold, Manual, Depends}
+use Rattle.probe_core.specs.Rule.{relied_on}
 use Rattle.probe_core.specs.Events.{is_up}
 use Rattle.desk_core.specs.declared.entry.Entry.{Entry}
 use Rattle.desk_core.specs.Shut.{is_shut}
@@ -28,11 +28,10 @@ has_slot mask i = mask / 2 ^ i % 2 == 1
 abbrev pub serving_if : Bool → Serving
 serving_if b = if b then IsServing else NotServing
 
--- what a service's rule says of it, by the events that it heard and by whether the slots of a mask are all serving
+-- what a service's rule says of it, by the events that it heard and by whether the slots of a mask are all serving: it is up by
+-- its events, and each slot that it relies on is serving
 abbrev pub opinion : (ℕ → Bool) → List Event → Rule → Serving
-opinion covers events (Threshold fall) = serving_if (is_up (Threshold fall) events)
-opinion covers events Manual = serving_if (is_up Manual events)
-opinion covers events (Depends mask) = serving_if (covers mask)
+opinion covers events rule = serving_if (is_up rule events && covers (relied_on rule))
 
 -- a slot that is not registered has no status; while the server is shut down all others are not serving
 abbrev pub status_by : (ℕ → Bool) → List Entry → ℕ → Option Rule → Option Serving

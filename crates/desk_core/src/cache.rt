@@ -98,8 +98,8 @@ fn relies_on(rule: Option<Rule>, on: Slot) -> bool
     ensures { result ≡ relies_on rule on }
 {
     match rule {
-        Some(Rule::Depends(mask)) => has_slot(mask, on),
-        _ => false,
+        Some(rule) => has_slot(rule.relied_on(), on),
+        None => false,
     }
 }
 

@@ -6,14 +6,18 @@ ghost use Rattle.desk_core.specs.declared.entry.Entry.{Entry};
 ghost use Rattle.desk_core.specs.declared.change.Change.{Change};
 ghost use Rattle.desk_core.specs.Past.{past};
 ghost use Rattle.desk_core.specs.Shut.{is_shut, says_shut};
-ghost use Rattle.desk_core.specs.Status.{status_at, shown, AllServe};
+ghost use Rattle.desk_core.specs.Heard.{heard};
+ghost use Rattle.desk_core.specs.Status.{status_at, serving_if, shown, AllServe};
 ghost use Rattle.desk_core.specs.Present.{rule_at};
 ghost use Rattle.desk_core.specs.Reply.{reply_to};
 ghost use Rattle.desk_core.specs.Changes.{changes_of};
 ghost use Rattle.desk_core.specs.Watch.{WatchState, IsOlder, GoOn, last_of, opened, answer_of, cursor_after, told, walk, cursor_past, story, last_told};
 ghost use Rattle.health_wire.specs.declared.serving.Serving.{Serving};
 ghost use Rattle.health_wire.specs.declared.serving.Serving.TheVariants.{Serving as IsServing};
+ghost use Rattle.probe_core.specs.declared.rule.Rule.{Rule};
 ghost use Rattle.probe_core.specs.declared.rule.Rule.TheVariants.{Depends};
+ghost use Rattle.probe_core.specs.Events.{is_up};
+ghost use Rattle.probe_core.specs.Rule.{relied_on};
 ghost use Rattle.desk_core.specs.Legal.{IsLegal, IsLawfulCall};
 ghost use Rattle.desk_core.specs.Catalogue.{IsCatalogue, HasNoDouble, slot_of, name_at, has_too_long, has_double, has_empty_name};
 ghost use Rattle.desk_core.specs.Fault.{fault_in};
@@ -49,6 +53,12 @@ pub fn last_call_decides()
 pub fn depends_on_all()
     ensures { (entries : List Entry) (i mask : ℕ) → IsLegal entries → rule_at entries i ≡ Some (Depends mask) → is_shut entries ≡ false
         → ((status_at entries i ≡ Some IsServing) ↔ AllServe entries mask) }
+{}
+
+/// A service whose rule relies on no other is serving exactly where it is up by what it heard, while the server is not shut down.
+pub fn events_decide()
+    ensures { (entries : List Entry) (i : ℕ) (rule : Rule) → rule_at entries i ≡ Some rule → relied_on rule ≡ 0 → is_shut entries ≡ false
+        → status_at entries i ≡ Some (serving_if (is_up rule (heard entries i rule))) }
 {}
 
 /// One more entry with the reply that the history gives keeps it legal.

@@ -30,9 +30,9 @@ pub use change::Change;
 pub use desk::Desk;
 pub use entry::Entry;
 pub use laws::{
-    changes_grow, depends_on_all, faultless_names, last_call_decides, last_change_is_shown,
-    legal_fronts, legal_growth, slots_and_names, steps_leave_none_out, walks_tell_the_story,
-    watchers_end_up_right,
+    changes_grow, depends_on_all, events_decide, faultless_names, last_call_decides,
+    last_change_is_shown, legal_fronts, legal_growth, slots_and_names, steps_leave_none_out,
+    walks_tell_the_story, watchers_end_up_right,
 };
 pub use name::Name;
 pub use order::Order;

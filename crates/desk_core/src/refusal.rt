@@ -5,13 +5,13 @@ use std::fmt;
 #[derive(Clone, Copy, Debug, PartialEq, Eq, Hash)]
 pub enum Refusal {
     /// A threshold is outside 1 to 1,000, or a mask has the service's own slot or a later one.
-    BadRule,
+    BadRule = 1,
     /// The journal has as many entries as it may have.
-    Full,
+    Full = 2,
     /// Memory ran out.
-    NoMemory,
+    NoMemory = 3,
     /// The name is not in the catalogue.
-    NotListed,
+    NotListed = 4,
 }
 
 impl fmt::Display for Refusal {

@@ -8,7 +8,7 @@ use crate::owned::Owned;
 use crate::slot::Slot;
 use crate::statuses::Statuses;
 use health_wire::Serving;
-use probe_core::{Probe, Rule};
+use probe_core::Probe;
 
 /// The status of a slot, by its probe and a word in which the slots that it depends on have theirs.
 pub(crate) fn status_of<P: Probe>(
@@ -22,11 +22,7 @@ pub(crate) fn status_of<P: Probe>(
     if is_shut {
         return Some(Serving::NotServing);
     }
-    let is_up = match owned.rule() {
-        Rule::Depends(mask) => covers(below, mask),
-        Rule::Threshold(_) | Rule::Manual => owned.is_up(),
-    };
-    if is_up {
+    if owned.is_up() && covers(below, owned.rule().relied_on()) {
         Some(Serving::Serving)
     } else {
         Some(Serving::NotServing)
@@ -37,6 +33,9 @@ pub(crate) fn status_of<P: Probe>(
 fn covers(below: Statuses, mask: u16) -> bool
     ensures { result ≡ covers_below (status_in below) 16 mask }
 {
+    if mask == 0 {
+        return true;
+    }
     let mut all = true;
     for number in 0..Slot::COUNT {
         let slot = Slot::at(number);

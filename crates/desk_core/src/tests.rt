@@ -3,9 +3,10 @@ use health_wire::Serving;
 use probe_core::tracked::Tracked;
 use probe_core::{Depends, Manual, Probe, Rule, Threshold};
 use std::alloc::Global;
-use std::process::Abort;
 use std::sync::Arc;
 use std::sync::atomic::{AtomicU64, Ordering};
+use std::test::Fail;
+use test_support::same;
 
 mod board;
 mod cached;
@@ -14,19 +15,17 @@ mod desks;
 mod memory;
 mod registering;
 mod rows;
-pub(crate) mod same;
 pub(crate) mod strings;
 mod texts;
 mod tracked;
 mod watches;
 
 use desks::{
-    boxed, counter, desk_of, desk_of_one, is_kept_right, push, refused, register, replace, share,
-    slot, status,
+    boxed, counter, desk_of, desk_of_one, is_kept_right, refused, register, replace, slot, status,
+    taken,
 };
-use rows::{Row, Step, expect_rows};
-use same::same;
-use strings::{expect_text, string, strings};
+use rows::{Row, Step, expect_rows, make};
+use strings::{expect_text, strings};
 
 const DONE: Result<Reply, Refusal> = Ok(Reply::Done);
 
@@ -42,49 +41,56 @@ const PASS: Step = Step::Observe(0, Finding::Pass);
 /// A failure of the slot 0.
 const FAIL: Step = Step::Observe(0, Finding::Fail);
 
-fn expect_of_three<P: Probe>(rt: &impl Abort, alloc: Global, a: P, b: P, c: P, rows: &[Row]) {
-    let mut desk = desk_of(rt, alloc, 100, a, b, c);
-    expect_rows(rt, &mut desk, rows);
+fn expect_of_three<P: Probe>(alloc: Global, a: P, b: P, c: P, rows: &[Row]) -> Result<(), Fail> {
+    let mut desk = desk_of(alloc, 100, a, b, c)?;
+    expect_rows(&mut desk, rows)
 }
 
 /// Goes through the rows at a desk with a threshold of 2 in the slot 0, a service that is set in the slot 1, and one in
 /// the slot 2 that depends on both.
-fn expect_at_three(rt: &(impl Abort + AllocGlobal), rows: &[Row]) {
-    let a: Box<dyn Probe + Send> = boxed(rt, Threshold::new(2));
-    let b: Box<dyn Probe + Send> = boxed(rt, Manual::new());
-    let c: Box<dyn Probe + Send> = boxed(rt, Depends::new(3));
-    expect_of_three(rt, rt.alloc(), a, b, c, rows);
+fn expect_at_three(alloc: Global, rows: &[Row]) -> Result<(), Fail> {
+    let a: Box<dyn Probe + Send> = boxed(alloc, Threshold::new(2))?;
+    let b: Box<dyn Probe + Send> = boxed(alloc, Manual::new())?;
+    let c: Box<dyn Probe + Send> = boxed(alloc, Depends::new(3))?;
+    expect_of_three(alloc, a, b, c, rows)
 }
 
 /// The rows before the probe in the slot 1 is replaced, whether it was up, and the rows after it.
 type Replaced<'a> = (&'a [Row], bool, &'a [Row]);
 
-fn replaces<P: Probe>(rt: &impl Abort, alloc: Global, a: P, b: P, c: P, other: P, rows: Replaced) {
+fn replaces<P: Probe>(
+    alloc: Global,
+    a: P,
+    b: P,
+    c: P,
+    other: P,
+    rows: Replaced,
+) -> Result<(), Fail> {
     let (before, was_up, after) = rows;
-    let mut desk = desk_of(rt, alloc, 100, a, b, c);
-    expect_rows(rt, &mut desk, before);
-    let old = replace(rt, &mut desk, 1, other);
-    same(rt, &old.is_up(), &was_up, &"the probe that was replaced");
-    expect_rows(rt, &mut desk, after);
+    let mut desk = desk_of(alloc, 100, a, b, c)?;
+    expect_rows(&mut desk, before)?;
+    let old = replace(&mut desk, 1, other)?;
+    same(&old.is_up(), &was_up, &"the probe that was replaced")?;
+    expect_rows(&mut desk, after)
 }
 
 /// Goes through the rows at such a desk, where a probe of this rule takes the place of the one in the slot 1.
-fn expect_replaced(rt: &(impl Abort + AllocGlobal), rule: Rule, rows: Replaced) {
-    let a: Box<dyn Probe + Send> = boxed(rt, Threshold::new(2));
-    let b: Box<dyn Probe + Send> = boxed(rt, Manual::new());
-    let c: Box<dyn Probe + Send> = boxed(rt, Depends::new(3));
+fn expect_replaced(alloc: Global, rule: Rule, rows: Replaced) -> Result<(), Fail> {
+    let a: Box<dyn Probe + Send> = boxed(alloc, Threshold::new(2))?;
+    let b: Box<dyn Probe + Send> = boxed(alloc, Manual::new())?;
+    let c: Box<dyn Probe + Send> = boxed(alloc, Depends::new(3))?;
     let other: Box<dyn Probe + Send> = match rule {
-        Rule::Threshold(fall) => boxed(rt, Threshold::new(fall)),
-        Rule::Manual => boxed(rt, Manual::new()),
-        Rule::Depends(mask) => boxed(rt, Depends::new(mask)),
+        Rule::Threshold(fall) => boxed(alloc, Threshold::new(fall))?,
+        Rule::Manual => boxed(alloc, Manual::new())?,
+        Rule::Depends(mask) => boxed(alloc, Depends::new(mask))?,
     };
-    replaces(rt, rt.alloc(), a, b, c, other, rows);
+    replaces(alloc, a, b, c, other, rows)
 }
 
 /// Goes through the rows at a desk with a probe in the slot 0.
-fn expect_of_one<P: Probe>(rt: &impl Abort, alloc: Global, a: P, rows: &[Row]) {
-    let mut desk = desk_of_one(rt, alloc, a);
-    expect_rows(rt, &mut desk, rows);
+fn expect_of_one<P: Probe>(alloc: Global, a: P, rows: &[Row]) -> Result<(), Fail> {
+    let mut desk = desk_of_one(alloc, a)?;
+    expect_rows(&mut desk, rows)
 }
 
 static HEARD: [Row; 19] = [
@@ -110,8 +116,8 @@ static HEARD: [Row; 19] = [
 ];
 
 #[test]
-fn shows_a_threshold_and_who_depends_on_it(rt: HostRuntime) {
-    expect_at_three(&rt, &HEARD);
+fn shows_a_threshold_and_who_depends_on_it(rt: HostRuntime) -> Result<(), Fail> {
+    expect_at_three(rt.alloc(), &HEARD)
 }
 
 static BOARDS: [Row; 4] = [
@@ -122,12 +128,12 @@ static BOARDS: [Row; 4] = [
 ];
 
 #[test]
-fn packs_entries_and_statuses(rt: HostRuntime) {
-    expect_at_three(&rt, &BOARDS);
+fn packs_entries_and_statuses(rt: HostRuntime) -> Result<(), Fail> {
+    expect_at_three(rt.alloc(), &BOARDS)
 }
 
 static RETIRED: [Row; 5] = [
-    Row::Retire(1, DONE, Some(Rule::Manual)),
+    Row::Retire(1, DONE, Some((Rule::Manual, true))),
     Row::Status(1, None),
     Row::Status(2, NOT_SERVING),
     Row::Retire(1, Ok(Reply::Missing), None),
@@ -135,8 +141,8 @@ static RETIRED: [Row; 5] = [
 ];
 
 #[test]
-fn gives_a_retired_probe_back(rt: HostRuntime) {
-    expect_at_three(&rt, &RETIRED);
+fn gives_a_retired_probe_back(rt: HostRuntime) -> Result<(), Fail> {
+    expect_at_three(rt.alloc(), &RETIRED)
 }
 
 static SHUT_DOWN: [Row; 7] = [
@@ -150,9 +156,10 @@ static SHUT_DOWN: [Row; 7] = [
 ];
 
 #[test]
-fn hears_nothing_while_shut_down(rt: HostRuntime) {
-    let a: Box<dyn Probe + Send> = boxed(&rt, Threshold::new(2));
-    expect_of_one(&rt, rt.alloc(), a, &SHUT_DOWN);
+fn hears_nothing_while_shut_down(rt: HostRuntime) -> Result<(), Fail> {
+    let alloc = rt.alloc();
+    let a: Box<dyn Probe + Send> = boxed(alloc, Threshold::new(2))?;
+    expect_of_one(alloc, a, &SHUT_DOWN)
 }
 
 static RESUMED: [Row; 4] = [
@@ -163,7 +170,8 @@ static RESUMED: [Row; 4] = [
 ];
 
 #[test]
-fn forgets_at_a_resume_without_a_shutdown(rt: HostRuntime) {
-    let a: Box<dyn Probe + Send> = boxed(&rt, Threshold::new(1));
-    expect_of_one(&rt, rt.alloc(), a, &RESUMED);
+fn forgets_at_a_resume_without_a_shutdown(rt: HostRuntime) -> Result<(), Fail> {
+    let alloc = rt.alloc();
+    let a: Box<dyn Probe + Send> = boxed(alloc, Threshold::new(1))?;
+    expect_of_one(alloc, a, &RESUMED)
 }

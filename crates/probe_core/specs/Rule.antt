@@ -1,5 +1,5 @@
 -- What a rule makes of one event, and of a service's memory. A threshold is HAProxy's `fall`.
-use Rattle.std.specs.Prelude.{ℕ, ◌+◌, ◌==◌, min, nat_lt, Bool, true, false}
+use Rattle.std.specs.Prelude.{ℕ, ◌+◌, ◌==◌, ◌&&◌, min, nat_le, nat_lt, Bool, true, false}
 use Rattle.probe_core.specs.declared.event.Event.{Event}
 use Rattle.probe_core.specs.declared.event.Event.TheVariants.{Pass, Fail, Up, Down}
 use Rattle.probe_core.specs.declared.rule.Rule.{Rule}
@@ -16,6 +16,18 @@ fits Manual Fail = false
 fits Manual Up = true
 fits Manual Down = true
 fits (Depends mask) event = false
+
+-- the slots whose services have to be serving too, as a mask: bit i is slot i
+abbrev pub relied_on : Rule → ℕ
+relied_on (Threshold fall) = 0
+relied_on Manual = 0
+relied_on (Depends mask) = mask
+
+-- what the rule counts to is from 1 to 1,000
+abbrev pub is_in_range : Rule → Bool
+is_in_range (Threshold fall) = nat_le 1 fall && nat_le fall 1000
+is_in_range Manual = true
+is_in_range (Depends mask) = true
 
 -- the memory of a service that heard nothing
 abbrev pub opening_memory : Rule → ℕ

@@ -12,7 +12,7 @@ pub mod tracked;
 
 pub use depends::Depends;
 pub use event::Event;
-pub use laws::{fall_of_two, memory_tells_status};
+pub use laws::memory_tells_status;
 pub use manual::Manual;
 pub use probe::Probe;
 pub use rule::Rule;

@@ -1,8 +1,14 @@
+ghost use Rattle.std.specs.Prelude.{◌≡◌, [], ◌∷◌, true, false};
+ghost use Rattle.probe_core.specs.declared.event.Event.TheVariants as events;
+ghost use Rattle.probe_core.specs.declared.rule.Rule.TheVariants as rules;
+ghost use Rattle.probe_core.specs.Rule.{memory_next, is_up_at};
+ghost use Rattle.probe_core.specs.Events.{is_up, memory_after};
+
 use super::*;
-use std::process::Abort;
 use std::sync::Arc;
 use std::sync::atomic::{AtomicU64, Ordering};
 use std::test::Fail;
+use test_support::same;
 use tracked::Tracked;
 
 /// An event, whether it fits, and whether the service is up after it.
@@ -16,6 +22,19 @@ const FALL_OF_TWO: [Heard; 6] = [
     (Event::Fail, true, false),
     (Event::Up, false, false),
 ];
+
+/// What the memories of a threshold of two are in that row. No run can read them.
+fn memories_of_two()
+    ensures first { memory_after (rules.Threshold 2) (events.Fail ∷ []) ≡ 1 }
+    ensures second { memory_after (rules.Threshold 2) (events.Pass ∷ events.Fail ∷ []) ≡ 0 }
+    ensures third { memory_after (rules.Threshold 2) (events.Fail ∷ events.Pass ∷ events.Fail ∷ []) ≡ 1 }
+    ensures fourth { memory_after (rules.Threshold 2) (events.Fail ∷ events.Fail ∷ events.Pass ∷ events.Fail ∷ []) ≡ 2 }
+    ensures up { is_up (rules.Threshold 2) (events.Fail ∷ events.Pass ∷ events.Fail ∷ []) ≡ true }
+    ensures down { is_up (rules.Threshold 2) (events.Fail ∷ events.Fail ∷ events.Pass ∷ events.Fail ∷ []) ≡ false }
+    ensures down_at { is_up_at (rules.Threshold 2) 2 ≡ false }
+    ensures more { memory_next (rules.Threshold 2) events.Fail 2 ≡ 2 }
+    ensures other { memory_next (rules.Threshold 2) events.Up 2 ≡ 2 }
+{}
 
 const FALL_OF_ONE: [Heard; 3] = [
     (Event::Fail, true, false),
@@ -38,38 +57,32 @@ const NOTHING_FITS: [Heard; 4] = [
     (Event::Down, false, true),
 ];
 
-fn assert_hears<P: Probe>(rt: &impl Abort, probe: &mut P, rule: Rule, heard: &[Heard]) {
-    assert_eq!(rt; probe.rule(), rule);
-    assert!(rt; probe.is_up());
+fn expect_heard<P: Probe>(probe: &mut P, rule: Rule, heard: &[Heard]) -> Result<(), Fail> {
+    same(
+        &(probe.rule(), probe.is_up()),
+        &(rule, true),
+        &"a new probe",
+    )?;
     for (event, fits, is_up) in heard {
-        assert_eq!(rt; probe.note(*event), *fits, "at {event:?}");
-        assert_eq!(rt; rule.fits(*event), *fits, "at {event:?}");
-        assert_eq!(rt; probe.is_up(), *is_up, "after {event:?}");
+        let found = (rule.fits(*event), probe.note(*event), probe.is_up());
+        same(&found, &(*fits, *fits, *is_up), event)?;
     }
     probe.reset();
-    assert!(rt; probe.is_up());
-    assert_eq!(rt; probe.rule(), rule);
+    same(
+        &(probe.rule(), probe.is_up()),
+        &(rule, true),
+        &"a reset probe",
+    )
 }
 
 #[test]
 fn hears_what_fits_its_rule(rt: HostRuntime) -> Result<(), Fail> {
     let drops = Arc::new(rt.alloc(), AtomicU64::new(0))?;
-    assert_hears(
-        &rt,
-        &mut Threshold::new(2),
-        Rule::Threshold(2),
-        &FALL_OF_TWO,
-    );
-    assert_hears(
-        &rt,
-        &mut Threshold::new(1),
-        Rule::Threshold(1),
-        &FALL_OF_ONE,
-    );
-    assert_hears(&rt, &mut Manual::new(), Rule::Manual, &SETTINGS);
-    assert_hears(&rt, &mut Depends::new(1), Rule::Depends(1), &NOTHING_FITS);
-    assert_hears(&rt, &mut Tracked::new(drops), Rule::Manual, &SETTINGS);
-    Ok(())
+    expect_heard(&mut Threshold::new(2), Rule::Threshold(2), &FALL_OF_TWO)?;
+    expect_heard(&mut Threshold::new(1), Rule::Threshold(1), &FALL_OF_ONE)?;
+    expect_heard(&mut Manual::new(), Rule::Manual, &SETTINGS)?;
+    expect_heard(&mut Depends::new(1), Rule::Depends(1), &NOTHING_FITS)?;
+    expect_heard(&mut Tracked::new(drops), Rule::Manual, &SETTINGS)
 }
 
 #[test]
@@ -77,14 +90,13 @@ fn hears_through_a_box(rt: HostRuntime) -> Result<(), Fail> {
     let alloc = rt.alloc();
     let drops = Arc::new(alloc, AtomicU64::new(0))?;
     let mut probe: Box<dyn Probe + Send> = Box::new(alloc, Threshold::new(2))?;
-    assert_hears(&rt, &mut probe, Rule::Threshold(2), &FALL_OF_TWO);
+    expect_heard(&mut probe, Rule::Threshold(2), &FALL_OF_TWO)?;
     let mut probe: Box<dyn Probe + Send> = Box::new(alloc, Manual::new())?;
-    assert_hears(&rt, &mut probe, Rule::Manual, &SETTINGS);
+    expect_heard(&mut probe, Rule::Manual, &SETTINGS)?;
     let mut probe: Box<dyn Probe + Send> = Box::new(alloc, Depends::new(1))?;
-    assert_hears(&rt, &mut probe, Rule::Depends(1), &NOTHING_FITS);
+    expect_heard(&mut probe, Rule::Depends(1), &NOTHING_FITS)?;
     let mut probe: Box<dyn Probe + Send> = Box::new(alloc, Tracked::new(drops))?;
-    assert_hears(&rt, &mut probe, Rule::Manual, &SETTINGS);
-    Ok(())
+    expect_heard(&mut probe, Rule::Manual, &SETTINGS)
 }
 
 fn goes_down(probe: &mut dyn Probe) -> bool {
@@ -92,10 +104,10 @@ fn goes_down(probe: &mut dyn Probe) -> bool {
 }
 
 #[test]
-fn hears_through_a_reference_to_any_kind(rt: HostRuntime) {
-    assert!(rt; goes_down(&mut Manual::new()));
-    assert!(rt; !goes_down(&mut Threshold::new(1)));
-    assert!(rt; !goes_down(&mut Depends::new(1)));
+fn hears_through_a_reference_to_any_kind() -> Result<(), Fail> {
+    same(&goes_down(&mut Manual::new()), &true, &"manual")?;
+    same(&goes_down(&mut Threshold::new(1)), &false, &"threshold")?;
+    same(&goes_down(&mut Depends::new(1)), &false, &"depends")
 }
 
 #[test]
@@ -103,11 +115,10 @@ fn counts_a_dropped_probe_once(rt: HostRuntime) -> Result<(), Fail> {
     let alloc = rt.alloc();
     let drops = Arc::new(alloc, AtomicU64::new(0))?;
     let mut probe: Box<dyn Probe + Send> = Box::new(alloc, Tracked::new(drops.clone()?))?;
-    assert_hears(&rt, &mut probe, Rule::Manual, &SETTINGS);
-    assert_eq!(rt; drops.load(Ordering::SeqCst), 0);
+    expect_heard(&mut probe, Rule::Manual, &SETTINGS)?;
+    same(&drops.load(Ordering::SeqCst), &0, &"before the drop")?;
     drop(probe);
-    assert_eq!(rt; drops.load(Ordering::SeqCst), 1);
-    Ok(())
+    same(&drops.load(Ordering::SeqCst), &1, &"after the drop")
 }
 
 /// A kind of a caller's own: it stores how it stood when it was dropped, 1 for up and 2 for down.
@@ -156,10 +167,9 @@ fn takes_a_kind_of_the_callers_own(rt: HostRuntime) -> Result<(), Fail> {
             seen: seen.clone()?,
         },
     )?;
-    assert_hears(&rt, &mut probe, Rule::Manual, &SETTINGS);
-    assert!(rt; goes_down(&mut *probe));
-    assert_eq!(rt; seen.load(Ordering::SeqCst), 0);
+    expect_heard(&mut probe, Rule::Manual, &SETTINGS)?;
+    same(&goes_down(&mut *probe), &true, &"a setting")?;
+    same(&seen.load(Ordering::SeqCst), &0, &"before the drop")?;
     drop(probe);
-    assert_eq!(rt; seen.load(Ordering::SeqCst), 2);
-    Ok(())
+    same(&seen.load(Ordering::SeqCst), &2, &"after the drop")
 }

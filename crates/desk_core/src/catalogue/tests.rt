@@ -1,7 +1,7 @@
 use super::*;
-use crate::tests::same::same;
 use crate::tests::strings::{expect_text, strings};
-use std::process::Abort;
+use std::test::Fail;
+use test_support::same;
 
 const NAME_OF_128: &str = "\
     0123456789abcdef0123456789abcdef0123456789abcdef0123456789abcdef\
@@ -11,10 +11,8 @@ const NAME_OF_129: &str = "\
     0123456789abcdef0123456789abcdef0123456789abcdef0123456789abcdef\
     0123456789abcdef0123456789abcdef0123456789abcdef0123456789abcdefX";
 
-fn catalogue_of(rt: &(impl Abort + AllocGlobal), names: &[&str]) -> Catalogue {
-    Catalogue::new(rt.alloc(), strings(rt, names))
-        .ok()
-        .expect(rt, "a catalogue")
+fn catalogue_of(alloc: Global, names: &[&str]) -> Result<Catalogue, Fail> {
+    Ok(Catalogue::new(alloc, strings(alloc, names)?)?)
 }
 
 const REFUSED: [(&[&str], CatalogueFault); 12] = [
@@ -37,16 +35,17 @@ const REFUSED: [(&[&str], CatalogueFault); 12] = [
     (&["a", " "], CatalogueFault::NoEmptyName),
 ];
 
-fn expect_refused(rt: &(impl Abort + AllocGlobal), names: &[&str], expected: CatalogueFault) {
-    let fault = Catalogue::new(rt.alloc(), strings(rt, names)).err();
-    same(rt, &fault, &Some(expected), &names);
+fn expect_fault(alloc: Global, names: &[&str], expected: CatalogueFault) -> Result<(), Fail> {
+    let fault = Catalogue::new(alloc, strings(alloc, names)?).err();
+    same(&fault, &Some(expected), &names)
 }
 
 #[test]
-fn refuses_names_by_their_first_fault(rt: HostRuntime) {
+fn refuses_names_by_their_first_fault(rt: HostRuntime) -> Result<(), Fail> {
     for (names, expected) in &REFUSED {
-        expect_refused(&rt, *names, *expected);
+        expect_fault(rt.alloc(), *names, *expected)?;
     }
+    Ok(())
 }
 
 const LISTED: [&[&str]; 4] = [
@@ -58,40 +57,48 @@ const LISTED: [&[&str]; 4] = [
     ],
 ];
 
-fn expect_place(rt: &impl Abort, catalogue: &Catalogue, place: u8, name: &str) {
-    let slot = catalogue.slot(name).expect(rt, "a slot");
-    same(rt, &slot.number(), &place, &name);
-    same(rt, &catalogue.name(slot), &Some(name), &place);
+fn expect_place(catalogue: &Catalogue, place: u8, name: &str) -> Result<(), Fail> {
+    let slot = catalogue.slot(name).ok_or("no slot")?;
+    same(&slot.number(), &place, &name)?;
+    same(&catalogue.name(slot), &Some(name), &place)
 }
 
-fn expect_places(rt: &impl Abort, catalogue: &Catalogue, names: &[&str]) {
-    same(rt, &catalogue.len(), &names.len(), &names);
+fn expect_places(catalogue: &Catalogue, names: &[&str]) -> Result<(), Fail> {
+    same(&catalogue.len(), &names.len(), &names)?;
     for (place, name) in (0u8..16).zip(names) {
-        expect_place(rt, catalogue, place, *name);
+        expect_place(catalogue, place, *name)?;
     }
+    Ok(())
 }
 
 #[test]
-fn gives_each_name_its_place_and_back(rt: HostRuntime) {
+fn gives_each_name_its_place_and_back(rt: HostRuntime) -> Result<(), Fail> {
     for names in &LISTED {
-        expect_places(&rt, &catalogue_of(&rt, *names), *names);
+        expect_places(&catalogue_of(rt.alloc(), *names)?, *names)?;
     }
+    Ok(())
 }
 
-fn expect_no_name(rt: &impl Abort, catalogue: &Catalogue, number: u8) {
-    let slot = Slot::new(number).expect(rt, "a slot");
-    same(rt, &catalogue.name(slot), &None, &number);
+fn expect_no_slot(catalogue: &Catalogue) -> Result<(), Fail> {
+    for name in &["zz", "A", "a ", NAME_OF_128] {
+        same(&catalogue.slot(*name), &None, name)?;
+    }
+    Ok(())
+}
+
+fn expect_no_name(catalogue: &Catalogue) -> Result<(), Fail> {
+    for number in 3..16 {
+        let slot = Slot::new(number).ok_or("no slot")?;
+        same(&catalogue.name(slot), &None, &number)?;
+    }
+    Ok(())
 }
 
 #[test]
-fn knows_no_other_name_and_no_other_slot(rt: HostRuntime) {
-    let catalogue = catalogue_of(&rt, &["a", "b", ""]);
-    for name in &["zz", "A", "a ", NAME_OF_128] {
-        same(&rt, &catalogue.slot(*name), &None, name);
-    }
-    for number in 3..16 {
-        expect_no_name(&rt, &catalogue, number);
-    }
+fn knows_no_other_name_and_no_other_slot(rt: HostRuntime) -> Result<(), Fail> {
+    let catalogue = catalogue_of(rt.alloc(), &["a", "b", ""])?;
+    expect_no_slot(&catalogue)?;
+    expect_no_name(&catalogue)
 }
 
 const FAULTS: [(CatalogueFault, u8, &str); 6] = [
@@ -112,9 +119,10 @@ const FAULTS: [(CatalogueFault, u8, &str); 6] = [
 ];
 
 #[test]
-fn numbers_and_tells_each_fault(rt: HostRuntime) {
+fn numbers_and_tells_each_fault(rt: HostRuntime) -> Result<(), Fail> {
     for (fault, number, text) in &FAULTS {
-        same(&rt, &fault.number(), number, text);
-        expect_text(&rt, fault, *text);
+        same(&fault.number(), number, text)?;
+        expect_text(rt.alloc(), fault, *text)?;
     }
+    Ok(())
 }

@@ -12,21 +12,19 @@ const BOARDS: [(u64, u32, &[Serving]); 4] = [
     (u64::MAX, 4_294_967_295, &[]),
 ];
 
-fn reads(rt: &impl Abort, word: u64, entries: u32, statuses: &[Serving]) {
-    assert_eq!(rt; board_entries(word), entries, "on {word}");
+fn expect_read(word: u64, entries: u32, statuses: &[Serving]) -> Result<(), Fail> {
+    same(&board_entries(word), &entries, &word)?;
     for number in 0..Slot::COUNT {
         let status = statuses.get(usize::from(number)).copied();
-        assert_eq!(rt;
-            board_status(word, slot(rt, number)),
-            status,
-            "on {word} at slot {number}"
-        );
+        same(&board_status(word, slot(number)?), &status, &(word, number))?;
     }
+    Ok(())
 }
 
 #[test]
-fn reads_entries_and_statuses_on_boards(rt: HostRuntime) {
+fn reads_entries_and_statuses_on_boards() -> Result<(), Fail> {
     for (word, entries, statuses) in BOARDS {
-        reads(&rt, word, entries, statuses);
+        expect_read(word, entries, statuses)?;
     }
+    Ok(())
 }

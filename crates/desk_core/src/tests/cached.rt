@@ -2,22 +2,22 @@ use super::*;
 
 /// Looks whether the changes from the place `told` on are the slots from `first` to before `end` in their order, at one
 /// entry and with one status.
-fn tells_slots<P: Probe>(
-    rt: &impl Abort,
+fn expect_slots<P: Probe>(
     desk: &Desk<P>,
     told: usize,
     at: u32,
     first: u8,
     end: u8,
     status: Serving,
-) {
-    let changes = desk.changes().get(told..).expect(rt, "changes");
+) -> Result<(), Fail> {
+    let changes = desk.changes().get(told..).ok_or("no changes")?;
     let len = usize::from(end.saturating_sub(first));
-    same(rt, &changes.len(), &len, &at);
+    same(&changes.len(), &len, &at)?;
     for (change, number) in changes.iter().zip(first..end) {
-        let slot = slot(rt, number);
-        same(rt, change, &Change { at, slot, status }, &number);
+        let slot = slot(number)?;
+        same(change, &Change { at, slot, status }, &number)?;
     }
+    Ok(())
 }
 
 /// A change and the board after it, and the slots whose change it tells: the place of its entry, the first of them,
@@ -34,7 +34,7 @@ const CHAIN: [Link; 3] = [
     ),
     (
         [
-            Row::Retire(7, DONE, Some(Rule::Depends(64))),
+            Row::Retire(7, DONE, Some((Rule::Depends(64), true))),
             Row::Board(80_172_690_090),
         ],
         17,
@@ -51,39 +51,40 @@ const CHAIN: [Link; 3] = [
     ),
 ];
 
-fn expect_link<P: Probe>(rt: &impl Abort, desk: &mut Desk<P>, link: &Link) {
+fn expect_link<P: Probe>(desk: &mut Desk<P>, link: &Link) -> Result<(), Fail> {
     let (rows, at, first, end, status) = link;
     let told = desk.changes().len();
-    expect_rows(rt, desk, rows.as_slice());
-    tells_slots(rt, desk, told, *at, *first, *end, *status);
+    expect_rows(desk, rows.as_slice())?;
+    expect_slots(desk, told, *at, *first, *end, *status)
 }
 
-/// A desk with these probes from the slot 0 on.
-fn desk_of_all<P: Probe>(rt: &impl Abort, alloc: Global, probes: Vec<P>) -> Desk<P> {
-    let mut desk = Desk::new(alloc, 100);
+/// Registers the probes from the slot 0 on.
+fn register_all<P: Probe>(desk: &mut Desk<P>, probes: Vec<P>) -> Result<(), Fail> {
     for (probe, number) in probes.into_iter().zip(0u8..16) {
-        register(rt, &mut desk, number, probe);
+        register(desk, number, probe)?;
     }
-    desk
+    Ok(())
 }
 
 /// Sixteen services in a chain, each of which depends on the one before it.
-fn runs_a_chain<P: Probe>(rt: &impl Abort, alloc: Global, probes: Vec<P>) {
-    let mut desk = desk_of_all(rt, alloc, probes);
+fn expect_chain<P: Probe>(alloc: Global, probes: Vec<P>) -> Result<(), Fail> {
+    let mut desk = Desk::new(alloc, 100);
+    register_all(&mut desk, probes)?;
     for link in &CHAIN {
-        expect_link(rt, &mut desk, link);
+        expect_link(&mut desk, link)?;
     }
+    Ok(())
 }
 
 #[test]
-fn follows_a_chain_of_sixteen(rt: HostRuntime) {
+fn follows_a_chain_of_sixteen(rt: HostRuntime) -> Result<(), Fail> {
     let alloc = rt.alloc();
     let mut probes: Vec<Box<dyn Probe + Send>> = Vec::new(alloc);
-    push(&rt, &mut probes, boxed(&rt, Threshold::new(1)));
+    probes.push(boxed(alloc, Threshold::new(1))?)?;
     for number in 0..15u8 {
-        push(&rt, &mut probes, boxed(&rt, Depends::new(1 << number)));
+        probes.push(boxed(alloc, Depends::new(1 << number))?)?;
     }
-    runs_a_chain(&rt, alloc, probes);
+    expect_chain(alloc, probes)
 }
 
 static CHANGED: [Row; 7] = [
@@ -98,11 +99,15 @@ static CHANGED: [Row; 7] = [
 
 static CHANGED_AGAIN: [Row; 3] = [
     Row::Change(Step::Resume, DONE),
-    Row::Retire(1, DONE, Some(Rule::Depends(1))),
+    Row::Retire(1, DONE, Some((Rule::Depends(1), true))),
     Row::Unlisted,
 ];
 
 #[test]
-fn keeps_the_statuses_that_computing_anew_gives(rt: HostRuntime) {
-    expect_replaced(&rt, Rule::Depends(1), (&CHANGED, true, &CHANGED_AGAIN));
+fn keeps_the_statuses_that_computing_anew_gives(rt: HostRuntime) -> Result<(), Fail> {
+    expect_replaced(
+        rt.alloc(),
+        Rule::Depends(1),
+        (&CHANGED, true, &CHANGED_AGAIN),
+    )
 }

@@ -32,16 +32,16 @@ impl Probe for Counted {
 }
 
 /// Goes through the rows at a desk of 5 entries with a counted probe in the slot 1, which so many events have to reach.
-fn expect_notes(rt: &(impl Abort + AllocGlobal), rows: &[Row], expected: u64) {
-    let notes = counter(rt);
+fn expect_notes(alloc: Global, rows: &[Row], expected: u64) -> Result<(), Fail> {
+    let notes = counter(alloc)?;
     let probe = Counted {
         manual: Manual::new(),
-        notes: share(rt, &notes),
+        notes: notes.clone()?,
     };
-    let mut desk = Desk::new(rt.alloc(), 5);
-    register(rt, &mut desk, 1, probe);
-    expect_rows(rt, &mut desk, rows);
-    same(rt, &notes.load(Ordering::SeqCst), &expected, &"the notes");
+    let mut desk = Desk::new(alloc, 5);
+    register(&mut desk, 1, probe)?;
+    expect_rows(&mut desk, rows)?;
+    same(&notes.load(Ordering::SeqCst), &expected, &"the notes")
 }
 
 static NOT_HEARD: [Row; 5] = [
@@ -53,8 +53,8 @@ static NOT_HEARD: [Row; 5] = [
 ];
 
 #[test]
-fn an_event_that_is_not_heard_reaches_no_probe(rt: HostRuntime) {
-    expect_notes(&rt, &NOT_HEARD, 0);
+fn an_event_that_is_not_heard_reaches_no_probe(rt: HostRuntime) -> Result<(), Fail> {
+    expect_notes(rt.alloc(), &NOT_HEARD, 0)
 }
 
 static HEARD_ONCE: [Row; 2] = [
@@ -63,6 +63,6 @@ static HEARD_ONCE: [Row; 2] = [
 ];
 
 #[test]
-fn an_event_that_is_heard_reaches_its_probe_once(rt: HostRuntime) {
-    expect_notes(&rt, &HEARD_ONCE, 1);
+fn an_event_that_is_heard_reaches_its_probe_once(rt: HostRuntime) -> Result<(), Fail> {
+    expect_notes(rt.alloc(), &HEARD_ONCE, 1)
 }

@@ -12,27 +12,28 @@ static FULL_JOURNAL: [Row; 6] = [
 static NO_JOURNAL: [Row; 2] = [Row::Change(Step::Shutdown, FULL), Row::Entries(0)];
 
 /// Looks whether a journal of no entry refuses all.
-fn takes_nothing<P: Probe>(rt: &impl Abort, alloc: Global, probe: P) {
+fn expect_nothing_taken<P: Probe>(alloc: Global, probe: P) -> Result<(), Fail> {
     let mut desk = Desk::new(alloc, 0);
-    refused(rt, &mut desk, 0, probe, Refusal::Full);
-    expect_rows(rt, &mut desk, &NO_JOURNAL);
+    refused(&mut desk, 0, probe, Refusal::Full)?;
+    expect_rows(&mut desk, &NO_JOURNAL)
 }
 
-fn fills<P: Probe>(rt: &impl Abort, alloc: Global, a: P, b: P, c: P, fourth: P) {
-    let mut desk = desk_of(rt, alloc, 3, a, b, c);
-    let fourth = refused(rt, &mut desk, 1, fourth, Refusal::Full);
-    same(rt, &fourth.rule(), &Rule::Manual, &"the fourth");
-    expect_rows(rt, &mut desk, &FULL_JOURNAL);
-    takes_nothing(rt, alloc, fourth);
+fn expect_full<P: Probe>(alloc: Global, a: P, b: P, c: P, fourth: P) -> Result<(), Fail> {
+    let mut desk = desk_of(alloc, 3, a, b, c)?;
+    let fourth = refused(&mut desk, 1, fourth, Refusal::Full)?;
+    same(&fourth.rule(), &Rule::Manual, &"the fourth")?;
+    expect_rows(&mut desk, &FULL_JOURNAL)?;
+    expect_nothing_taken(alloc, fourth)
 }
 
 #[test]
-fn refuses_changes_of_a_full_journal(rt: HostRuntime) {
-    let a: Box<dyn Probe + Send> = boxed(&rt, Threshold::new(2));
-    let b: Box<dyn Probe + Send> = boxed(&rt, Manual::new());
-    let c: Box<dyn Probe + Send> = boxed(&rt, Depends::new(3));
-    let fourth: Box<dyn Probe + Send> = boxed(&rt, Manual::new());
-    fills(&rt, rt.alloc(), a, b, c, fourth);
+fn refuses_changes_of_a_full_journal(rt: HostRuntime) -> Result<(), Fail> {
+    let alloc = rt.alloc();
+    let a: Box<dyn Probe + Send> = boxed(alloc, Threshold::new(2))?;
+    let b: Box<dyn Probe + Send> = boxed(alloc, Manual::new())?;
+    let c: Box<dyn Probe + Send> = boxed(alloc, Depends::new(3))?;
+    let fourth: Box<dyn Probe + Send> = boxed(alloc, Manual::new())?;
+    expect_full(alloc, a, b, c, fourth)
 }
 
 static EMPTY: [Row; 1] = [Row::Change(PASS, Ok(Reply::Missing))];
@@ -53,41 +54,42 @@ static AFTER: [Row; 3] = [
 ];
 
 #[test]
-fn replies_to_each_kind_of_change(rt: HostRuntime) {
-    expect_rows(&rt, &mut Desk::<Manual>::new(rt.alloc(), 100), &EMPTY);
-    expect_replaced(&rt, Rule::Manual, (&BEFORE, false, &AFTER));
+fn replies_to_each_kind_of_change(rt: HostRuntime) -> Result<(), Fail> {
+    let alloc = rt.alloc();
+    expect_rows(&mut Desk::<Manual>::new(alloc, 100), &EMPTY)?;
+    expect_replaced(alloc, Rule::Manual, (&BEFORE, false, &AFTER))
 }
 
-fn refuses_the_rule<P: Probe>(rt: &impl Abort, alloc: Global, probe: P) {
+/// The slot 1 refuses a probe of this rule, and gives it back.
+fn expect_bad_rule<P: Probe>(alloc: Global, probe: P) -> Result<(), Fail> {
     let rule = probe.rule();
     let mut desk = Desk::new(alloc, 100);
-    let probe = refused(rt, &mut desk, 1, probe, Refusal::BadRule);
-    same(rt, &probe.rule(), &rule, &"the rule");
-    expect_rows(rt, &mut desk, &[Row::Entries(0)]);
+    let probe = refused(&mut desk, 1, probe, Refusal::BadRule)?;
+    same(&probe.rule(), &rule, &"the rule")?;
+    expect_rows(&mut desk, &[Row::Entries(0)])
 }
 
-fn takes_the_rule<P: Probe>(rt: &impl Abort, alloc: Global, probe: P) {
+fn expect_lawful<P: Probe>(alloc: Global, probe: P) -> Result<(), Fail> {
     let mut desk = Desk::new(alloc, 100);
-    register(rt, &mut desk, 1, probe);
-    expect_rows(rt, &mut desk, &[Row::Status(1, SERVING)]);
+    register(&mut desk, 1, probe)?;
+    expect_rows(&mut desk, &[Row::Status(1, SERVING)])
 }
 
 #[test]
-fn takes_lawful_rules_alone(rt: HostRuntime) {
+fn takes_lawful_rules_alone(rt: HostRuntime) -> Result<(), Fail> {
     let alloc = rt.alloc();
-    for mask in [2, 4] {
-        refuses_the_rule(&rt, alloc, Depends::new(mask));
-    }
-    for fall in [0, 1_001] {
-        refuses_the_rule(&rt, alloc, Threshold::new(fall));
-    }
-    takes_the_rule(&rt, alloc, Depends::new(0));
-    takes_the_rule(&rt, alloc, Threshold::new(1));
-    takes_the_rule(&rt, alloc, Threshold::new(1_000));
+    expect_bad_rule(alloc, Depends::new(2))?;
+    expect_bad_rule(alloc, Depends::new(4))?;
+    expect_bad_rule(alloc, Threshold::new(0))?;
+    expect_bad_rule(alloc, Threshold::new(1_001))?;
+    expect_lawful(alloc, Depends::new(0))?;
+    expect_lawful(alloc, Threshold::new(1))?;
+    expect_lawful(alloc, Threshold::new(1_000))
 }
 
 #[test]
-fn refuses_an_unlawful_rule_before_a_full_journal(rt: HostRuntime) {
+fn refuses_an_unlawful_rule_before_a_full_journal(rt: HostRuntime) -> Result<(), Fail> {
     let mut desk = Desk::new(rt.alloc(), 0);
-    refused(&rt, &mut desk, 1, Threshold::new(0), Refusal::BadRule);
+    refused(&mut desk, 1, Threshold::new(0), Refusal::BadRule)?;
+    Ok(())
 }

@@ -14,8 +14,8 @@ pub(super) enum Step {
 pub(super) enum Row {
     /// A change, and its answer.
     Change(Step, Result<Reply, Refusal>),
-    /// A retirement, its answer, and the rule of the probe that it gives back.
-    Retire(u8, Result<Reply, Refusal>, Option<Rule>),
+    /// A retirement, its answer, and of the probe that it gives back the rule and whether it is up.
+    Retire(u8, Result<Reply, Refusal>, Option<(Rule, bool)>),
     Status(u8, Option<Serving>),
     /// A Check of a name without a slot, which finds nothing.
     Unlisted,
@@ -23,46 +23,47 @@ pub(super) enum Row {
     Entries(usize),
 }
 
-fn make<P: Probe>(rt: &impl Abort, desk: &mut Desk<P>, step: Step) -> Result<Reply, Refusal> {
-    match step {
-        Step::Observe(number, finding) => desk.observe(0, slot(rt, number), finding),
-        Step::Set(number, setting) => desk.set(0, slot(rt, number), setting),
+pub(super) fn make<P: Probe>(
+    desk: &mut Desk<P>,
+    step: Step,
+) -> Result<Result<Reply, Refusal>, Fail> {
+    Ok(match step {
+        Step::Observe(number, finding) => desk.observe(0, slot(number)?, finding),
+        Step::Set(number, setting) => desk.set(0, slot(number)?, setting),
         Step::Shutdown => desk.shutdown(0),
         Step::Resume => desk.resume(0),
-    }
+    })
 }
 
-fn retire<P: Probe>(
-    rt: &impl Abort,
-    desk: &mut Desk<P>,
-    number: u8,
-) -> (Result<Reply, Refusal>, Option<Rule>) {
-    match desk.retire(0, slot(rt, number)) {
-        Ok((reply, Some(old))) => (Ok(reply), Some(old.rule())),
+/// What a retirement answers, and what is known of the probe that it gives back.
+type Retired = (Result<Reply, Refusal>, Option<(Rule, bool)>);
+
+fn retire<P: Probe>(desk: &mut Desk<P>, number: u8) -> Result<Retired, Fail> {
+    Ok(match desk.retire(0, slot(number)?) {
+        Ok((reply, Some(old))) => (Ok(reply), Some((old.rule(), old.is_up()))),
         Ok((reply, None)) => (Ok(reply), None),
         Err(refusal) => (Err(refusal), None),
-    }
+    })
 }
 
-fn expect_row<P: Probe>(rt: &impl Abort, desk: &mut Desk<P>, row: Row, index: usize) {
+fn expect_row<P: Probe>(desk: &mut Desk<P>, row: Row, index: usize) -> Result<(), Fail> {
     let at = (index, row);
     match row {
-        Row::Change(step, answer) => same(rt, &make(rt, desk, step), &answer, &at),
-        Row::Retire(number, answer, rule) => {
-            same(rt, &retire(rt, desk, number), &(answer, rule), &at);
-        }
-        Row::Status(number, expected) => same(rt, &status(rt, desk, number), &expected, &at),
-        Row::Unlisted => same(rt, &desk.check(None), &None, &at),
-        Row::Board(word) => same(rt, &desk.board(), &word, &at),
-        Row::Entries(count) => same(rt, &desk.journal().len(), &count, &at),
+        Row::Change(step, answer) => same(&make(desk, step)?, &answer, &at),
+        Row::Retire(number, answer, old) => same(&retire(desk, number)?, &(answer, old), &at),
+        Row::Status(number, expected) => same(&status(desk, number)?, &expected, &at),
+        Row::Unlisted => same(&desk.check(None), &None, &at),
+        Row::Board(word) => same(&desk.board(), &word, &at),
+        Row::Entries(count) => same(&desk.journal().len(), &count, &at),
     }
 }
 
 /// Goes through the rows, each at a desk that the rows before it changed. What the desk keeps has to be what computing
 /// anew gives after each.
-pub(super) fn expect_rows<P: Probe>(rt: &impl Abort, desk: &mut Desk<P>, rows: &[Row]) {
+pub(super) fn expect_rows<P: Probe>(desk: &mut Desk<P>, rows: &[Row]) -> Result<(), Fail> {
     for (index, row) in rows.iter().enumerate() {
-        expect_row(rt, desk, *row, index);
-        is_kept_right(rt, desk);
+        expect_row(desk, *row, index)?;
+        is_kept_right(desk)?;
     }
+    Ok(())
 }

@@ -1,23 +1,17 @@
-use crate::tests::same::same;
+use std::alloc::Global;
 use std::fmt::Display;
-use std::process::Abort;
+use std::test::Fail;
+use test_support::same;
 
-pub(crate) fn string(rt: &(impl Abort + AllocGlobal), text: &str) -> String {
-    String::from_str(rt.alloc(), text)
-        .ok()
-        .expect(rt, "a string")
-}
-
-pub(crate) fn strings(rt: &(impl Abort + AllocGlobal), texts: &[&str]) -> Vec<String> {
-    let mut strings = Vec::new(rt.alloc());
+pub(crate) fn strings(alloc: Global, texts: &[&str]) -> Result<Vec<String>, Fail> {
+    let mut strings = Vec::new(alloc);
     for text in texts {
-        assert!(rt; strings.push(string(rt, *text)).is_ok());
+        strings.push(String::from_str(alloc, *text)?)?;
     }
-    strings
+    Ok(strings)
 }
 
 /// What is displayed has to be this text.
-pub(crate) fn expect_text<F: Display>(rt: &(impl Abort + AllocGlobal), fault: &F, text: &str) {
-    let told = fault.to_string(rt.alloc()).ok().expect(rt, "a text");
-    same(rt, &told.as_str(), &text, &"the text");
+pub(crate) fn expect_text<F: Display>(alloc: Global, fault: &F, text: &str) -> Result<(), Fail> {
+    same(&fault.to_string(alloc)?.as_str(), &text, &"the text")
 }

@@ -2,7 +2,7 @@ use Rattle.std.proofs.Common.{◌≡◌, ◌&&◌, ◌||◌, not, sym, ap, ◌�
 use Rattle.desk_core.specs.Status.{has_slot, is_serving}
 use Rattle.desk_core.specs.Board.{status_in}
 use Rattle.desk_core.specs.Slots.{covers_below}
-use Rattle.desk_core.proofs.SlotLemmas.{covers-none, covers-more}
+use Rattle.desk_core.proofs.SlotLemmas.{covers-none, covers-nothing, covers-more}
 use Rattle.desk_core.proofs.status.covers.Goals as goal
 
 pub loop-number-init : goal.loop-number-init
@@ -16,6 +16,10 @@ loop-number-preserved c =
     ∙ ap (λ o. not (has_slot c.args.mask c.at-slot.result) || is_serving o) c.get.ensures
     ∙ ap (λ k. not (has_slot c.args.mask k) || is_serving (status_in c.args.below k)) c.at-slot.ensures)
     ∙ sym (covers-more (status_in c.args.below) c.loop-number.number c.args.mask)
+
+pub returns-then-mask-eq0 : goal.returns-then-mask-eq0
+returns-then-mask-eq0 c =
+    sym (ap (covers_below (status_in c.args.below) 16) c.if-mask-eq0.true ∙ covers-nothing (status_in c.args.below) 16)
 
 pub returns : goal.returns
 returns c =
