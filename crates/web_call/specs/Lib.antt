@@ -3,7 +3,6 @@ pub mod ContentLength
 pub mod ContentType
 pub mod DeskDoor
 pub mod Exchange
-pub mod Faulty
 pub mod Head
 pub mod HeadAnswer
 pub mod InputHead

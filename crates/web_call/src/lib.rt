@@ -9,7 +9,6 @@ mod content_type;
 mod desk_door;
 mod door;
 mod exchanging;
-pub mod faulty;
 mod head;
 mod head_limits;
 mod laws;
@@ -19,6 +18,7 @@ mod reading;
 mod response;
 mod tap;
 mod texts;
+mod transfer;
 mod watching;
 
 pub use ask::{Ask, ask_of, one_ask};

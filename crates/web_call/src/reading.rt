@@ -4,7 +4,8 @@ ghost use Rattle.web_call.specs.InputHead.{IsHead, IsOpenHead};
 ghost use Rattle.web_call.specs.Tap.{tap_inner, tap_failed, ConsumesFewer};
 
 use crate::head_limits::{HEAD_END, MAX_HEAD_LEN};
-use crate::tap::{Tap, fill};
+use crate::tap::Tap;
+use crate::transfer::fill;
 use std::alloc::{AllocError, Global};
 use std::io::Read;
 

@@ -1,14 +1,14 @@
-mod answers;
+pub(crate) mod answers;
 mod bells;
 mod doors;
 mod exchanging;
+mod flushes;
 mod heads;
-mod memory;
+mod kinds;
 mod read_faults;
 mod reading;
 pub(crate) mod requests;
 mod runs;
-pub(crate) mod same;
 mod scarce_exchange;
 mod watching;
 mod write_faults;

@@ -10,8 +10,9 @@ ghost use Rattle.web_call.specs.Watching.{CutsMessage, IsWatchCut, Tells};
 
 use crate::bell::{Bell, Turn};
 use crate::door::Door;
-use crate::tap::{Tap, put};
+use crate::tap::Tap;
 use crate::texts::{end_chunk, message_chunk, watch_head};
+use crate::transfer::put;
 use desk_core::Watch;
 use health_wire::Serving;
 use std::io::Write;

@@ -1,7 +1,8 @@
 use super::*;
 use crate::tests::requests::{lines, padded, request};
-use crate::tests::same::same;
-use std::process::Abort;
+use std::alloc::Global;
+use std::test::Fail;
+use test_support::same;
 
 const CHECK: &str = "POST /grpc.health.v1.Health/Check HTTP/1.1";
 
@@ -62,11 +63,9 @@ const HEAD_TOO_LARGE: Expected = Expected::Http(431);
 const OTHER_VERSION: Expected = Expected::Http(505);
 
 /// A head of this start line and these header lines has to be answered so.
-fn expect(rt: &(impl Abort + AllocGlobal), start: &str, lines: &[&str], expected: Expected) {
-    let head = request(rt.alloc(), start, lines, b"")
-        .ok()
-        .expect(rt, "a head");
-    same(rt, &head_of(&head), &expected.headed(), &(start, lines));
+fn expect(alloc: Global, start: &str, lines: &[&str], expected: Expected) -> Result<(), Fail> {
+    let head = request(alloc, start, lines, b"")?;
+    same(&head_of(&head), &expected.headed(), &(start, lines))
 }
 
 const START_LINES: [(&str, Expected); 18] = [
@@ -100,10 +99,11 @@ const START_LINES: [(&str, Expected); 18] = [
 ];
 
 #[test]
-fn answers_each_start_line(rt: HostRuntime) {
-    for (start, expected) in &START_LINES {
-        expect(&rt, *start, &[TYPE], *expected);
+fn answers_each_start_line(rt: HostRuntime) -> Result<(), Fail> {
+    for (start, expected) in START_LINES {
+        expect(rt.alloc(), start, &[TYPE], expected)?;
     }
+    Ok(())
 }
 
 const CONTENT_TYPES: [(&[&str], Expected); 17] = [
@@ -127,10 +127,11 @@ const CONTENT_TYPES: [(&[&str], Expected); 17] = [
 ];
 
 #[test]
-fn answers_each_content_type(rt: HostRuntime) {
-    for (lines, expected) in &CONTENT_TYPES {
-        expect(&rt, CHECK, *lines, *expected);
+fn answers_each_content_type(rt: HostRuntime) -> Result<(), Fail> {
+    for (lines, expected) in CONTENT_TYPES {
+        expect(rt.alloc(), CHECK, lines, expected)?;
     }
+    Ok(())
 }
 
 const LENGTHS: [(&str, Expected); 16] = [
@@ -153,10 +154,11 @@ const LENGTHS: [(&str, Expected); 16] = [
 ];
 
 #[test]
-fn takes_a_content_length_up_to_8192_and_refuses_others(rt: HostRuntime) {
-    for (line, expected) in &LENGTHS {
-        expect(&rt, CHECK, &[TYPE, *line], *expected);
+fn takes_a_content_length_up_to_8192_and_refuses_others(rt: HostRuntime) -> Result<(), Fail> {
+    for (line, expected) in LENGTHS {
+        expect(rt.alloc(), CHECK, &[TYPE, line], expected)?;
     }
+    Ok(())
 }
 
 /// Heads and the fault that counts, from the last fault that is looked for to the first.
@@ -192,10 +194,11 @@ const FAULTS: [(&str, &[&str], Expected); 12] = [
 ];
 
 #[test]
-fn looks_for_faults_in_their_order(rt: HostRuntime) {
-    for (start, lines, expected) in &FAULTS {
-        expect(&rt, *start, *lines, *expected);
+fn looks_for_faults_in_their_order(rt: HostRuntime) -> Result<(), Fail> {
+    for (start, lines, expected) in FAULTS {
+        expect(rt.alloc(), start, lines, expected)?;
     }
+    Ok(())
 }
 
 const ENDS: [(&[u8], Expected); 7] = [
@@ -210,10 +213,11 @@ const ENDS: [(&[u8], Expected); 7] = [
 ];
 
 #[test]
-fn takes_a_head_that_is_all_of_the_bytes(rt: HostRuntime) {
-    for (head, expected) in &ENDS {
-        same(&rt, &head_of(*head), &expected.headed(), head);
+fn takes_a_head_that_is_all_of_the_bytes(_rt: HostRuntime) -> Result<(), Fail> {
+    for (head, expected) in ENDS {
+        same(&head_of(head), &expected.headed(), &head)?;
     }
+    Ok(())
 }
 
 const SIZES: [(usize, &[u8], Expected); 5] = [
@@ -228,19 +232,18 @@ const FRONT: &[u8] = b"POST /grpc.health.v1.Health/Check HTTP/1.1\r\n\
     content-type: application/grpc-web+proto\r\n\
     x: ";
 
-fn expect_of_size(rt: &(impl Abort + AllocGlobal), size: usize, end: &[u8], expected: Expected) {
-    let head = padded(rt.alloc(), FRONT, size, end)
-        .ok()
-        .expect(rt, "a head");
-    same(rt, &head.len(), &size, &end);
-    same(rt, &head_of(&head), &expected.headed(), &(size, end));
+fn expect_of_size(alloc: Global, size: usize, end: &[u8], expected: Expected) -> Result<(), Fail> {
+    let head = padded(alloc, FRONT, size, end)?;
+    let found = (head.len(), head_of(&head));
+    same(&found, &(size, expected.headed()), &end)
 }
 
 #[test]
-fn takes_heads_up_to_8192_bytes(rt: HostRuntime) {
-    for (size, end, expected) in &SIZES {
-        expect_of_size(&rt, *size, *end, *expected);
+fn takes_heads_up_to_8192_bytes(rt: HostRuntime) -> Result<(), Fail> {
+    for (size, end, expected) in SIZES {
+        expect_of_size(rt.alloc(), size, end, expected)?;
     }
+    Ok(())
 }
 
 /// Start lines and numbers of header lines. An empty line before the start line counts as one more.
@@ -254,11 +257,10 @@ const LINES: [(&str, usize, Expected); 6] = [
 ];
 
 #[test]
-fn takes_up_to_32_header_lines(rt: HostRuntime) {
-    for (start, count, expected) in &LINES {
-        let lines = lines(rt.alloc(), &[], *count, &[TYPE])
-            .ok()
-            .expect(&rt, "lines");
-        expect(&rt, *start, &lines, *expected);
+fn takes_up_to_32_header_lines(rt: HostRuntime) -> Result<(), Fail> {
+    for (start, count, expected) in LINES {
+        let lines = lines(rt.alloc(), &[], count, &[TYPE])?;
+        expect(rt.alloc(), start, &lines, expected)?;
     }
+    Ok(())
 }

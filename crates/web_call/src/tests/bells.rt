@@ -1,8 +1,8 @@
 ghost use Rattle.std.specs.Prelude.{◌+◌, ◌^◌, ◌<◌, length};
 
-use crate::tests::same::same;
 use crate::{Bell, Turn};
-use std::process::Abort;
+use std::test::Fail;
+use test_support::same;
 
 /// A bell that gives the turns of a list. It is over once it was asked for more than there are, or an End came.
 #[derive(Drop)]
@@ -67,20 +67,20 @@ impl Bell for Turns<'_> {
 }
 
 /// Asks a bell so often as there are turns expected, and then for its Looks, its waits and what it has left.
-fn expect_turns(rt: &impl Abort, turns: &[Turn], expected: &[Turn], looks: u64, left: usize) {
+fn expect_turns(turns: &[Turn], expected: &[Turn], looks: u64, left: usize) -> Result<(), Fail> {
     let mut bell = Turns::new(turns);
     for turn in expected {
-        same(rt, &bell.wait(), turn, &turns);
+        same(&bell.wait(), turn, &turns)?;
     }
-    same(rt, &(bell.looks(), bell.left()), &(looks, left), &turns);
-    same(rt, &(bell.waits() as usize), &expected.len(), &turns);
+    let counts = (bell.looks(), bell.left(), bell.waits() as usize);
+    same(&counts, &(looks, left, expected.len()), &turns)
 }
 
 #[test]
-fn gives_its_turns_and_then_ends_for_good(rt: HostRuntime) {
+fn gives_its_turns_and_then_ends_for_good(_rt: HostRuntime) -> Result<(), Fail> {
     let (look, end) = (Turn::Look, Turn::End);
     let turns = [look, look, end, look];
-    expect_turns(&rt, &turns, &[look, look, end, end, end], 2, 1);
+    expect_turns(&turns, &[look, look, end, end, end], 2, 1)?;
     // it ends where its turns are used up
-    expect_turns(&rt, &[look], &[look, end, end], 1, 0);
+    expect_turns(&[look], &[look, end, end], 1, 0)
 }

@@ -2,26 +2,27 @@ use crate::Door;
 use desk_core::{Catalogue, Desk, Setting, Slot, Watch};
 use health_wire::Serving;
 use probe_core::Manual;
-use std::process::Abort;
+use std::alloc::Global;
+use std::test::Fail;
+use test_support::same;
 
 /// A catalogue of `a` and the empty name.
-pub(super) fn catalogue(rt: &(impl Abort + AllocGlobal)) -> Catalogue {
-    let alloc = rt.alloc();
+pub(super) fn catalogue(alloc: Global) -> Result<Catalogue, Fail> {
     let mut names = Vec::new(alloc);
     for text in ["a", ""] {
-        let name = String::from_str(alloc, text).ok().expect(rt, "a name");
-        assert!(rt; names.push(name).is_ok());
+        names.push(String::from_str(alloc, text)?)?;
     }
-    Catalogue::new(alloc, names).ok().expect(rt, "a catalogue")
+    Ok(Catalogue::new(alloc, names)?)
 }
 
 /// A desk on which the empty name alone was registered, and then set.
-pub(super) fn desk(rt: &(impl Abort + AllocGlobal), setting: Setting) -> Desk<Manual> {
-    let slot = Slot::new(1).expect(rt, "a slot");
-    let mut desk = Desk::new(rt.alloc(), 100);
-    assert!(rt; desk.register(0, slot, Manual::new()).is_ok());
-    assert!(rt; desk.set(0, slot, setting).is_ok());
-    desk
+pub(super) fn desk(alloc: Global, setting: Setting) -> Result<Desk<Manual>, Fail> {
+    let slot = Slot::new(1).ok_or("a slot")?;
+    let mut desk = Desk::new(alloc, 100);
+    let is_registered = desk.register(0, slot, Manual::new()).is_ok();
+    let is_set = desk.set(0, slot, setting).is_ok();
+    same(&(is_registered, is_set), &(true, true), &setting)?;
+    Ok(desk)
 }
 
 /// A door that counts how often it was asked.

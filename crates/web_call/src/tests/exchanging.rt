@@ -4,7 +4,8 @@ use crate::tests::runs::{Expected, Run, expect_answer};
 use crate::{Outcome, Turn};
 use desk_core::Setting;
 use grpc_frame::Code;
-use std::process::Abort;
+use std::alloc::Global;
+use std::test::Fail;
 
 /// Turns that no test of this file lets a bell give.
 const TURNS: [Turn; 2] = [Turn::Look, Turn::End];
@@ -12,19 +13,17 @@ const TURNS: [Turn; 2] = [Turn::Look, Turn::End];
 /// Sends a request of this head and this body, with bytes behind it that stay unread, at a desk on which the empty name
 /// was set.
 fn expect_call(
-    rt: &(impl Abort + AllocGlobal),
+    alloc: Global,
     setting: Setting,
     start: &str,
     lines: &[&str],
     body: &[u8],
     expected: &Expected,
-) {
-    let mut input = request(rt.alloc(), start, lines, body)
-        .ok()
-        .expect(rt, "a request");
-    assert!(rt; input.extend_from_slice(expected.rest).is_ok());
+) -> Result<(), Fail> {
+    let mut input = request(alloc, start, lines, body)?;
+    input.extend_from_slice(expected.rest)?;
     let at = (start, lines, body);
-    expect_answer(rt, &input, setting, &TURNS, 10, expected, &at);
+    expect_answer(alloc, &input, setting, &TURNS, 10, expected, &at)
 }
 
 /// A Check's response, what of its input is left, and its status for one question to the door.
@@ -87,11 +86,12 @@ const CHECKS: [(Setting, &[&str], &[u8], &[u8], Code, &[u8]); 5] = [
 ];
 
 #[test]
-fn answers_a_check_by_one_question_to_the_door(rt: HostRuntime) {
-    for (setting, lines, body, rest, code, response) in &CHECKS {
-        let expected = answered(*code, *response, *rest);
-        expect_call(&rt, *setting, CHECK, *lines, *body, &expected);
+fn answers_a_check_by_one_question_to_the_door(rt: HostRuntime) -> Result<(), Fail> {
+    for (setting, lines, body, rest, code, response) in CHECKS {
+        let expected = answered(code, response, rest);
+        expect_call(rt.alloc(), setting, CHECK, lines, body, &expected)?;
     }
+    Ok(())
 }
 
 /// The length and the body of a request, and the status and the response that refuse it.
@@ -129,21 +129,22 @@ const REFUSED_BODIES: [(&str, &[u8], Code, &[u8]); 6] = [
     ),
 ];
 
-fn expect_refused_bodies(rt: &(impl Abort + AllocGlobal), start: &str) {
-    for (length, body, code, written) in &REFUSED_BODIES {
+fn expect_refused_bodies(alloc: Global, start: &str) -> Result<(), Fail> {
+    for (length, body, code, written) in REFUSED_BODIES {
         let expected = Expected {
-            run: Run::asking(Outcome::Status(*code), 0),
-            written: *written,
+            run: Run::asking(Outcome::Status(code), 0),
+            written,
             rest: b"more",
         };
-        expect_call(rt, Setting::Up, start, &[TYPE, *length], *body, &expected);
+        expect_call(alloc, Setting::Up, start, &[TYPE, length], body, &expected)?;
     }
+    Ok(())
 }
 
 #[test]
-fn refuses_a_body_and_asks_nobody(rt: HostRuntime) {
-    expect_refused_bodies(&rt, CHECK);
-    expect_refused_bodies(&rt, WATCH);
+fn refuses_a_body_and_asks_nobody(rt: HostRuntime) -> Result<(), Fail> {
+    expect_refused_bodies(rt.alloc(), CHECK)?;
+    expect_refused_bodies(rt.alloc(), WATCH)
 }
 
 const LIST: &str = "POST /grpc.health.v1.Health/List HTTP/1.1";
@@ -152,7 +153,7 @@ const HTTP_10: &str = "POST /grpc.health.v1.Health/Check HTTP/1.0";
 
 const LARGE: Outcome = Outcome::Status(Code::ResourceExhausted);
 
-const UNKNOWN: Outcome = Outcome::Status(Code::Unimplemented);
+const NO_METHOD: Outcome = Outcome::Status(Code::Unimplemented);
 
 /// Start lines and header lines, and the outcome and the response that refuse them or end the call before its body is
 /// read.
@@ -227,23 +228,29 @@ const REFUSED_HEADS: [(&str, &[&str], Outcome, &[u8]); 14] = [
         LARGE,
         REQUEST_TOO_LARGE,
     ),
-    (LIST, &[TYPE, "content-length: 5"], UNKNOWN, UNKNOWN_METHOD),
+    (
+        LIST,
+        &[TYPE, "content-length: 5"],
+        NO_METHOD,
+        UNKNOWN_METHOD,
+    ),
     (
         "POST /grpc.health.v1.Health/Check?x HTTP/1.1",
         &[TYPE, "content-length: 5"],
-        UNKNOWN,
+        NO_METHOD,
         UNKNOWN_METHOD,
     ),
 ];
 
 #[test]
-fn answers_a_faulty_head_and_asks_nobody(rt: HostRuntime) {
-    for (start, lines, outcome, written) in &REFUSED_HEADS {
+fn answers_a_faulty_head_and_asks_nobody(rt: HostRuntime) -> Result<(), Fail> {
+    for (start, lines, outcome, written) in REFUSED_HEADS {
         let expected = Expected {
-            run: Run::asking(*outcome, 0),
-            written: *written,
+            run: Run::asking(outcome, 0),
+            written,
             rest: b"\0\0\0\0\0",
         };
-        expect_call(&rt, Setting::Up, *start, *lines, b"", &expected);
+        expect_call(rt.alloc(), Setting::Up, start, lines, b"", &expected)?;
     }
+    Ok(())
 }

@@ -1,24 +1,26 @@
-use crate::faulty::{Fault, FaultyReader, FaultyWriter};
 use crate::tests::answers::{SERVING, WATCH_OF_UNKNOWN};
 use crate::tests::doors::{catalogue, desk};
-use crate::tests::requests::{CHECK_OF_EMPTY, WATCH_OF_ZZ};
-use crate::tests::runs::{Expected, Run, exchange_over, expect_answer};
-use crate::tests::same::same;
+use crate::tests::runs::{Run, exchange_over};
 use crate::{DeskDoor, ExchangeFault, Turn, Why};
 use desk_core::Setting;
+use std::alloc::Global;
 use std::io::{ErrorKind, Read};
-use std::process::Abort;
+use std::test::Fail;
+use test_support::requests::{CHECK_OF_EMPTY, WATCH_OF_ZZ};
+use test_support::{Fault, FaultyReader, FaultyWriter, same};
 
 /// How many reads a Check or a Watch here takes: one for each byte of the head, and one for the body.
 const READS: usize = 108;
 
 const TURNS: [Turn; 2] = [Turn::Look, Turn::End];
 
-/// An error of any kind is a fault at once.
-const ERRORS: [Fault; 3] = [
-    Fault::Error(ErrorKind::ConnectionReset),
-    Fault::Error(ErrorKind::Interrupted),
-    Fault::Error(ErrorKind::WouldBlock),
+/// What a read does, and whether it has then failed. An error of any kind is a fault at once, and a read of no byte is
+/// the end of the input.
+const FAULTS: [(Fault, bool); 4] = [
+    (Fault::Error(ErrorKind::ConnectionReset), true),
+    (Fault::Error(ErrorKind::Interrupted), true),
+    (Fault::Error(ErrorKind::WouldBlock), true),
+    (Fault::Nothing, false),
 ];
 
 /// An exchange whose request was not read whole, so that nobody was asked.
@@ -38,153 +40,90 @@ fn cut(read_failed: bool) -> Run {
 
 /// An exchange over a reader that may be faulty.
 fn exchange_from<R: Read + Drop>(
-    rt: &(impl Abort + AllocGlobal),
+    alloc: Global,
     reader: R,
     writer: &mut FaultyWriter,
-) -> Run {
-    let catalogue = catalogue(rt);
-    let desk = desk(rt, Setting::Up);
+) -> Result<Run, Fail> {
+    let catalogue = catalogue(alloc)?;
+    let desk = desk(alloc, Setting::Up)?;
     let door = DeskDoor::new(&desk, &catalogue);
-    exchange_over(rt, reader, writer, door, &TURNS, 10)
+    Ok(exchange_over(alloc, reader, writer, door, &TURNS, 10))
 }
 
-fn expect_cut_at_each_byte(rt: &(impl Abort + AllocGlobal), input: &[u8]) {
-    let expected = Expected {
-        run: cut(false),
-        written: b"",
-        rest: b"",
-    };
-    for len in 0..input.len() {
-        let front = input.get(..len).unwrap_or(b"");
-        expect_answer(rt, front, Setting::Up, &TURNS, 10, &expected, &len);
-    }
-}
-
-#[test]
-fn an_input_that_ends_too_soon_is_a_read_fault(rt: HostRuntime) {
-    expect_cut_at_each_byte(&rt, CHECK_OF_EMPTY);
-    expect_cut_at_each_byte(&rt, WATCH_OF_ZZ);
-}
-
-fn expect_fault_at(
-    rt: &(impl Abort + AllocGlobal),
+/// The read behind so many bytes of the input is faulty, and the last one. Nothing is written.
+fn expect_cut(
+    alloc: Global,
     input: &[u8],
-    faulty: usize,
+    len: usize,
     fault: Fault,
-    expected: &Run,
-) {
-    let mut reader = FaultyReader::new(input, faulty, fault);
-    let mut writer = FaultyWriter::new(rt.alloc(), 1, 0, fault);
-    let run = exchange_from(rt, &mut reader, &mut writer);
-    let at = (faulty, fault);
-    same(rt, &run, expected, &at);
-    let calls = (reader.calls(), reader.rest().len(), writer.calls());
-    let left = input.len().saturating_sub(faulty.saturating_sub(1));
-    same(rt, &calls, &(faulty, left, 0), &at);
+    read_failed: bool,
+) -> Result<(), Fail> {
+    let front = input.get(..len).unwrap_or(b"");
+    let rest = input.get(len..).unwrap_or(b"");
+    let mut reader = front.chain(FaultyReader::new(rest, 1, fault));
+    let mut writer = FaultyWriter::new(alloc, 1, 0, Fault::Nothing);
+    let run = exchange_from(alloc, &mut reader, &mut writer)?;
+    let at = (len, fault);
+    same(&run, &cut(read_failed), &at)?;
+    let last = &reader.get_ref().1;
+    let calls = (last.calls(), last.rest(), writer.calls());
+    same(&calls, &(1, rest, 0), &at)
 }
 
-fn expect_fault_at_each_read(
-    rt: &(impl Abort + AllocGlobal),
-    input: &[u8],
-    fault: Fault,
-    expected: &Run,
-) {
-    for faulty in 1..=READS {
-        expect_fault_at(rt, input, faulty, fault, expected);
-    }
-}
-
-#[test]
-fn an_error_at_any_read_is_a_read_fault_at_once(rt: HostRuntime) {
-    let expected = cut(true);
-    for fault in &ERRORS {
-        expect_fault_at_each_read(&rt, CHECK_OF_EMPTY, *fault, &expected);
-        expect_fault_at_each_read(&rt, WATCH_OF_ZZ, *fault, &expected);
-    }
-}
-
-#[test]
-fn a_read_of_no_byte_is_the_end_of_the_input(rt: HostRuntime) {
-    let expected = cut(false);
-    expect_fault_at_each_read(&rt, CHECK_OF_EMPTY, Fault::Nothing, &expected);
-    expect_fault_at_each_read(&rt, WATCH_OF_ZZ, Fault::Nothing, &expected);
-}
-
-fn expect_error_after(
-    rt: &(impl Abort + AllocGlobal),
-    front: &[u8],
-    last: &[u8],
-    fault: Fault,
-    expected: &Run,
-) {
-    let mut reader = front.chain(FaultyReader::new(last, 1, fault));
-    let mut writer = FaultyWriter::new(rt.alloc(), 1, 0, fault);
-    let run = exchange_from(rt, &mut reader, &mut writer);
-    let at = (front.len(), fault);
-    same(rt, &run, expected, &at);
-    let calls = (reader.get_ref().1.calls(), writer.calls());
-    same(rt, &calls, &(1, 0), &at);
-}
-
-fn expect_error_before_each_byte(rt: &(impl Abort + AllocGlobal), input: &[u8], fault: Fault) {
-    let expected = cut(true);
+fn expect_cuts(alloc: Global, input: &[u8], fault: Fault, read_failed: bool) -> Result<(), Fail> {
     for len in 0..input.len() {
-        let front = input.get(..len).unwrap_or(b"");
-        let last = input.get(len..).unwrap_or(b"");
-        expect_error_after(rt, front, last, fault, &expected);
+        expect_cut(alloc, input, len, fault, read_failed)?;
     }
+    Ok(())
 }
 
 #[test]
-fn an_error_before_any_byte_is_a_read_fault(rt: HostRuntime) {
-    for fault in &ERRORS {
-        expect_error_before_each_byte(&rt, CHECK_OF_EMPTY, *fault);
-        expect_error_before_each_byte(&rt, WATCH_OF_ZZ, *fault);
+fn a_fault_before_any_byte_is_a_read_fault_and_writes_nothing(rt: HostRuntime) -> Result<(), Fail> {
+    for (fault, read_failed) in FAULTS {
+        expect_cuts(rt.alloc(), CHECK_OF_EMPTY, fault, read_failed)?;
+        expect_cuts(rt.alloc(), WATCH_OF_ZZ, fault, read_failed)?;
     }
+    Ok(())
 }
 
 /// A reader from which a whole request comes is answered, and no read or write has failed.
 fn expect_whole<R: Read + Drop>(
-    rt: &(impl Abort + AllocGlobal),
+    alloc: Global,
     reader: R,
     response: &[u8],
     at: usize,
-) {
-    let fault = Fault::Error(ErrorKind::ConnectionReset);
-    let mut writer = FaultyWriter::new(rt.alloc(), 1_000, 0, fault);
-    let run = exchange_from(rt, reader, &mut writer);
+) -> Result<(), Fail> {
+    let mut writer = FaultyWriter::new(alloc, 1_000, 0, Fault::Nothing);
+    let run = exchange_from(alloc, reader, &mut writer)?;
     let went = (run.result.is_ok(), run.read_failed, run.write_failed);
-    same(rt, &went, &(true, false, false), &at);
-    same(rt, &writer.written(), &response, &at);
+    same(&went, &(true, false, false), &at)?;
+    same(&writer.written(), &response, &at)
 }
 
-fn expect_whole_in_two_parts(rt: &(impl Abort + AllocGlobal), input: &[u8], response: &[u8]) {
+fn expect_whole_in_two_parts(alloc: Global, input: &[u8], response: &[u8]) -> Result<(), Fail> {
     for len in 0..input.len() {
-        let mut reader = input
-            .get(..len)
-            .unwrap_or(b"")
-            .chain(input.get(len..).unwrap_or(b""));
-        expect_whole(rt, &mut reader, response, len);
+        let front = input.get(..len).unwrap_or(b"");
+        let rest = input.get(len..).unwrap_or(b"");
+        expect_whole(alloc, &mut front.chain(rest), response, len)?;
     }
+    Ok(())
 }
 
 #[test]
-fn a_request_may_come_in_two_parts(rt: HostRuntime) {
-    expect_whole_in_two_parts(&rt, CHECK_OF_EMPTY, SERVING);
-    expect_whole_in_two_parts(&rt, WATCH_OF_ZZ, WATCH_OF_UNKNOWN);
+fn a_request_may_come_in_two_parts(rt: HostRuntime) -> Result<(), Fail> {
+    expect_whole_in_two_parts(rt.alloc(), CHECK_OF_EMPTY, SERVING)?;
+    expect_whole_in_two_parts(rt.alloc(), WATCH_OF_ZZ, WATCH_OF_UNKNOWN)
 }
 
-fn expect_no_fault_behind(rt: &(impl Abort + AllocGlobal), input: &[u8], response: &[u8]) {
-    for faulty in READS + 1..READS + 4 {
-        let fault = Fault::Error(ErrorKind::ConnectionReset);
-        let mut reader = FaultyReader::new(input, faulty, fault);
-        expect_whole(rt, &mut reader, response, faulty);
-        same(rt, &reader.calls(), &READS, &faulty);
-    }
+fn expect_no_fault_behind(alloc: Global, input: &[u8], response: &[u8]) -> Result<(), Fail> {
+    let fault = Fault::Error(ErrorKind::ConnectionReset);
+    let mut reader = FaultyReader::new(input, READS + 1, fault);
+    expect_whole(alloc, &mut reader, response, READS)?;
+    same(&reader.calls(), &READS, &response)
 }
 
 #[test]
-fn a_fault_behind_the_last_read_is_not_met(rt: HostRuntime) {
-    expect_no_fault_behind(&rt, CHECK_OF_EMPTY, SERVING);
-    expect_no_fault_behind(&rt, WATCH_OF_ZZ, WATCH_OF_UNKNOWN);
+fn a_fault_behind_the_last_read_is_not_met(rt: HostRuntime) -> Result<(), Fail> {
+    expect_no_fault_behind(rt.alloc(), CHECK_OF_EMPTY, SERVING)?;
+    expect_no_fault_behind(rt.alloc(), WATCH_OF_ZZ, WATCH_OF_UNKNOWN)
 }

@@ -6,47 +6,6 @@ pub(super) const WATCH: &str = "POST /grpc.health.v1.Health/Watch HTTP/1.1";
 
 pub(super) const TYPE: &str = "content-type: application/grpc-web+proto";
 
-/// A Check of the empty name. Its head has 107 bytes.
-pub(super) const CHECK_OF_EMPTY: &[u8] = b"POST /grpc.health.v1.Health/Check HTTP/1.1\r\n\
-    content-type: application/grpc-web+proto\r\n\
-    content-length: 5\r\n\
-    \r\n\
-    \x00\x00\x00\x00\x00";
-
-/// A Check of `zz`, a name that is in no catalogue here.
-pub(super) const CHECK_OF_ZZ: &[u8] = b"POST /grpc.health.v1.Health/Check HTTP/1.1\r\n\
-    content-type: application/grpc-web+proto\r\n\
-    content-length: 9\r\n\
-    \r\n\
-    \x00\x00\x00\x00\x04\x0a\x02zz";
-
-/// A Watch of the empty name. Its head has 107 bytes.
-pub(super) const WATCH_OF_EMPTY: &[u8] = b"POST /grpc.health.v1.Health/Watch HTTP/1.1\r\n\
-    content-type: application/grpc-web+proto\r\n\
-    content-length: 5\r\n\
-    \r\n\
-    \x00\x00\x00\x00\x00";
-
-/// A Watch of `zz`. Its head has 107 bytes.
-pub(super) const WATCH_OF_ZZ: &[u8] = b"POST /grpc.health.v1.Health/Watch HTTP/1.1\r\n\
-    content-type: application/grpc-web+proto\r\n\
-    content-length: 9\r\n\
-    \r\n\
-    \x00\x00\x00\x00\x04\x0a\x02zz";
-
-/// A call of a method that is not served. Its head has 106 bytes.
-pub(super) const LIST: &[u8] = b"POST /grpc.health.v1.Health/List HTTP/1.1\r\n\
-    content-type: application/grpc-web+proto\r\n\
-    content-length: 5\r\n\
-    \r\n\
-    \x00\x00\x00\x00\x00";
-
-/// A Check without a content type.
-pub(super) const CHECK_WITHOUT_TYPE: &[u8] = b"POST /grpc.health.v1.Health/Check HTTP/1.1\r\n\
-    content-length: 5\r\n\
-    \r\n\
-    \x00\x00\x00\x00\x00";
-
 /// A request of this start line, these header lines and this body.
 pub(crate) fn request(
     alloc: Global,

@@ -1,12 +1,12 @@
-use crate::faulty::FaultyWriter;
 use crate::tests::bells::Turns;
 use crate::tests::doors::{Changing, Counted, catalogue, desk};
-use crate::tests::same::same;
 use crate::{DeskDoor, Door, ExchangeFault, Limits, Outcome, Tap, Turn, exchange};
 use desk_core::Setting;
+use std::alloc::Global;
 use std::fmt::Debug;
 use std::io::{Read, Write};
-use std::process::Abort;
+use std::test::Fail;
+use test_support::{FaultyWriter, same};
 
 /// How an exchange went.
 #[derive(Clone, Copy, Debug, PartialEq, Eq)]
@@ -38,7 +38,7 @@ impl Run {
 
 /// Makes one exchange through new taps, with a bell of these turns.
 pub(super) fn exchange_over<R: Read + Drop, W: Write + Drop, D: Door + Drop>(
-    rt: &(impl Abort + AllocGlobal),
+    alloc: Global,
     reader: R,
     writer: W,
     door: D,
@@ -47,12 +47,11 @@ pub(super) fn exchange_over<R: Read + Drop, W: Write + Drop, D: Door + Drop>(
 ) -> Run {
     let mut reader = Tap::new(reader);
     let mut writer = Tap::new(writer);
-    assert!(rt; !reader.failed() && !writer.failed());
     let mut door = Counted::new(door);
     let mut bell = Turns::new(turns);
     let limits = Limits { looks };
     let result = exchange(
-        rt.alloc(),
+        alloc,
         &mut reader,
         &mut writer,
         &mut door,
@@ -79,37 +78,42 @@ pub(super) struct Expected<'a> {
 
 /// Answers an input at a desk that stands still, on which the empty name was registered and set.
 pub(super) fn expect_answer<A: Debug>(
-    rt: &(impl Abort + AllocGlobal),
+    alloc: Global,
     input: &[u8],
     setting: Setting,
     turns: &[Turn],
     looks: u32,
     expected: &Expected,
     at: &A,
-) {
-    let catalogue = catalogue(rt);
-    let desk = desk(rt, setting);
+) -> Result<(), Fail> {
+    let catalogue = catalogue(alloc)?;
+    let desk = desk(alloc, setting)?;
     let mut rest = input;
-    let mut written = Vec::new(rt.alloc());
+    let mut written = Vec::new(alloc);
     let door = DeskDoor::new(&desk, &catalogue);
-    let run = exchange_over(rt, &mut rest, &mut written, door, turns, looks);
-    same(rt, &run, &expected.run, at);
-    same(rt, &written.as_slice(), &expected.written, at);
-    same(rt, &rest, &expected.rest, at);
+    let run = exchange_over(alloc, &mut rest, &mut written, door, turns, looks);
+    same(&run, &expected.run, at)?;
+    same(&written.as_slice(), &expected.written, at)?;
+    same(&rest, &expected.rest, at)
 }
 
-/// Answers a request at a door where the empty name is set before each step as a list says. Tells how many bytes of it
-/// were not read, too.
+/// What a Watch meets: what the empty name is set to before each step, the turns of the bell, and the most Looks.
+#[derive(Clone, Copy)]
+pub(super) struct Scene<'a> {
+    pub(super) settings: &'a [Option<Setting>],
+    pub(super) turns: &'a [Turn],
+    pub(super) looks: u32,
+}
+
+/// Answers a request whose empty name is serving at first.
 pub(super) fn answer_changing(
-    rt: &(impl Abort + AllocGlobal),
+    alloc: Global,
     input: &[u8],
-    settings: &[Option<Setting>],
-    turns: &[Turn],
+    scene: &Scene,
     writer: &mut FaultyWriter,
-) -> (Run, usize) {
-    let catalogue = catalogue(rt);
-    let door = Changing::new(desk(rt, Setting::Up), &catalogue, settings);
-    let mut rest = input;
-    let run = exchange_over(rt, &mut rest, writer, door, turns, 10);
-    (run, rest.len())
+) -> Result<Run, Fail> {
+    let catalogue = catalogue(alloc)?;
+    let desk = desk(alloc, Setting::Up)?;
+    let door = Changing::new(desk, &catalogue, scene.settings);
+    Ok(exchange_over(alloc, input, writer, door, scene.turns, scene.looks))
 }

@@ -1,25 +1,34 @@
-use crate::tests::answers::{SERVING, UNSUPPORTED_MEDIA_TYPE, WATCH_OF_UNKNOWN};
+use crate::tests::answers::{
+    MALFORMED_REQUEST, SERVING, UNKNOWN_METHOD, UNKNOWN_SERVICE, UNSUPPORTED_MEDIA_TYPE,
+    WATCH_OF_UNKNOWN,
+};
 use crate::tests::doors::{catalogue, desk};
-use crate::tests::requests::{CHECK_OF_EMPTY, CHECK_WITHOUT_TYPE, WATCH_OF_ZZ};
 use crate::tests::runs::{Run, exchange_over};
 use crate::{DeskDoor, ExchangeFault, Turn, Why};
 use desk_core::{Catalogue, Desk, Setting};
 use probe_core::Manual;
-use scarce::Scarcity;
-use std::process::Abort;
+use std::alloc::Global;
+use std::test::Fail;
+use test_support::requests::{CHECK_OF_EMPTY, CHECK_OF_ZZ, CHECK_WITHOUT_TYPE, LIST, WATCH_OF_ZZ};
+use test_support::{Scarcity, same};
 
-/// Whether an exchange ended for want of memory, before it wrote or asked a bell.
-fn is_refused(run: Run, written: &[u8]) -> bool {
-    let fault = ExchangeFault {
-        why: Why::NoMemory,
-        frames: 0,
-    };
-    run.result == Err(fault)
-        && written.is_empty()
-        && run.waits == 0
-        && !run.read_failed
-        && !run.write_failed
+/// An exchange that found no memory after so many questions to its door, and asked no bell.
+fn starved(asked: u32) -> Run {
+    Run {
+        result: Err(ExchangeFault {
+            why: Why::NoMemory,
+            frames: 0,
+        }),
+        asked,
+        waits: 0,
+        looks: 0,
+        read_failed: false,
+        write_failed: false,
+    }
 }
+
+/// Where memory is wanting: how many bytes of the request are not read then, and how often the door was asked.
+type Want = (usize, u32);
 
 /// A request and its response, over a desk and its catalogue.
 #[derive(Clone, Copy)]
@@ -31,98 +40,106 @@ struct Case<'a> {
 }
 
 impl Case<'_> {
-    /// Answers the request, and tells how many bytes of it were not read where memory was wanting.
-    fn answer(self, rt: &(impl Abort + AllocGlobal), written: &mut Vec<u8>) -> Option<usize> {
+    /// Answers the request, and tells where memory was wanting.
+    fn answer(self, alloc: Global, written: &mut Vec<u8>) -> Result<Option<Want>, Fail> {
         written.clear();
         let mut rest = self.input;
         let door = DeskDoor::new(self.desk, self.catalogue);
         let turns = [Turn::Look, Turn::End];
-        let run = exchange_over(rt, &mut rest, &mut *written, door, &turns, 10);
+        let run = exchange_over(alloc, &mut rest, &mut *written, door, &turns, 10);
         if run.result.is_ok() {
-            assert!(rt; written.as_slice() == self.response);
-            return None;
+            same(&written.as_slice(), &self.response, &"a response")?;
+            return Ok(None);
         }
-        assert!(rt; is_refused(run, written));
-        Some(rest.len())
+        same(&run, &starved(run.asked), &rest.len())?;
+        same(&written.len(), &0, &rest.len())?;
+        Ok(Some((rest.len(), run.asked)))
     }
 
-    /// Answers the request with more and more memory left, and gathers how many bytes were not read where it was
-    /// wanting. It has to suffice at last.
+    /// Answers the request with more and more memory left, and gathers where it was wanting. It has to suffice at last.
     fn refuse(
         self,
-        rt: &(impl Abort + AllocGlobal),
+        alloc: Global,
         written: &mut Vec<u8>,
-        refused: &mut Vec<usize>,
-    ) {
-        let scarcity = Scarcity::new(rt.alloc(), 16_384)
-            .ok()
-            .expect(rt, "no memory");
+        wants: &mut Vec<Want>,
+    ) -> Result<(), Fail> {
+        let scarcity = Scarcity::with_small_room(alloc)?;
         let mut is_whole = false;
         for step in 0..900usize {
-            let filler = scarcity.leave(16 * step).ok().expect(rt, "no filler");
-            match self.answer(rt, written) {
-                Some(len) => assert!(rt; refused.push(len).is_ok()),
+            let filler = scarcity.leave_steps(step)?;
+            match self.answer(alloc, written)? {
+                Some(want) => wants.push(want)?,
                 None => is_whole = true,
             }
             drop(filler);
         }
-        assert!(rt; is_whole);
+        drop(scarcity);
+        same(&is_whole, &true, &"the most memory")
     }
 }
 
-/// Memory has to be wanting at each of these lengths, and at no other.
-fn expect_lengths(rt: &impl Abort, refused: &[usize], wanting: &[usize]) {
-    for len in wanting {
-        assert!(rt; refused.contains(len), "with {len} bytes not read");
+/// Memory has to be wanting here, at each of these places and nowhere else.
+fn expect_wants(wants: &[Want], expected: &[Want]) -> Result<(), Fail> {
+    for want in expected {
+        same(&wants.contains(want), &true, want)?;
     }
-    assert!(rt; refused.iter().all(|len| wanting.contains(len)));
+    for want in wants {
+        same(&expected.contains(want), &true, want)?;
+    }
+    Ok(())
 }
 
-/// Answers a request with more and more memory left. Memory has to be wanting at each of these lengths of input that is
-/// not read, and at no other.
+/// Answers a request with more and more memory left.
 fn refuse_each_growth(
-    rt: &(impl Abort + AllocGlobal),
+    alloc: Global,
     input: &[u8],
     response: &[u8],
-    wanting: &[usize],
-) {
-    let catalogue = catalogue(rt);
-    let desk = desk(rt, Setting::Up);
-    let mut written = Vec::with_capacity(rt.alloc(), 1_024)
-        .ok()
-        .expect(rt, "a response");
-    let mut refused = Vec::with_capacity(rt.alloc(), 1_024)
-        .ok()
-        .expect(rt, "lengths");
+    expected: &[Want],
+) -> Result<(), Fail> {
+    let catalogue = catalogue(alloc)?;
+    let desk = desk(alloc, Setting::Up)?;
+    let mut written = Vec::with_capacity(alloc, 1_024)?;
+    let mut wants = Vec::with_capacity(alloc, 1_024)?;
     let case = Case {
         desk: &desk,
         catalogue: &catalogue,
         input,
         response,
     };
-    case.refuse(rt, &mut written, &mut refused);
-    expect_lengths(rt, &refused, wanting);
+    case.refuse(alloc, &mut written, &mut wants)?;
+    expect_wants(&wants, expected)
 }
 
-#[test]
-fn refuses_each_growth_of_a_check(rt: HostRuntime) {
-    // of the head, of the body, and of the response
-    refuse_each_growth(&rt, CHECK_OF_EMPTY, SERVING, &[CHECK_OF_EMPTY.len(), 5, 0]);
-}
+/// A Check of a body of one byte.
+const MALFORMED_CHECK: &[u8] = b"POST /grpc.health.v1.Health/Check HTTP/1.1\r\n\
+    content-type: application/grpc-web+proto\r\n\
+    content-length: 1\r\n\
+    \r\n\
+    \x00";
 
-#[test]
-fn refuses_each_growth_of_a_refusal(rt: HostRuntime) {
-    // of the head, and of the response
-    refuse_each_growth(
-        &rt,
+/// Requests and their responses. Memory is wanted for the head, before anything is read, for the body, of which nothing
+/// is read then, and for the response; a Watch takes none for its response.
+const CASES: [(&[u8], &[u8], &[Want]); 6] = [
+    (CHECK_OF_EMPTY, SERVING, &[(112, 0), (5, 0), (0, 1)]),
+    (CHECK_OF_ZZ, UNKNOWN_SERVICE, &[(116, 0), (9, 0), (0, 1)]),
+    (
         CHECK_WITHOUT_TYPE,
         UNSUPPORTED_MEDIA_TYPE,
-        &[CHECK_WITHOUT_TYPE.len(), 5],
-    );
-}
+        &[(70, 0), (5, 0)],
+    ),
+    (LIST, UNKNOWN_METHOD, &[(111, 0), (5, 0)]),
+    (
+        MALFORMED_CHECK,
+        MALFORMED_REQUEST,
+        &[(108, 0), (1, 0), (0, 0)],
+    ),
+    (WATCH_OF_ZZ, WATCH_OF_UNKNOWN, &[(116, 0), (9, 0)]),
+];
 
 #[test]
-fn refuses_each_growth_of_a_watch(rt: HostRuntime) {
-    // of the head, and of the body
-    refuse_each_growth(&rt, WATCH_OF_ZZ, WATCH_OF_UNKNOWN, &[WATCH_OF_ZZ.len(), 9]);
+fn refuses_each_growth_of_an_exchange(rt: HostRuntime) -> Result<(), Fail> {
+    for (input, response, expected) in CASES {
+        refuse_each_growth(rt.alloc(), input, response, expected)?;
+    }
+    Ok(())
 }

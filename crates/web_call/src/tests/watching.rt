@@ -1,11 +1,11 @@
-use crate::faulty::{Fault, FaultyWriter};
 use crate::tests::answers::{WATCH_OF_CHANGES, WATCH_OF_UNKNOWN};
-use crate::tests::requests::{WATCH_OF_EMPTY, WATCH_OF_ZZ};
-use crate::tests::runs::{Expected, Run, answer_changing, expect_answer};
-use crate::tests::same::same;
+use crate::tests::runs::{Expected, Run, Scene, answer_changing, expect_answer};
 use crate::{Outcome, Turn};
 use desk_core::Setting;
-use std::process::Abort;
+use std::alloc::Global;
+use std::test::Fail;
+use test_support::requests::{WATCH_OF_EMPTY, WATCH_OF_ZZ};
+use test_support::{Fault, FaultyWriter, same};
 
 const LOOK: Turn = Turn::Look;
 
@@ -40,35 +40,26 @@ const ENDS: [(&[Turn], u32, u32, u32); 9] = [
 ];
 
 fn expect_watch(
-    rt: &(impl Abort + AllocGlobal),
+    alloc: Global,
     input: &[u8],
     turns: &[Turn],
     limit: u32,
     run: Run,
     rest: &[u8],
-) {
-    let expected = Expected {
-        run,
-        written: WATCH_OF_UNKNOWN,
-        rest,
-    };
-    expect_answer(
-        rt,
-        input,
-        Setting::Up,
-        turns,
-        limit,
-        &expected,
-        &(turns, limit),
-    );
+) -> Result<(), Fail> {
+    let written = WATCH_OF_UNKNOWN;
+    let expected = Expected { run, written, rest };
+    let at = (turns, limit);
+    expect_answer(alloc, input, Setting::Up, turns, limit, &expected, &at)
 }
 
 #[test]
-fn a_watch_ends_with_its_bell_or_at_its_limit(rt: HostRuntime) {
-    for (turns, limit, waits, looks) in &ENDS {
-        let run = watched(1, *waits, *looks);
-        expect_watch(&rt, WATCH_OF_ZZ, *turns, *limit, run, b"");
+fn a_watch_ends_with_its_bell_or_at_its_limit(rt: HostRuntime) -> Result<(), Fail> {
+    for (turns, limit, waits, looks) in ENDS {
+        let run = watched(1, waits, looks);
+        expect_watch(rt.alloc(), WATCH_OF_ZZ, turns, limit, run, b"")?;
     }
+    Ok(())
 }
 
 const DOWN: Option<Setting> = Some(Setting::Down);
@@ -88,22 +79,28 @@ const CHANGES: [(&[Option<Setting>], &[Turn], u32, u32); 4] = [
 ];
 
 fn expect_changes(
-    rt: &(impl Abort + AllocGlobal),
+    alloc: Global,
     settings: &[Option<Setting>],
     turns: &[Turn],
     expected: Run,
-) {
-    let mut writer = FaultyWriter::new(rt.alloc(), 1_000, 0, Fault::Nothing);
-    let run = answer_changing(rt, WATCH_OF_EMPTY, settings, turns, &mut writer);
-    same(rt, &run, &(expected, 0), &settings);
-    same(rt, &writer.written(), &WATCH_OF_CHANGES, &settings);
+) -> Result<(), Fail> {
+    let mut writer = FaultyWriter::new(alloc, 1_000, 0, Fault::Nothing);
+    let scene = Scene {
+        settings,
+        turns,
+        looks: 10,
+    };
+    let run = answer_changing(alloc, WATCH_OF_EMPTY, &scene, &mut writer)?;
+    same(&run, &expected, &settings)?;
+    same(&writer.written(), &WATCH_OF_CHANGES, &settings)
 }
 
 #[test]
-fn a_watch_tells_each_change_once_and_in_order(rt: HostRuntime) {
-    for (settings, turns, waits, looks) in &CHANGES {
-        expect_changes(&rt, *settings, *turns, watched(3, *waits, *looks));
+fn a_watch_tells_each_change_once_and_in_order(rt: HostRuntime) -> Result<(), Fail> {
+    for (settings, turns, waits, looks) in CHANGES {
+        expect_changes(rt.alloc(), settings, turns, watched(3, waits, looks))?;
     }
+    Ok(())
 }
 
 /// A Watch of `zz`, with bytes behind it.
@@ -114,13 +111,7 @@ const WATCH_AND_MORE: &[u8] = b"POST /grpc.health.v1.Health/Watch HTTP/1.1\r\n\
     \x00\x00\x00\x00\x04\x0a\x02zzmore";
 
 #[test]
-fn a_watch_leaves_what_stands_behind_its_request_unread(rt: HostRuntime) {
-    expect_watch(
-        &rt,
-        WATCH_AND_MORE,
-        &[LOOK, END],
-        10,
-        watched(1, 2, 1),
-        b"more",
-    );
+fn a_watch_leaves_what_stands_behind_its_request_unread(rt: HostRuntime) -> Result<(), Fail> {
+    let run = watched(1, 2, 1);
+    expect_watch(rt.alloc(), WATCH_AND_MORE, &[LOOK, END], 10, run, b"more")
 }

@@ -1,74 +1,71 @@
-use super::{SERVING, UNKNOWN_SERVICE};
-use crate::{check_body, check_text, refuse_text, status_text};
-use grpc_frame::Code;
-use health_wire::Serving;
-use scarce::Scarcity;
+use super::*;
+use crate::{check_body, status_body};
 use std::alloc::{AllocError, Global};
-use std::process::Abort;
+use test_support::Scarcity;
 
-#[derive(Clone, Copy)]
+#[derive(Clone, Copy, Debug)]
 enum Call {
-    Refuse,
+    Refusal,
     Status,
+    StatusBody,
     Check,
-    Body,
+    CheckBody,
 }
 
 impl Call {
     fn make(self, alloc: Global) -> Result<Vec<u8>, AllocError> {
         match self {
-            Call::Refuse => refuse_text(alloc, 411),
+            Call::Refusal => refuse_text(alloc, 411),
             Call::Status => status_text(alloc, Code::NotFound, "unknown service"),
+            Call::StatusBody => status_body(alloc, Code::NotFound, "unknown service"),
             Call::Check => check_text(alloc, Some(Serving::Serving)),
-            Call::Body => check_body(alloc, Some(Serving::Serving)),
+            Call::CheckBody => check_body(alloc, Some(Serving::Serving)),
         }
     }
 }
 
-/// Makes a call, and tells whether memory sufficed for the whole text.
-fn is_whole(rt: &(impl Abort + AllocGlobal), call: Call, expected: &[u8]) -> bool {
-    let Ok(text) = call.make(rt.alloc()) else {
-        return false;
-    };
-    assert!(rt; text.as_slice() == expected);
-    true
-}
+/// In how many steps the memory that is left grows: enough for each of the calls.
+const STEPS: usize = 128;
 
-/// Makes a call that grows so many times at least, with more and more memory left.
-fn refuse_each_growth(rt: &(impl Abort + AllocGlobal), call: Call, growths: u32, expected: &[u8]) {
-    let scarcity = Scarcity::new(rt.alloc(), 16_384)
-        .ok()
-        .expect(rt, "no memory");
-    let mut whole = 0u32;
-    for step in 0..128usize {
-        let filler = scarcity.leave(16 * step).ok().expect(rt, "no filler");
-        if is_whole(rt, call, expected) {
-            whole = whole.wrapping_add(1);
+/// Makes a call that grows so often at least, with more and more memory left. Each text that is made is whole.
+fn expect_refused(alloc: Global, call: Call, growths: usize, expected: &[u8]) -> Result<(), Fail> {
+    let scarcity = Scarcity::with_small_room(alloc)?;
+    let mut refused = 0usize;
+    for step in 0..STEPS {
+        let filler = scarcity.leave_steps(step)?;
+        match call.make(alloc) {
+            Ok(text) => same(&text.as_slice(), &expected, &call)?,
+            Err(_) => refused = refused.saturating_add(1),
         }
         drop(filler);
     }
-    assert!(rt; whole > 0 && whole <= 128u32.saturating_sub(growths));
+    let is_each_refused = growths <= refused && refused < STEPS;
+    same(&is_each_refused, &true, &(call, refused))
 }
 
 #[test]
-fn refuses_the_growth_of_a_refusal(rt: HostRuntime) {
-    let expected =
-        b"HTTP/1.1 411 Length Required\r\nconnection: close\r\ncontent-length: 0\r\n\r\n";
-    refuse_each_growth(&rt, Call::Refuse, 1, expected);
+fn refuses_the_growth_of_a_refusal(rt: HostRuntime) -> Result<(), Fail> {
+    expect_refused(rt.alloc(), Call::Refusal, 1, LENGTH_REQUIRED)
 }
 
 #[test]
-fn refuses_each_growth_of_a_status(rt: HostRuntime) {
-    refuse_each_growth(&rt, Call::Status, 4, UNKNOWN_SERVICE);
+fn refuses_each_growth_of_a_status(rt: HostRuntime) -> Result<(), Fail> {
+    expect_refused(rt.alloc(), Call::Status, 4, UNKNOWN_SERVICE)
 }
 
 #[test]
-fn refuses_each_growth_of_a_check(rt: HostRuntime) {
-    refuse_each_growth(&rt, Call::Check, 5, SERVING);
+fn refuses_the_growth_of_a_statuss_body(rt: HostRuntime) -> Result<(), Fail> {
+    let body = b"\x80\0\0\0\x2dgrpc-status:5\r\ngrpc-message:unknown service\r\n";
+    expect_refused(rt.alloc(), Call::StatusBody, 1, body)
 }
 
 #[test]
-fn refuses_each_growth_of_a_checks_body(rt: HostRuntime) {
-    let expected = b"\0\0\0\0\x02\x08\x01\x80\0\0\0\x0fgrpc-status:0\r\n";
-    refuse_each_growth(&rt, Call::Body, 2, expected);
+fn refuses_each_growth_of_a_check(rt: HostRuntime) -> Result<(), Fail> {
+    expect_refused(rt.alloc(), Call::Check, 5, SERVING)
+}
+
+#[test]
+fn refuses_each_growth_of_a_checks_body(rt: HostRuntime) -> Result<(), Fail> {
+    let body = b"\0\0\0\0\x02\x08\x01\x80\0\0\0\x0fgrpc-status:0\r\n";
+    expect_refused(rt.alloc(), Call::CheckBody, 2, body)
 }

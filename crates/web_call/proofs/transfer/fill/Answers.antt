@@ -1,6 +1,6 @@
 use Rattle.std.proofs.Common.{rules}
 use Rattle.web_call.proofs.Bytes.{Consumes-more, ConsumesFewer-filled, Keeps-none}
-use Rattle.web_call.proofs.tap.fill.Goals as goal
+use Rattle.web_call.proofs.transfer.fill.Goals as goal
 
 pub loop-filled-preserved : goal.loop-filled-preserved
 loop-filled-preserved g c =

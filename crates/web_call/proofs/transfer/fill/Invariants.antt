@@ -1,7 +1,7 @@
 use Rattle.std.proofs.Common.{◌-◌, length}
 use Rattle.web_call.specs.Tap.{tap_inner, tap_failed}
 use Rattle.web_call.proofs.Bytes.{IsFilled}
-use Rattle.web_call.proofs.tap.fill.Given as goal
+use Rattle.web_call.proofs.transfer.fill.Given as goal
 
 abbrev pub invariant-loop-filled : goal.invariant-loop-filled
 invariant-loop-filled g l =

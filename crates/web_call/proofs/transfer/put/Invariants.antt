@@ -1,7 +1,7 @@
 use Rattle.std.proofs.Common.{◌-◌, length}
 use Rattle.web_call.specs.Tap.{tap_inner, tap_failed}
 use Rattle.web_call.proofs.Bytes.{IsPut}
-use Rattle.web_call.proofs.tap.put.Given as goal
+use Rattle.web_call.proofs.transfer.put.Given as goal
 
 abbrev pub invariant-loop-taken : goal.invariant-loop-taken
 invariant-loop-taken g l =

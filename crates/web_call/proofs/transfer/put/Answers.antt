@@ -1,6 +1,6 @@
 use Rattle.std.proofs.Common.{rules}
 use Rattle.web_call.proofs.Bytes.{Appends-more}
-use Rattle.web_call.proofs.tap.put.Goals as goal
+use Rattle.web_call.proofs.transfer.put.Goals as goal
 
 pub loop-taken-preserved : goal.loop-taken-preserved
 loop-taken-preserved g c = record {
