@@ -7,12 +7,6 @@ use Rattle.hall.specs.declared.fault.HallFault.TheVariants.{NoSeats, TooManySeat
 abbrev pub hall_fault : ℕ → Option HallFault
 hall_fault seats = if seats == 0 then Some NoSeats else (if nat_lt 1024 seats then Some TooManySeats else None)
 
--- the number of a fault
-abbrev pub hall_fault_number : HallFault → ℕ
-hall_fault_number NoSeats = 1
-hall_fault_number TooManySeats = 2
-hall_fault_number NoMemory = 3
-
 -- the text of a fault
 abbrev pub hall_fault_text : HallFault → List ℕ
 hall_fault_text NoSeats = codes "a hall needs a seat"

@@ -12,14 +12,7 @@ pub enum HallFault {
 
 impl HallFault {
     ghost use Rattle.std.specs.Prelude.{◌≡◌};
-    ghost use Rattle.hall.specs.Fault.{hall_fault, hall_fault_number};
-
-    /// The number that programs print.
-    pub fn number(self) -> u8
-        ensures { result ≡ hall_fault_number self }
-    {
-        self as u8
-    }
+    ghost use Rattle.hall.specs.Fault.{hall_fault};
 
     pub(crate) fn of(seats: u16) -> Option<HallFault>
         ensures { result ≡ hall_fault seats }

@@ -10,6 +10,5 @@ mod memory;
 mod notes;
 mod races;
 mod rows;
-mod same;
 mod threads;
 mod watches;

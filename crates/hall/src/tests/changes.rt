@@ -1,67 +1,87 @@
-use crate::tests::halls::{Guest, boxed, list, one_seat};
-use crate::tests::rows::{Row, Step, expect_rows};
-use crate::tests::same::same;
+use crate::tests::halls::one_seat;
+use crate::tests::rows::{DONE, Found, Row, Step, wrong_of};
 use desk_core::{Finding, Refusal, Reply, Setting};
 use health_wire::Serving;
 use probe_core::{Probe, Rule, Threshold};
 use std::alloc::Global;
-use std::process::Abort;
 use std::sync::Wait;
+use std::test::Fail;
+use test_support::same;
 
-/// Goes through the rows with the seat 0 of a hall with one seat.
-fn expect_of_one_seat<R: Wait + Abort, P: Probe>(
+/// Goes through the rows with the seat of a hall with one seat.
+fn expect_of_one_seat<R: Wait, P: Probe>(
     rt: &R,
     alloc: Global,
     probes: Vec<P>,
     rows: &[Row],
-) {
-    let (hall, seat) = one_seat(rt, alloc, &["a", ""], 100);
-    same(rt, &seat.number(), &0, &"the number");
-    expect_rows(rt, &hall, &mut Guest { seat, probes }, rows);
+) -> Result<(), Fail> {
+    let (hall, mut guest) = one_seat(alloc, &["a", ""], probes)?;
+    let wrong = wrong_of(rt, &hall, &mut guest, rows);
+    same(&wrong, &None, &"the rows")
 }
 
-const DONE: Result<Reply, Refusal> = Ok(Reply::Done);
+const SERVING: Option<Serving> = Some(Serving::Serving);
+
+const NOT_SERVING: Option<Serving> = Some(Serving::NotServing);
 
 /// The first probe of `a` has a threshold of one, and the other one of two.
 static CHANGES: [Row; 14] = [
-    Row::Register("a", DONE, None),
-    Row::Change(Step::Observe("a", Finding::Fail), DONE),
-    Row::Check("a", 2, Some(Serving::NotServing)),
-    Row::Change(Step::Resume, DONE),
-    Row::Check("a", 3, Some(Serving::Serving)),
-    Row::Change(Step::Shutdown, DONE),
-    Row::Check("a", 4, Some(Serving::NotServing)),
-    Row::Change(Step::Set("a", Setting::Up), Ok(Reply::WrongKind)),
-    Row::Change(Step::Resume, DONE),
-    Row::Show("a", Serving::Serving),
-    Row::Register("a", Ok(Reply::Replaced), Some(Rule::Threshold(1))),
-    Row::Retire("a", DONE, Some(Rule::Threshold(2))),
-    Row::Check("a", 8, None),
-    Row::Made(8),
+    (Step::Register("a"), DONE),
+    (Step::Observe("a", Finding::Fail), DONE),
+    (Step::Check("a"), Found::Check(2, NOT_SERVING)),
+    (Step::Resume, DONE),
+    (Step::Check("a"), Found::Check(3, SERVING)),
+    (Step::Shutdown, DONE),
+    (Step::Check("a"), Found::Check(4, NOT_SERVING)),
+    (
+        Step::Set("a", Setting::Up),
+        Found::Change(Ok(Reply::WrongKind), None),
+    ),
+    (Step::Resume, DONE),
+    (Step::Check("a"), Found::Check(6, SERVING)),
+    (
+        Step::Register("a"),
+        Found::Change(Ok(Reply::Replaced), Some((Rule::Threshold(1), true))),
+    ),
+    (
+        Step::Retire("a"),
+        Found::Change(Ok(Reply::Done), Some((Rule::Threshold(2), true))),
+    ),
+    (Step::Check("a"), Found::Check(8, None)),
+    (Step::Made, Found::Made(8)),
 ];
 
 #[test]
-fn makes_each_change(rt: HostRuntime) {
+fn makes_each_change(rt: HostRuntime) -> Result<(), Fail> {
     let alloc = rt.alloc();
-    let probe: Box<dyn Probe + Send> = boxed(&rt, alloc, Threshold::new(1));
-    let other: Box<dyn Probe + Send> = boxed(&rt, alloc, Threshold::new(2));
-    expect_of_one_seat(&rt, alloc, list(&rt, alloc, [other, probe]), &CHANGES);
+    let probe: Box<dyn Probe + Send> = Box::new(alloc, Threshold::new(1))?;
+    let other: Box<dyn Probe + Send> = Box::new(alloc, Threshold::new(2))?;
+    let probes = Vec::from_array(alloc, [other, probe])?;
+    expect_of_one_seat(&rt, alloc, probes, &CHANGES)
 }
 
-const NOT_LISTED: Result<Reply, Refusal> = Err(Refusal::NotListed);
+const NOT_LISTED: Found = Found::Change(Err(Refusal::NotListed), None);
 
 static NAME_NOT_LISTED: [Row; 6] = [
-    Row::Register("zz", NOT_LISTED, Some(Rule::Threshold(0))),
-    Row::Change(Step::Observe("zz", Finding::Fail), NOT_LISTED),
-    Row::Change(Step::Set("zz", Setting::Down), NOT_LISTED),
-    Row::Retire("zz", NOT_LISTED, None),
-    Row::Check("zz", 0, None),
-    Row::Made(0),
+    (
+        Step::Register("zz"),
+        Found::Change(Err(Refusal::NotListed), Some((Rule::Threshold(0), false))),
+    ),
+    (Step::Observe("zz", Finding::Fail), NOT_LISTED),
+    (Step::Set("zz", Setting::Down), NOT_LISTED),
+    (Step::Retire("zz"), NOT_LISTED),
+    (Step::Check("zz"), Found::Check(0, None)),
+    (Step::Made, Found::Made(0)),
 ];
 
 #[test]
-fn refuses_a_name_that_is_not_listed(rt: HostRuntime) {
+fn refuses_a_name_that_is_not_listed(rt: HostRuntime) -> Result<(), Fail> {
     let alloc = rt.alloc();
-    let probe: Box<dyn Probe + Send> = boxed(&rt, alloc, Threshold::new(0));
-    expect_of_one_seat(&rt, alloc, list(&rt, alloc, [probe]), &NAME_NOT_LISTED);
+    let probe: Box<dyn Probe + Send> = Box::new(alloc, Threshold::new(0))?;
+    expect_of_one_seat(
+        &rt,
+        alloc,
+        Vec::from_array(alloc, [probe])?,
+        &NAME_NOT_LISTED,
+    )
 }

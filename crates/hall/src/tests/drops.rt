@@ -1,18 +1,14 @@
-ghost use Rattle.hall.specs.Seats.{IsOf};
-
-use crate::Hall;
-use crate::tests::halls::{Guest, close, list, two_seats};
-use crate::tests::rows::{Row, answer_of, retired_answer};
-use crate::tests::same::same;
-use crate::tests::threads::{Task, Visit, in_two_threads};
+use crate::tests::halls::Probes;
+use crate::tests::races::{Race, closed_after};
+use crate::tests::rows::{DONE, Found, Row, Step};
 use desk_core::{Refusal, Reply};
+use probe_core::Rule;
 use probe_core::tracked::Tracked;
-use probe_core::{Probe, Rule};
-use std::alloc::Global;
-use std::process::Abort;
+use std::alloc::{AllocError, Global};
+use std::sync::Arc;
 use std::sync::atomic::{AtomicU64, Ordering};
-use std::sync::{Arc, Wait};
-use std::thread::Threads;
+use std::test::Fail;
+use test_support::same;
 
 /// The counters of four probes, each of which leaves the hall in another way, and adds one to its own when it is dropped.
 #[derive(Drop)]
@@ -23,166 +19,102 @@ pub(super) struct Counters {
     refused: Arc<AtomicU64>,
 }
 
-fn counter(rt: &impl Abort, alloc: Global) -> Arc<AtomicU64> {
-    Arc::new(alloc, AtomicU64::new(0))
-        .ok()
-        .expect(rt, "a counter")
-}
-
-fn tracked(rt: &impl Abort, counter: &Arc<AtomicU64>) -> Tracked {
-    Tracked::new(counter.clone().ok().expect(rt, "a counter"))
-}
-
 impl Counters {
-    fn new(rt: &impl Abort, alloc: Global) -> Counters {
-        Counters {
-            replaced: counter(rt, alloc),
-            retired: counter(rt, alloc),
-            closed: counter(rt, alloc),
-            refused: counter(rt, alloc),
-        }
+    fn new(alloc: Global) -> Result<Counters, AllocError> {
+        Ok(Counters {
+            replaced: Arc::new(alloc, AtomicU64::new(0))?,
+            retired: Arc::new(alloc, AtomicU64::new(0))?,
+            closed: Arc::new(alloc, AtomicU64::new(0))?,
+            refused: Arc::new(alloc, AtomicU64::new(0))?,
+        })
+    }
+
+    fn again(&self) -> Result<Counters, AllocError> {
+        Ok(Counters {
+            replaced: self.replaced.clone()?,
+            retired: self.retired.clone()?,
+            closed: self.closed.clone()?,
+            refused: self.refused.clone()?,
+        })
     }
 
     /// The four probes, the first of them last.
-    fn probes(&self, rt: &impl Abort, alloc: Global) -> Vec<Tracked> {
-        let probes = [
-            tracked(rt, &self.refused),
-            tracked(rt, &self.closed),
-            tracked(rt, &self.retired),
-            tracked(rt, &self.replaced),
-        ];
-        list(rt, alloc, probes)
+    fn probes(self, alloc: Global) -> Result<Vec<Tracked>, AllocError> {
+        let mut probes = Vec::with_capacity(alloc, 4)?;
+        probes.push(Tracked::new(self.refused))?;
+        probes.push(Tracked::new(self.closed))?;
+        probes.push(Tracked::new(self.retired))?;
+        probes.push(Tracked::new(self.replaced))?;
+        Ok(probes)
     }
 
-    fn expect(&self, rt: &impl Abort, expected: [u64; 4]) {
-        let drops = [
+    pub(super) fn drops(&self) -> [u64; 4] {
+        [
             self.replaced.load(Ordering::SeqCst),
             self.retired.load(Ordering::SeqCst),
             self.closed.load(Ordering::SeqCst),
             self.refused.load(Ordering::SeqCst),
-        ];
-        same(rt, &drops, &expected, &"the counters");
-    }
-
-    /// Drops what is held. So many probes were dropped before that, and so many after it.
-    fn expect_held<T: Drop>(&self, rt: &impl Abort, held: T, before: [u64; 4], after: [u64; 4]) {
-        self.expect(rt, before);
-        drop(held);
-        self.expect(rt, after);
+        ]
     }
 }
 
-/// What is answered to a probe that is handed in, and the rule of the probe that comes back. So many were dropped before that
-/// one is, and so many after it.
-struct Held {
-    answer: Result<Reply, Refusal>,
-    rule: Option<Rule>,
-    before: [u64; 4],
-    after: [u64; 4],
-}
+const MANUAL: Option<(Rule, bool)> = Some((Rule::Manual, true));
 
-/// Hands the next probe in under a name, and drops what comes back.
-fn hand_in<R: Wait + Abort, P: Probe>(
-    rt: &R,
-    hall: &Hall<P>,
-    guest: &mut Guest<P>,
-    name: &str,
-    counters: &Counters,
-    held: &Held,
-)
-    requires { IsOf hall.now guest.old.seat }
-    ensures { IsOf hall.now guest.new.seat }
-{
-    let probe = guest.probes.pop().expect(rt, "a probe");
-    let result = hall.register(rt, &mut guest.seat, name, probe);
-    same(rt, &answer_of(&result), &(held.answer, held.rule), &name);
-    counters.expect_held(rt, result, held.before, held.after);
-}
+/// Puts a probe in the place of another and retires it too.
+const REPLACED_AND_RETIRED: &[Row] = &[
+    (
+        Step::Register("a"),
+        Found::Change(Ok(Reply::Replaced), MANUAL),
+    ),
+    (Step::Drops, Found::Drops([0, 0, 0, 0])),
+    (Step::LetGo, Found::Nothing),
+    (Step::Drops, Found::Drops([1, 0, 0, 0])),
+    (Step::Retire("a"), Found::Change(Ok(Reply::Done), MANUAL)),
+    (Step::Drops, Found::Drops([1, 0, 0, 0])),
+    (Step::LetGo, Found::Nothing),
+    (Step::Drops, Found::Drops([1, 1, 0, 0])),
+];
 
-static FIRST: Held = Held {
-    answer: Ok(Reply::Done),
-    rule: None,
-    before: [0, 0, 0, 0],
-    after: [0, 0, 0, 0],
+/// One that is refused too, and one that stays.
+const REFUSED: &[Row] = &[
+    (Step::Register("a"), DONE),
+    (
+        Step::Register("zz"),
+        Found::Change(Err(Refusal::NotListed), MANUAL),
+    ),
+    (Step::Drops, Found::Drops([1, 1, 0, 0])),
+    (Step::LetGo, Found::Nothing),
+    (Step::Drops, Found::Drops([1, 1, 0, 1])),
+];
+
+static BESIDE_CHECKS: Race = Race {
+    names: &["a", ""],
+    max_entries: 100,
+    before: &[
+        (Step::Register("a"), DONE),
+        (Step::Drops, Found::Drops([0, 0, 0, 0])),
+    ],
+    threads: (
+        REPLACED_AND_RETIRED,
+        &[(Step::IsGoneFrom("a", 3), Found::Is(true))],
+    ),
+    counts: (8, 10_000),
+    after: (REFUSED, &[]),
+    entries: 4,
 };
 
-static REPLACED: Held = Held {
-    answer: Ok(Reply::Replaced),
-    rule: Some(Rule::Manual),
-    before: [0, 0, 0, 0],
-    after: [1, 0, 0, 0],
-};
-
-/// Hands a probe in, in the place of another, retires it too, and drops both.
-pub(super) fn replace_and_retire<R: Wait + Abort, P: Probe>(
-    rt: &R,
-    hall: &Hall<P>,
-    guest: &mut Guest<P>,
-    counters: &Counters,
-)
-    requires { IsOf hall.now guest.old.seat }
-    ensures { IsOf hall.now guest.new.seat }
-{
-    hand_in(rt, hall, guest, "a", counters, &REPLACED);
-    let result = hall.retire(rt, &mut guest.seat, "a");
-    let expected = (Ok(Reply::Done), Some(Rule::Manual));
-    same(rt, &retired_answer(&result), &expected, &"the retired");
-    counters.expect_held(rt, result, [1, 0, 0, 0], [1, 1, 0, 0]);
-}
-
-static AFTER_THE_RETIRED: Held = Held {
-    answer: Ok(Reply::Done),
-    rule: None,
-    before: [1, 1, 0, 0],
-    after: [1, 1, 0, 0],
-};
-
-/// The name is not listed.
-static REFUSED: Held = Held {
-    answer: Err(Refusal::NotListed),
-    rule: Some(Rule::Manual),
-    before: [1, 1, 0, 0],
-    after: [1, 1, 0, 1],
-};
-
-static CHECK: [Row; 1] = [Row::Between("a", 0, 100)];
-
-fn replace_beside_checks<R: Wait + Threads + Abort + Sync, P: Probe + Send>(
-    rt: &R,
-    hall: &Hall<P>,
-    first: Guest<P>,
-    second: Guest<P>,
-    counters: &Counters,
-) -> (Guest<P>, Guest<P>)
-    requires first { IsOf hall.now first.seat }
-    requires second { IsOf hall.now second.seat }
-    ensures first { IsOf hall.now result.0.seat }
-    ensures second { IsOf hall.now result.1.seat }
-{
-    let first = Visit {
-        guest: first,
-        heard: None,
-        task: Task::Replace(counters),
-    };
-    let second = Visit {
-        guest: second,
-        heard: None,
-        task: Task::Rows(10_000, &CHECK),
-    };
-    let (first, second) = in_two_threads(rt, hall, first, second);
-    (first.0, second.0)
-}
-
+/// `retire_makes_its_own_box`: one that answered a probe of its own making would drop the registered one here.
 #[test]
-fn drops_no_probe_but_with_what_it_gave_out(rt: HostRuntime) {
+fn drops_no_probe_but_with_what_it_gave_out(rt: HostRuntime) -> Result<(), Fail> {
     let alloc = rt.alloc();
-    let counters = Counters::new(&rt, alloc);
-    let probes = (counters.probes(&rt, alloc), Vec::new(alloc));
-    let (hall, mut first, second) = two_seats(&rt, alloc, &["a", ""], 100, probes);
-    hand_in(&rt, &hall, &mut first, "a", &counters, &FIRST);
-    let (mut first, second) = replace_beside_checks(&rt, &hall, first, second, &counters);
-    hand_in(&rt, &hall, &mut first, "a", &counters, &AFTER_THE_RETIRED);
-    hand_in(&rt, &hall, &mut first, "zz", &counters, &REFUSED);
-    let left = close(&rt, alloc, hall, first.seat, second.seat);
-    counters.expect_held(&rt, left, [1, 1, 0, 1], [1, 1, 1, 1]);
+    let counters = Counters::new(alloc)?;
+    let probes = Probes {
+        first: counters.again()?.probes(alloc)?,
+        second: Vec::new(alloc),
+        counters: Some(counters.again()?),
+    };
+    let closed = closed_after(&rt, alloc, &BESIDE_CHECKS, probes)?;
+    same(&counters.drops(), &[1, 1, 0, 1], &"closed")?;
+    drop(closed);
+    same(&counters.drops(), &[1, 1, 1, 1], &"dropped")
 }

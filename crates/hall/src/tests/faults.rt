@@ -1,10 +1,10 @@
 use crate::tests::halls::catalogue;
-use crate::tests::same::same;
 use crate::{Hall, HallFault, Seat};
 use desk_core::Catalogue;
 use probe_core::{Manual, Probe};
 use std::alloc::Global;
-use std::process::Abort;
+use std::test::Fail;
+use test_support::same;
 
 pub(super) fn fault_of<P: Probe>(alloc: Global, names: Catalogue, seats: u16) -> Option<HallFault> {
     let made: Result<(Hall<P>, Vec<Seat<P>>), HallFault> = Hall::new(alloc, names, 100, seats);
@@ -20,16 +20,12 @@ const NUMBERS_OF_SEATS: [(u16, Option<HallFault>); 5] = [
 ];
 
 #[test]
-fn refuses_no_seats_and_too_many(rt: HostRuntime) {
+fn refuses_no_seats_and_too_many(rt: HostRuntime) -> Result<(), Fail> {
     for (seats, fault) in &NUMBERS_OF_SEATS {
-        let names = catalogue(&rt, rt.alloc(), &["a", ""]);
-        same(
-            &rt,
-            &fault_of::<Manual>(rt.alloc(), names, *seats),
-            fault,
-            seats,
-        );
+        let names = catalogue(rt.alloc(), &["a", ""])?;
+        same(&fault_of::<Manual>(rt.alloc(), names, *seats), fault, seats)?;
     }
+    Ok(())
 }
 
 const FAULTS: [(HallFault, u8, &str); 3] = [
@@ -38,35 +34,24 @@ const FAULTS: [(HallFault, u8, &str); 3] = [
     (HallFault::NoMemory, 3, "out of memory"),
 ];
 
-fn expect_text(rt: &impl Abort, alloc: Global, fault: &HallFault, text: &str) {
-    let told = fault.to_string(alloc).ok().expect(rt, "a text");
-    same(rt, &told.as_str(), &text, &"the text");
+#[test]
+fn numbers_and_tells_each_fault(rt: HostRuntime) -> Result<(), Fail> {
+    for (fault, number, text) in &FAULTS {
+        same(&(*fault as u8), number, text)?;
+        same(&fault.to_string(rt.alloc())?.as_str(), text, number)?;
+    }
+    Ok(())
 }
 
 #[test]
-fn numbers_and_tells_each_fault(rt: HostRuntime) {
-    for (fault, number, text) in &FAULTS {
-        same(&rt, &fault.number(), number, text);
-        expect_text(&rt, rt.alloc(), fault, *text);
-    }
-}
-
-fn expect_numbers<P: Probe>(rt: &impl Abort, seats: &[Seat<P>]) {
+fn numbers_its_seats_in_order(rt: HostRuntime) -> Result<(), Fail> {
+    let alloc = rt.alloc();
+    let names = catalogue(alloc, &["a", ""])?;
+    let (_, seats): (Hall<Manual>, Vec<Seat<Manual>>) = Hall::new(alloc, names, 100, 1_024)?;
+    same(&seats.len(), &1_024, &"the seats")?;
     for (number, seat) in seats.iter().enumerate() {
         let found = (usize::from(seat.number()), seat.made());
-        same(rt, &found, &(number, 0), &"the seat");
+        same(&found, &(number, 0), &"the seat")?;
     }
-}
-
-fn number_seats<R: Abort, P: Probe>(rt: &R, alloc: Global) {
-    let names = catalogue(rt, alloc, &["a", ""]);
-    let made: Result<(Hall<P>, Vec<Seat<P>>), HallFault> = Hall::new(alloc, names, 100, 1_024);
-    let (_, seats) = made.ok().expect(rt, "a hall");
-    same(rt, &seats.len(), &1_024, &"the seats");
-    expect_numbers(rt, seats.as_slice());
-}
-
-#[test]
-fn numbers_its_seats_in_order(rt: HostRuntime) {
-    number_seats::<_, Manual>(&rt, rt.alloc());
+    Ok(())
 }

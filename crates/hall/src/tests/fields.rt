@@ -1,32 +1,30 @@
-use crate::tests::halls::one_seat;
-use crate::tests::same::same;
+use crate::tests::halls::{Guest, one_seat};
 use crate::{Hall, Note, Seat};
-use probe_core::{Manual, Probe};
-use std::alloc::Global;
-use std::process::Abort;
+use probe_core::Manual;
+use std::test::Fail;
+use test_support::same;
 
-/// Names every field, so that none can be added unseen to answer from.
-fn take_apart<R: Abort, P: Probe>(rt: &R, alloc: Global) {
-    let (hall, mut seat) = one_seat::<R, P>(rt, alloc, &["a", ""], 100);
-    let Note { place } = hall.note(&mut seat);
+/// `answers_from_last_look`: an answer from an earlier look would need a field to keep it in. Every field is named here, so
+/// that none can be added unseen.
+#[test]
+fn has_these_fields_alone(rt: HostRuntime) -> Result<(), Fail> {
+    let alloc = rt.alloc();
+    let probes: Vec<Manual> = Vec::new(alloc);
+    let (hall, mut guest) = one_seat(alloc, &["a", ""], probes)?;
+    let Note { place } = hall.note(&mut guest.seat);
     drop(place);
     let Seat {
         place,
         number,
         made,
-    } = seat;
+    } = guest.seat;
     drop(place);
-    same(rt, &(number, made), &(0, 0), &"the seat");
+    same(&(number, made), &(0, 0), &"the seat")?;
     let Hall {
         table,
         catalogue,
         seats,
     } = hall;
     drop(table);
-    same(rt, &(catalogue.len(), seats), &(2, 1), &"the hall");
-}
-
-#[test]
-fn has_these_fields_alone(rt: HostRuntime) {
-    take_apart::<_, Manual>(&rt, rt.alloc());
+    same(&(catalogue.len(), seats), &(2, 1), &"the hall")
 }

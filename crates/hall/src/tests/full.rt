@@ -1,27 +1,31 @@
-use crate::tests::halls::{boxed, list};
+use crate::tests::halls::Probes;
 use crate::tests::races::{Race, expect_race};
-use crate::tests::rows::{Row, Step};
-use desk_core::{Finding, Refusal, Reply, Setting};
+use crate::tests::rows::{DONE, Found, Row, Step};
+use desk_core::{Finding, Refusal, Setting};
 use health_wire::Serving;
 use probe_core::{Depends, Manual, Probe, Rule, Threshold};
+use std::test::Fail;
 
-const FULL: Result<Reply, Refusal> = Err(Refusal::Full);
+const FULL: Found = Found::Change(Err(Refusal::Full), None);
 
-const AT_THREE: Row = Row::Check("a", 3, Some(Serving::Serving));
+const AT_THREE: Row = (Step::Check("a"), Found::Check(3, Some(Serving::Serving)));
 
 /// A change of each kind at a full journal, and checks between them.
 const REFUSED: &[Row] = &[
-    Row::Register("b", FULL, Some(Rule::Manual)),
+    (
+        Step::Register("b"),
+        Found::Change(Err(Refusal::Full), Some((Rule::Manual, true))),
+    ),
     AT_THREE,
-    Row::Retire("a", FULL, None),
+    (Step::Retire("a"), FULL),
     AT_THREE,
-    Row::Change(Step::Observe("a", Finding::Fail), FULL),
+    (Step::Observe("a", Finding::Fail), FULL),
     AT_THREE,
-    Row::Change(Step::Set("b", Setting::Down), FULL),
+    (Step::Set("b", Setting::Down), FULL),
     AT_THREE,
-    Row::Change(Step::Shutdown, FULL),
+    (Step::Shutdown, FULL),
     AT_THREE,
-    Row::Change(Step::Resume, FULL),
+    (Step::Resume, FULL),
     AT_THREE,
 ];
 
@@ -29,28 +33,31 @@ static FULL_JOURNAL: Race = Race {
     names: &["a", "b", ""],
     max_entries: 3,
     before: &[
-        Row::Register("a", Ok(Reply::Done), None),
-        Row::Register("b", Ok(Reply::Done), None),
-        Row::Register("", Ok(Reply::Done), None),
+        (Step::Register("a"), DONE),
+        (Step::Register("b"), DONE),
+        (Step::Register(""), DONE),
     ],
     threads: (REFUSED, REFUSED),
-    times: 1,
-    after: (&[], &[]),
-    met: &[],
+    counts: (12, 12),
+    after: (
+        &[(Step::Made, Found::Made(3))],
+        &[(Step::Made, Found::Made(0))],
+    ),
     entries: 3,
 };
 
 #[test]
-fn refuses_changes_of_a_full_journal(rt: HostRuntime) {
+fn refuses_changes_of_a_full_journal(rt: HostRuntime) -> Result<(), Fail> {
     let alloc = rt.alloc();
-    let a: Box<dyn Probe + Send> = boxed(&rt, alloc, Threshold::new(2));
-    let b: Box<dyn Probe + Send> = boxed(&rt, alloc, Manual::new());
-    let all: Box<dyn Probe + Send> = boxed(&rt, alloc, Depends::new(3));
-    let one: Box<dyn Probe + Send> = boxed(&rt, alloc, Manual::new());
-    let other: Box<dyn Probe + Send> = boxed(&rt, alloc, Manual::new());
-    let probes = (
-        list(&rt, alloc, [one, all, b, a]),
-        list(&rt, alloc, [other]),
-    );
-    expect_race(&rt, alloc, &FULL_JOURNAL, probes);
+    let a: Box<dyn Probe + Send> = Box::new(alloc, Threshold::new(2))?;
+    let b: Box<dyn Probe + Send> = Box::new(alloc, Manual::new())?;
+    let all: Box<dyn Probe + Send> = Box::new(alloc, Depends::new(3))?;
+    let one: Box<dyn Probe + Send> = Box::new(alloc, Manual::new())?;
+    let other: Box<dyn Probe + Send> = Box::new(alloc, Manual::new())?;
+    let probes = Probes {
+        first: Vec::from_array(alloc, [one, all, b, a])?,
+        second: Vec::from_array(alloc, [other])?,
+        counters: None,
+    };
+    expect_race(&rt, alloc, &FULL_JOURNAL, probes)
 }

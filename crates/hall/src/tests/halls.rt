@@ -1,113 +1,99 @@
 //! Halls with their seats, as the tests begin and end with them.
 
-ghost use Rattle.std.specs.Prelude.{◌≡◌};
+ghost use Rattle.std.specs.Prelude.{IfOk};
 ghost use Rattle.hall.specs.Seats.{IsOf};
 
-use crate::tests::same::same;
-use crate::{Closed, Hall, Seat, Unclosed};
+use crate::tests::drops::Counters;
+use crate::{Closed, Hall, Seat};
 use desk_core::Catalogue;
 use probe_core::Probe;
 use std::alloc::Global;
-use std::process::Abort;
+use std::test::Fail;
 
-/// A seat, and the probes that it is to hand in, the next one last.
+/// A seat, and the probes that go with it.
 #[derive(Drop)]
 pub(super) struct Guest<P: Probe> {
     pub(super) seat: Seat<P>,
+    /// Those that it is to hand in, the next one last.
     pub(super) probes: Vec<P>,
+    /// The one that came back last.
+    pub(super) held: Option<P>,
+    /// What counts the drops of them, if something does.
+    pub(super) counters: Option<Counters>,
 }
 
-pub(super) fn boxed<P: Probe>(rt: &impl Abort, alloc: Global, probe: P) -> Box<P> {
-    Box::new(alloc, probe).ok().expect(rt, "a box")
+/// The probes of two seats, the next ones last, and what counts the drops of those of the first.
+#[derive(Drop)]
+pub(super) struct Probes<P: Probe> {
+    pub(super) first: Vec<P>,
+    pub(super) second: Vec<P>,
+    pub(super) counters: Option<Counters>,
 }
 
-pub(super) fn list<T: Drop, const N: usize>(rt: &impl Abort, alloc: Global, items: [T; N]) -> Vec<T>
-    ensures { result.items ≡ items }
-{
-    Vec::from_array(alloc, items).ok().expect(rt, "a list")
-}
-
-pub(super) fn catalogue(rt: &impl Abort, alloc: Global, names: &[&str]) -> Catalogue {
+pub(super) fn catalogue(alloc: Global, names: &[&str]) -> Result<Catalogue, Fail> {
     let mut listed = Vec::new(alloc);
     for name in names {
-        let name = String::from_str(alloc, name).ok().expect(rt, "a name");
-        assert!(rt; listed.push(name).is_ok());
+        listed.push(String::from_str(alloc, name)?)?;
     }
-    Catalogue::new(alloc, listed).ok().expect(rt, "a catalogue")
+    Ok(Catalogue::new(alloc, listed)?)
 }
 
-pub(super) fn one_seat<R: Abort, P: Probe>(
-    rt: &R,
+/// A hall of one seat, which has these probes.
+pub(super) fn one_seat<P: Probe>(
     alloc: Global,
     names: &[&str],
-    max_entries: u32,
-) -> (Hall<P>, Seat<P>)
-    ensures { IsOf result.0 result.1 }
+    probes: Vec<P>,
+) -> Result<(Hall<P>, Guest<P>), Fail>
+    ensures { IfOk result (λ made. IsOf made.0 made.1.seat) }
 {
-    let names = catalogue(rt, alloc, names);
-    let made = Hall::new(alloc, names, max_entries, 1);
-    let (hall, mut seats) = made.ok().expect(rt, "a hall");
-    let seat = seats.pop().expect(rt, "a seat");
-    (hall, seat)
-}
-
-/// A hall with its seats in the order of their numbers, and the probes for each.
-pub(super) fn two_seats<R: Abort, P: Probe>(
-    rt: &R,
-    alloc: Global,
-    names: &[&str],
-    max_entries: u32,
-    probes: (Vec<P>, Vec<P>),
-) -> (Hall<P>, Guest<P>, Guest<P>)
-    ensures first { IsOf result.0 result.1.seat }
-    ensures second { IsOf result.0 result.2.seat }
-{
-    let names = catalogue(rt, alloc, names);
-    let made = Hall::new(alloc, names, max_entries, 2);
-    let (hall, mut seats) = made.ok().expect(rt, "a hall");
-    let second = seats.pop().expect(rt, "a second seat");
-    let first = seats.pop().expect(rt, "a first seat");
-    let (one, other) = probes;
-    let first = Guest {
-        seat: first,
-        probes: one,
+    let (hall, mut seats) = Hall::new(alloc, catalogue(alloc, names)?, 100, 1)?;
+    let guest = Guest {
+        seat: seats.pop().unwrap(),
+        probes,
+        held: None,
+        counters: None,
     };
+    Ok((hall, guest))
+}
+
+/// A hall with its two seats in the order of their numbers.
+pub(super) fn two_seats<P: Probe>(
+    alloc: Global,
+    names: &[&str],
+    max_entries: u32,
+    probes: Probes<P>,
+) -> Result<(Hall<P>, Guest<P>, Guest<P>), Fail>
+    ensures first { IfOk result (λ made. IsOf made.0 made.1.seat) }
+    ensures second { IfOk result (λ made. IsOf made.0 made.2.seat) }
+{
+    let (hall, mut seats) = Hall::new(alloc, catalogue(alloc, names)?, max_entries, 2)?;
     let second = Guest {
-        seat: second,
-        probes: other,
+        seat: seats.pop().unwrap(),
+        probes: probes.second,
+        held: None,
+        counters: None,
     };
-    (hall, first, second)
+    let first = Guest {
+        seat: seats.pop().unwrap(),
+        probes: probes.first,
+        held: None,
+        counters: probes.counters,
+    };
+    Ok((hall, first, second))
 }
 
 /// Closes a hall with both its seats.
-pub(super) fn close<R: Abort, P: Probe>(
-    rt: &R,
+pub(super) fn close<P: Probe>(
     alloc: Global,
     hall: Hall<P>,
     first: Seat<P>,
     second: Seat<P>,
-) -> Closed<P>
+) -> Result<Closed<P>, Fail>
     requires first { IsOf hall first }
     requires second { IsOf hall second }
 {
-    let seats = list(rt, alloc, [first, second]);
-    hall.close(seats).ok().expect(rt, "all seats are there")
-}
-
-/// Closes a hall of two seats with one of them, which is refused, and gives both back.
-pub(super) fn close_too_early<R: Abort, P: Probe>(
-    rt: &R,
-    alloc: Global,
-    hall: Hall<P>,
-    seat: Seat<P>,
-) -> (Hall<P>, Seat<P>)
-    requires { IsOf hall seat }
-    ensures hall { result.0 ≡ hall }
-    ensures seat { result.1 ≡ seat }
-{
-    let refused = hall.close(list(rt, alloc, [seat])).err();
-    let Unclosed { hall, mut seats } = refused.expect(rt, "a seat is missing");
-    same(rt, &seats.len(), &1, &"the seats");
-    let seat = seats.pop().expect(rt, "the seat");
-    (hall, seat)
+    match hall.close(Vec::from_array(alloc, [first, second])?) {
+        Ok(closed) => Ok(closed),
+        Err(_) => Err(Fail::new("not closed")),
+    }
 }

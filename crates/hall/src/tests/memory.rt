@@ -1,178 +1,211 @@
 ghost use Rattle.hall.specs.Seats.{IsOf};
 
 use crate::tests::faults::fault_of;
-use crate::tests::halls::{catalogue, list, one_seat};
-use crate::tests::rows::{Step, make, retired_answer};
-use crate::tests::same::same;
-use crate::{Hall, HallFault, Seat};
+use crate::tests::halls::{Guest, catalogue, one_seat};
+use crate::tests::rows::{DONE, Found, Row, Step, Wrong, result_of, wrong_of};
+use crate::{Hall, HallFault};
 use desk_core::{Finding, Refusal, Reply, Setting};
-use probe_core::{Event, Manual, Probe, Rule};
-use scarce::Scarcity;
-use std::alloc::Global;
-use std::process::Abort;
+use health_wire::Serving;
+use probe_core::{Depends, Event, Manual, Probe, Rule, Threshold};
+use std::alloc::{AllocError, Global};
 use std::sync::Wait;
+use std::test::Fail;
+use test_support::{Scarcity, same};
 
-/// The most bytes that are left, which is more than any of the calls needs.
-const ROOM: usize = 16_384;
+/// More steps of memory than any of the calls needs.
+const STEPS: usize = 1_024;
 
-/// Takes all memory but so many bytes.
-fn take_memory(rt: &impl Abort, alloc: Global, left: usize) -> (Scarcity, Vec<u8>) {
-    let scarcity = Scarcity::new(alloc, ROOM).ok().expect(rt, "no memory");
-    let filler = scarcity.leave(left).ok().expect(rt, "no filler");
-    (scarcity, filler)
-}
-
-/// Makes a hall with so many bytes left.
-fn fault_with(rt: &impl Abort, alloc: Global, left: usize) -> Option<HallFault> {
-    let names = catalogue(rt, alloc, &["a", ""]);
-    let taken = take_memory(rt, alloc, left);
+/// Whether a hall of two seats was refused, with so many steps of memory left.
+fn is_hall_refused(alloc: Global, step: usize) -> Result<bool, Fail> {
+    let names = catalogue(alloc, &["a", ""])?;
+    let scarcity = Scarcity::with_small_room(alloc)?;
+    let filler = scarcity.leave_steps(step)?;
     let fault = fault_of::<Manual>(alloc, names, 2);
-    drop(taken);
-    fault
-}
-
-/// How many times 16 bytes a hall needs.
-fn needed_by_a_hall(rt: &impl Abort, alloc: Global) -> usize {
-    for step in 0..ROOM / 16 {
-        let Some(fault) = fault_with(rt, alloc, 16 * step) else {
-            return step;
-        };
-        same(
-            rt,
-            &(fault, fault.number()),
-            &(HallFault::NoMemory, 3),
-            &step,
-        );
-    }
-    ROOM / 16
+    drop(filler);
+    drop(scarcity);
+    let Some(fault) = fault else {
+        return Ok(false);
+    };
+    same(&fault, &HallFault::NoMemory, &step)?;
+    Ok(true)
 }
 
 #[test]
-fn refuses_each_growth_of_a_hall(rt: HostRuntime) {
-    let needed = needed_by_a_hall(&rt, rt.alloc());
-    same(&rt, &(needed > 2 && needed < ROOM / 16), &true, &needed);
+fn refuses_each_growth_of_a_hall(rt: HostRuntime) -> Result<(), Fail> {
+    let mut needed = 0;
+    for step in 0..STEPS {
+        if !is_hall_refused(rt.alloc(), step)? {
+            needed = step;
+            break;
+        }
+    }
+    same(&(2 < needed), &true, &needed)
 }
 
+/// A change, and what comes of it without memory and with it.
 #[derive(Clone, Copy)]
-enum Change {
-    /// Registers a probe that is down.
-    Register,
-    Retire,
-    Step(Step),
+struct Case {
+    change: Step,
+    refused: Found,
+    made: Found,
 }
 
-static CHANGES: [Change; 6] = [
-    Change::Register,
-    Change::Retire,
-    Change::Step(Step::Observe("a", Finding::Fail)),
-    Change::Step(Step::Set("a", Setting::Down)),
-    Change::Step(Step::Shutdown),
-    Change::Step(Step::Resume),
+const NO_MEMORY: Found = Found::Change(Err(Refusal::NoMemory), None);
+
+/// The probe that `Register` hands in is down.
+static CASES: [Case; 6] = [
+    Case {
+        change: Step::Register("b"),
+        refused: Found::Change(Err(Refusal::NoMemory), Some((Rule::Threshold(1), false))),
+        made: Found::Change(Ok(Reply::Replaced), Some((Rule::Threshold(3), true))),
+    },
+    Case {
+        change: Step::Retire("c"),
+        refused: NO_MEMORY,
+        made: Found::Change(Ok(Reply::Done), Some((Rule::Manual, false))),
+    },
+    Case {
+        change: Step::Observe("b", Finding::Fail),
+        refused: NO_MEMORY,
+        made: DONE,
+    },
+    Case {
+        change: Step::Set("c", Setting::Up),
+        refused: NO_MEMORY,
+        made: DONE,
+    },
+    Case {
+        change: Step::Shutdown,
+        refused: NO_MEMORY,
+        made: DONE,
+    },
+    Case {
+        change: Step::Resume,
+        refused: NO_MEMORY,
+        made: DONE,
+    },
 ];
 
-/// Registers a probe that is down. A refused one has to come back as it was.
-fn register_down<R: Wait + Abort>(
-    rt: &R,
-    hall: &Hall<Manual>,
-    seat: &mut Seat<Manual>,
-) -> Result<Reply, Refusal>
-    requires { IsOf hall.now seat.old }
-    ensures { IsOf hall.now seat.new }
-{
-    let mut probe = Manual::new();
-    probe.note(Event::Down);
-    match hall.register(rt, seat, "a", probe) {
-        Ok(taken) => Ok(taken.reply),
-        Err(handed) => {
-            let kept = (handed.probe.rule(), handed.probe.is_up());
-            same(rt, &kept, &(Rule::Manual, false), &"the probe");
-            Err(handed.refusal)
-        }
-    }
-}
+const SERVING: Option<Serving> = Some(Serving::Serving);
 
-/// Makes the change, and tells whether memory sufficed.
-fn is_made<R: Wait + Abort>(
-    rt: &R,
-    hall: &Hall<Manual>,
-    seat: &mut Seat<Manual>,
-    change: Change,
-) -> bool
-    requires { IsOf hall.now seat.old }
-    ensures { IsOf hall.now seat.new }
-{
-    let reply = match change {
-        Change::Register => register_down(rt, hall, seat),
-        Change::Retire => retired_answer(&hall.retire(rt, seat, "a")).0,
-        Change::Step(step) => make(rt, hall, seat, step),
-    };
-    let is_fair = reply.is_ok() || reply == Err(Refusal::NoMemory);
-    same(rt, &is_fair, &true, &reply);
-    reply.is_ok()
-}
+const NOT_SERVING: Option<Serving> = Some(Serving::NotServing);
 
-/// The seat made so many changes, and sees as many. With none it sees no status.
-fn expect_made<R: Abort>(rt: &R, hall: &Hall<Manual>, seat: &mut Seat<Manual>, made: u32)
-    requires { IsOf hall.now seat.old }
-    ensures { IsOf hall.now seat.new }
-{
-    let answer = hall.check(seat, "a");
-    same(
-        rt,
-        &(answer.at, seat.made()),
-        &(made, u64::from(made)),
-        &"the seat",
-    );
-    same(rt, &(made > 0 || answer.status.is_none()), &true, &answer);
-}
+/// Leaves two of three failures counted of `a`, one of `b`, and `c` down. The journal and the list of changes then both
+/// have to grow for the next change.
+static PART_COUNTED: [Row; 16] = [
+    (Step::Register("a"), DONE),
+    (Step::Register("b"), DONE),
+    (Step::Register("c"), DONE),
+    (Step::Register(""), DONE),
+    (Step::Shutdown, DONE),
+    (Step::Resume, DONE),
+    (Step::Set("c", Setting::Down), DONE),
+    (Step::Set("c", Setting::Up), DONE),
+    (Step::Observe("a", Finding::Fail), DONE),
+    (Step::Observe("a", Finding::Pass), DONE),
+    (Step::Observe("b", Finding::Fail), DONE),
+    (Step::Observe("b", Finding::Pass), DONE),
+    (Step::Observe("a", Finding::Fail), DONE),
+    (Step::Observe("a", Finding::Fail), DONE),
+    (Step::Observe("b", Finding::Fail), DONE),
+    (Step::Set("c", Setting::Down), DONE),
+];
 
-/// Makes the change with so many bytes left, tells whether they sufficed, and makes it again with memory.
-fn makes_a_change<R: Wait + Abort>(
+/// What all is like after a change that was refused: the board and the count as before it, and each probe where it was.
+static AS_BEFORE: [Row; 12] = [
+    (Step::Check("a"), Found::Check(16, SERVING)),
+    (Step::Check("b"), Found::Check(16, SERVING)),
+    (Step::Check("c"), Found::Check(16, NOT_SERVING)),
+    (Step::Check(""), Found::Check(16, NOT_SERVING)),
+    (Step::Made, Found::Made(16)),
+    (Step::Observe("b", Finding::Fail), DONE),
+    (Step::Check("b"), Found::Check(17, SERVING)),
+    (Step::Observe("a", Finding::Fail), DONE),
+    (Step::Check("a"), Found::Check(18, NOT_SERVING)),
+    (
+        Step::Retire("c"),
+        Found::Change(Ok(Reply::Done), Some((Rule::Manual, false))),
+    ),
+    (Step::Check("c"), Found::Check(19, None)),
+    (Step::Made, Found::Made(19)),
+];
+
+/// What comes of a call with so many steps of memory left.
+fn result_with<R: Wait, P: Probe>(
     rt: &R,
     alloc: Global,
-    hall: &Hall<Manual>,
-    seat: &mut Seat<Manual>,
-    change: Change,
-    left: usize,
-) -> u32
-    requires { IsOf hall.now seat.old }
-    ensures { IsOf hall.now seat.new }
+    hall: &Hall<P>,
+    guest: &mut Guest<P>,
+    step: usize,
+    change: Step,
+) -> Result<Found, AllocError>
+    requires { IsOf hall.now guest.old.seat }
+    ensures { IsOf hall.now guest.new.seat }
 {
-    let taken = take_memory(rt, alloc, left);
-    let made = u32::from(is_made(rt, hall, seat, change));
-    drop(taken);
-    expect_made(rt, hall, seat, made);
-    same(rt, &is_made(rt, hall, seat, change), &true, &left);
-    expect_made(rt, hall, seat, made.saturating_add(1));
-    made
+    let scarcity = Scarcity::with_small_room(alloc)?;
+    let filler = scarcity.leave_steps(step)?;
+    let found = result_of(rt, hall, guest, change);
+    drop(filler);
+    drop(scarcity);
+    Ok(found)
 }
 
-/// Makes the change twice at a hall of one seat, the first time with so many bytes left. Tells whether they sufficed.
-fn suffices<R: Wait + Abort>(rt: &R, alloc: Global, change: Change, left: usize) -> bool {
-    let (hall, mut seat) = one_seat(rt, alloc, &["a", ""], 100);
-    let made = makes_a_change(rt, alloc, &hall, &mut seat, change, left);
-    let closed = hall.close(list(rt, alloc, [seat])).ok();
-    let closed = closed.expect(rt, "the seat is there");
-    let entries = (made as usize).saturating_add(1);
-    same(rt, &closed.desk.journal().len(), &entries, &"the journal");
-    made > 0
+/// What comes of a change with so many steps of memory left, and the rows that went otherwise before it and after it.
+fn change_with<R: Wait, P: Probe>(
+    rt: &R,
+    alloc: Global,
+    probes: Vec<P>,
+    step: usize,
+    change: Step,
+) -> Result<(Result<Found, AllocError>, [Option<Wrong>; 2]), Fail> {
+    let (hall, mut guest) = one_seat(alloc, &["a", "b", "c", ""], probes)?;
+    let before = wrong_of(rt, &hall, &mut guest, &PART_COUNTED);
+    let found = result_with(rt, alloc, &hall, &mut guest, step, change);
+    let after = wrong_of(rt, &hall, &mut guest, &AS_BEFORE);
+    Ok((found, [before, after]))
 }
 
-/// How many times 16 bytes a change needs.
-fn needed_by_a_change<R: Wait + Abort>(rt: &R, alloc: Global, change: Change) -> usize {
-    for step in 0..ROOM / 16 {
-        if suffices(rt, alloc, change, 16 * step) {
-            return step;
+/// Whether the change was refused, with so many steps of memory left.
+fn is_change_refused<R: Wait, P: Probe>(
+    rt: &R,
+    alloc: Global,
+    probes: Vec<P>,
+    step: usize,
+    case: &Case,
+) -> Result<bool, Fail> {
+    let (found, wrong) = change_with(rt, alloc, probes, step, case.change)?;
+    let [before, after] = wrong;
+    same(&before, &None, &step)?;
+    if found == Ok(case.made) {
+        return Ok(false);
+    }
+    same(&(found, after), &(Ok(case.refused), None), &step)?;
+    Ok(true)
+}
+
+/// With how many steps of memory the change was refused.
+fn refusals_of<R: Wait>(rt: &R, alloc: Global, case: &Case) -> Result<usize, Fail> {
+    for step in 0..STEPS {
+        let mut down = Threshold::new(1);
+        down.note(Event::Fail);
+        let handed: Box<dyn Probe + Send> = Box::new(alloc, down)?;
+        let all: Box<dyn Probe + Send> = Box::new(alloc, Depends::new(7))?;
+        let c: Box<dyn Probe + Send> = Box::new(alloc, Manual::new())?;
+        let b: Box<dyn Probe + Send> = Box::new(alloc, Threshold::new(3))?;
+        let a: Box<dyn Probe + Send> = Box::new(alloc, Threshold::new(3))?;
+        let probes = Vec::from_array(alloc, [handed, all, c, b, a])?;
+        if !is_change_refused(rt, alloc, probes, step, case)? {
+            return Ok(step);
         }
     }
-    ROOM / 16
+    Ok(STEPS)
 }
 
 #[test]
-fn refuses_each_growth_of_each_change(rt: HostRuntime) {
-    for (index, change) in CHANGES.iter().enumerate() {
-        let needed = needed_by_a_change(&rt, rt.alloc(), *change);
-        let at = (needed, index);
-        same(&rt, &(needed > 2 && needed < ROOM / 16), &true, &at);
+fn refuses_each_growth_of_each_change(rt: HostRuntime) -> Result<(), Fail> {
+    for (index, case) in CASES.iter().enumerate() {
+        let refused = refusals_of(&rt, rt.alloc(), case)?;
+        same(&(2 < refused && refused < STEPS), &true, &(index, refused))?;
     }
+    Ok(())
 }

@@ -1,128 +1,185 @@
-//! Calls of a seat with what they have to answer, as the rows of a table.
+//! Calls of a seat with what has to come of them, as the rows of a table.
 
 ghost use Rattle.hall.specs.Seats.{IsOf};
 
 use crate::tests::halls::Guest;
-use crate::tests::same::same;
 use crate::{Answer, Hall, Seat};
-use desk_core::{Finding, Handed, Refusal, Registered, Reply, Setting};
+use desk_core::{Finding, Refusal, Reply, Setting};
 use health_wire::Serving;
 use probe_core::{Probe, Rule};
-use std::process::Abort;
 use std::sync::Wait;
 
-/// A change that neither takes nor gives a probe.
+/// A call of a seat.
 #[derive(Clone, Copy)]
 pub(super) enum Step {
+    /// Hands the next probe in under a name.
+    Register(&'static str),
+    Retire(&'static str),
     Observe(&'static str, Finding),
     Set(&'static str, Setting),
     Shutdown,
     Resume,
-}
-
-/// A call of a seat, and what has to come of it.
-#[derive(Clone, Copy)]
-pub(super) enum Row {
-    /// Hands the next probe in under a name. What has to be answered, and the rule of the probe that comes back.
-    Register(&'static str, Result<Reply, Refusal>, Option<Rule>),
-    /// Retires a name. What has to be answered, and the rule of the probe that comes back.
-    Retire(&'static str, Result<Reply, Refusal>, Option<Rule>),
-    Change(Step, Result<Reply, Refusal>),
-    /// A Check of a name, how many entries there have to be, and the status.
-    Check(&'static str, u32, Option<Serving>),
-    /// A Check of a name that is registered, however many entries there are.
-    Show(&'static str, Serving),
-    /// A Check of a name, and the fewest and the most entries there may be.
-    Between(&'static str, u32, u32),
+    Check(&'static str),
+    /// A Check of which only the status counts.
+    Show(&'static str),
+    /// A Check, and whether the name has a status just where there are fewer entries than so many.
+    IsGoneFrom(&'static str, u32),
     /// How many changes the seat has made.
+    Made,
+    /// Drops the probe that came back.
+    LetGo,
+    /// How often each probe was dropped.
+    Drops,
+}
+
+/// What comes of a call.
+#[derive(Clone, Copy, Debug, PartialEq, Eq)]
+pub(super) enum Found {
+    /// The answer, and the rule of the probe that came back and whether that is up.
+    Change(Result<Reply, Refusal>, Option<(Rule, bool)>),
+    Check(u32, Option<Serving>),
+    Show(Option<Serving>),
+    Is(bool),
     Made(u64),
+    Drops([u64; 4]),
+    Nothing,
 }
 
-/// What was answered, and the rule of the probe that came back.
-type Answered = (Result<Reply, Refusal>, Option<Rule>);
+pub(super) type Row = (Step, Found);
 
-pub(super) fn answer_of<P: Probe>(answer: &Result<Registered<P>, Handed<P>>) -> Answered {
-    match answer {
-        Ok(taken) => match &taken.old {
-            Some(old) => (Ok(taken.reply), Some(old.rule())),
-            None => (Ok(taken.reply), None),
-        },
-        Err(handed) => (Err(handed.refusal), Some(handed.probe.rule())),
+/// Which row went otherwise, counted from 0, and what came of it.
+pub(super) type Wrong = (usize, Found);
+
+/// A change that was made, and gave no probe back.
+pub(super) const DONE: Found = Found::Change(Ok(Reply::Done), None);
+
+fn probe_of<P: Probe>(held: &Option<P>) -> Option<(Rule, bool)> {
+    let probe = held.as_ref()?;
+    Some((probe.rule(), probe.is_up()))
+}
+
+fn register<R: Wait, P: Probe>(rt: &R, hall: &Hall<P>, guest: &mut Guest<P>, name: &str) -> Found
+    requires { IsOf hall.now guest.old.seat }
+    ensures { IsOf hall.now guest.new.seat }
+{
+    let Some(probe) = guest.probes.pop() else {
+        return Found::Nothing;
+    };
+    match hall.register(rt, &mut guest.seat, name, probe) {
+        Ok(taken) => {
+            guest.held = taken.old;
+            Found::Change(Ok(taken.reply), probe_of(&guest.held))
+        }
+        Err(handed) => {
+            guest.held = Some(handed.probe);
+            Found::Change(Err(handed.refusal), probe_of(&guest.held))
+        }
     }
 }
 
-pub(super) fn retired_answer<P: Probe>(answer: &Result<(Reply, Option<P>), Refusal>) -> Answered {
-    match answer {
-        Ok((reply, Some(old))) => (Ok(*reply), Some(old.rule())),
-        Ok((reply, None)) => (Ok(*reply), None),
-        Err(refusal) => (Err(*refusal), None),
+fn retire<R: Wait, P: Probe>(rt: &R, hall: &Hall<P>, guest: &mut Guest<P>, name: &str) -> Found
+    requires { IsOf hall.now guest.old.seat }
+    ensures { IsOf hall.now guest.new.seat }
+{
+    match hall.retire(rt, &mut guest.seat, name) {
+        Ok((reply, old)) => {
+            guest.held = old;
+            Found::Change(Ok(reply), probe_of(&guest.held))
+        }
+        Err(refusal) => Found::Change(Err(refusal), None),
     }
 }
 
-pub(super) fn make<R: Wait, P: Probe>(
-    rt: &R,
-    hall: &Hall<P>,
-    seat: &mut Seat<P>,
-    step: Step,
-) -> Result<Reply, Refusal>
+fn change<R: Wait, P: Probe>(rt: &R, hall: &Hall<P>, seat: &mut Seat<P>, step: Step) -> Found
     requires { IsOf hall.now seat.old }
     ensures { IsOf hall.now seat.new }
 {
     match step {
-        Step::Observe(name, finding) => hall.observe(rt, seat, name, finding),
-        Step::Set(name, setting) => hall.set(rt, seat, name, setting),
-        Step::Shutdown => hall.shutdown(rt, seat),
-        Step::Resume => hall.resume(rt, seat),
+        Step::Observe(name, finding) => Found::Change(hall.observe(rt, seat, name, finding), None),
+        Step::Set(name, setting) => Found::Change(hall.set(rt, seat, name, setting), None),
+        Step::Shutdown => Found::Change(hall.shutdown(rt, seat), None),
+        Step::Resume => Found::Change(hall.resume(rt, seat), None),
+        _ => Found::Nothing,
     }
 }
 
-fn expect_row<R: Wait + Abort, P: Probe>(
+fn look<P: Probe>(hall: &Hall<P>, seat: &mut Seat<P>, step: Step) -> Found
+    requires { IsOf hall.now seat.old }
+    ensures { IsOf hall.now seat.new }
+{
+    match step {
+        Step::Check(name) => {
+            let Answer { at, status } = hall.check(seat, name);
+            Found::Check(at, status)
+        }
+        Step::Show(name) => Found::Show(hall.check(seat, name).status),
+        Step::IsGoneFrom(name, entries) => {
+            let Answer { at, status } = hall.check(seat, name);
+            Found::Is(status.is_some() == (at < entries))
+        }
+        Step::Made => Found::Made(seat.made()),
+        _ => Found::Nothing,
+    }
+}
+
+/// Makes the call, and tells what came of it.
+pub(super) fn result_of<R: Wait, P: Probe>(
     rt: &R,
     hall: &Hall<P>,
     guest: &mut Guest<P>,
-    row: Row,
-    index: usize,
-)
+    step: Step,
+) -> Found
     requires { IsOf hall.now guest.old.seat }
     ensures { IsOf hall.now guest.new.seat }
 {
-    let seat = &mut guest.seat;
-    match row {
-        Row::Register(name, answer, rule) => {
-            let probe = guest.probes.pop().expect(rt, "a probe");
-            let taken = hall.register(rt, seat, name, probe);
-            same(rt, &answer_of(&taken), &(answer, rule), &index);
+    match step {
+        Step::Register(name) => register(rt, hall, guest, name),
+        Step::Retire(name) => retire(rt, hall, guest, name),
+        Step::LetGo => {
+            guest.held = None;
+            Found::Nothing
         }
-        Row::Retire(name, answer, rule) => {
-            let retired = hall.retire(rt, seat, name);
-            same(rt, &retired_answer(&retired), &(answer, rule), &index);
+        Step::Drops => match &guest.counters {
+            Some(counters) => Found::Drops(counters.drops()),
+            None => Found::Nothing,
+        },
+        Step::Observe(..) | Step::Set(..) | Step::Shutdown | Step::Resume => {
+            change(rt, hall, &mut guest.seat, step)
         }
-        Row::Change(step, answer) => same(rt, &make(rt, hall, seat, step), &answer, &index),
-        Row::Check(name, at, status) => {
-            same(rt, &hall.check(seat, name), &Answer { at, status }, &index);
-        }
-        Row::Show(name, status) => {
-            same(rt, &hall.check(seat, name).status, &Some(status), &index);
-        }
-        Row::Between(name, least, most) => {
-            let at = hall.check(seat, name).at;
-            same(rt, &(least <= at && at <= most), &true, &(index, at));
-        }
-        Row::Made(count) => same(rt, &seat.made(), &count, &index),
+        _ => look(hall, &mut guest.seat, step),
     }
 }
 
-/// Goes through the rows, each after the calls of the rows before it.
-pub(super) fn expect_rows<R: Wait + Abort, P: Probe>(
+/// Goes through so many rows, from the first one on and again from there, up to one that goes otherwise.
+pub(super) fn first_wrong<R: Wait, P: Probe>(
     rt: &R,
     hall: &Hall<P>,
     guest: &mut Guest<P>,
     rows: &[Row],
-)
+    count: usize,
+) -> Option<Wrong>
     requires { IsOf hall.now guest.old.seat }
     ensures { IsOf hall.now guest.new.seat }
 {
-    for (index, row) in rows.iter().enumerate() {
-        expect_row(rt, hall, guest, *row, index);
+    for index in 0..count {
+        let (step, expected) = rows.get(index % rows.len().max(1))?;
+        let found = result_of(rt, hall, guest, *step);
+        if found != *expected {
+            return Some((index, found));
+        }
     }
+    None
+}
+
+/// Goes through the rows once, each after the calls of the rows before it, up to one that goes otherwise.
+pub(super) fn wrong_of<R: Wait, P: Probe>(
+    rt: &R,
+    hall: &Hall<P>,
+    guest: &mut Guest<P>,
+    rows: &[Row],
+) -> Option<Wrong>
+    requires { IsOf hall.now guest.old.seat }
+    ensures { IsOf hall.now guest.new.seat }
+{
+    first_wrong(rt, hall, guest, rows, rows.len())
 }

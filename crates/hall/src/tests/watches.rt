@@ -1,79 +1,66 @@
-ghost use Rattle.hall.specs.Seats.{IsOf};
-
-use crate::tests::halls::{Guest, boxed, list, two_seats};
-use crate::tests::rows::{Row, Step, expect_rows};
-use crate::tests::same::same;
-use crate::{Hall, Seat};
-use desk_core::{Reply, Setting, Watch};
+use crate::tests::halls::{Probes, two_seats};
+use crate::tests::rows::{DONE, Found, Row, Step, Wrong, wrong_of};
+use desk_core::Setting;
 use health_wire::Serving;
 use probe_core::{Manual, Probe};
 use std::alloc::Global;
-use std::process::Abort;
 use std::sync::Wait;
+use std::test::Fail;
+use test_support::same;
 
-static REGISTERED: [Row; 1] = [Row::Register("a", Ok(Reply::Done), None)];
+static REGISTERED: [Row; 1] = [(Step::Register("a"), DONE)];
 
-static DOWN: [Row; 1] = [Row::Change(Step::Set("a", Setting::Down), Ok(Reply::Done))];
+static DOWN: [Row; 1] = [(Step::Set("a", Setting::Down), DONE)];
 
-static UP: [Row; 1] = [Row::Change(Step::Set("a", Setting::Up), Ok(Reply::Done))];
+static UP: [Row; 1] = [(Step::Set("a", Setting::Up), DONE)];
 
-static UP_AGAIN: [Row; 1] = [Row::Check("a", 3, Some(Serving::Serving))];
+static UP_AGAIN: [Row; 1] = [(Step::Check("a"), Found::Check(3, Some(Serving::Serving)))];
 
-fn expect_step<R: Wait + Abort, P: Probe>(
+/// What the opening and three steps of a watch showed.
+type Shown = (Serving, [Option<Serving>; 3]);
+
+/// What the second seat's watch is shown beside the first seat's changes, and the rows that went otherwise. The seats never
+/// meet, so what the second sees comes from the hall alone.
+fn shown_beside_changes<R: Wait, P: Probe>(
     rt: &R,
-    hall: &Hall<P>,
-    seat: &mut Seat<P>,
-    watch: &mut Watch,
-    status: Option<Serving>,
-)
-    requires { IsOf hall.now seat.old }
-    ensures { IsOf hall.now seat.new }
-{
-    same(rt, &hall.step(rt, seat, watch), &status, &"a step");
+    alloc: Global,
+    probes: Probes<P>,
+) -> Result<(Shown, [Option<Wrong>; 4]), Fail> {
+    let (hall, mut first, mut second) = two_seats(alloc, &["a", ""], 100, probes)?;
+    let registered = wrong_of(rt, &hall, &mut first, &REGISTERED);
+    let (mut watch, opening) = hall.open(rt, &mut second.seat, "a");
+    let down = wrong_of(rt, &hall, &mut first, &DOWN);
+    let step = hall.step(rt, &mut second.seat, &mut watch);
+    let up = wrong_of(rt, &hall, &mut first, &UP);
+    let up_again = wrong_of(rt, &hall, &mut second, &UP_AGAIN);
+    let next = hall.step(rt, &mut second.seat, &mut watch);
+    let last = hall.step(rt, &mut second.seat, &mut watch);
+    Ok((
+        (opening, [step, next, last]),
+        [registered, down, up, up_again],
+    ))
 }
 
-/// The seats never meet, so what the second sees comes from the hall alone.
-fn expect_watch<R: Wait + Abort, P: Probe>(
+fn watch_another_seat<R: Wait, P: Probe>(
     rt: &R,
-    hall: &Hall<P>,
-    first: &mut Guest<P>,
-    second: &mut Guest<P>,
-)
-    requires first { IsOf hall.now first.old.seat }
-    requires second { IsOf hall.now second.old.seat }
-{
-    expect_rows(rt, hall, first, &REGISTERED);
-    let (mut watch, status) = hall.open(rt, &mut second.seat, "a");
-    same(rt, &status, &Serving::Serving, &"the opening");
-    expect_rows(rt, hall, first, &DOWN);
-    expect_step(
-        rt,
-        hall,
-        &mut second.seat,
-        &mut watch,
-        Some(Serving::NotServing),
-    );
-    expect_rows(rt, hall, first, &UP);
-    expect_rows(rt, hall, second, &UP_AGAIN);
-    expect_step(
-        rt,
-        hall,
-        &mut second.seat,
-        &mut watch,
-        Some(Serving::Serving),
-    );
-    expect_step(rt, hall, &mut second.seat, &mut watch, None);
+    alloc: Global,
+    probes: Probes<P>,
+) -> Result<(), Fail> {
+    let (shown, wrong) = shown_beside_changes(rt, alloc, probes)?;
+    let steps = [Some(Serving::NotServing), Some(Serving::Serving), None];
+    same(&shown, &(Serving::Serving, steps), &"the watch")?;
+    same(&wrong, &[None; 4], &"the rows")
 }
 
-fn watch_another_seat<R: Wait + Abort, P: Probe>(rt: &R, alloc: Global, probes: Vec<P>) {
-    let probes = (probes, Vec::new(alloc));
-    let (hall, mut first, mut second) = two_seats(rt, alloc, &["a", ""], 100, probes);
-    expect_watch(rt, &hall, &mut first, &mut second);
-}
-
+/// `answers_from_last_look`: a hall that answered from what the seat saw last would not show it the changes of the other.
 #[test]
-fn a_seat_sees_what_another_sets(rt: HostRuntime) {
+fn a_seat_sees_what_another_sets(rt: HostRuntime) -> Result<(), Fail> {
     let alloc = rt.alloc();
-    let probe: Box<dyn Probe + Send> = boxed(&rt, alloc, Manual::new());
-    watch_another_seat(&rt, alloc, list(&rt, alloc, [probe]));
+    let a: Box<dyn Probe + Send> = Box::new(alloc, Manual::new())?;
+    let probes = Probes {
+        first: Vec::from_array(alloc, [a])?,
+        second: Vec::new(alloc),
+        counters: None,
+    };
+    watch_another_seat(&rt, alloc, probes)
 }
