@@ -18,7 +18,8 @@ use Rattle.desk_core.specs.Past.{past}
 use Rattle.desk_core.specs.Watch.{IsOlder}
 use Rattle.hall.specs.Seats.{HallState, SeatState, IsOf, GoesOn, Makes, MakesAt, IsOutOfRoom, IsRefusedFor, own_calls, with_seen}
 use Rattle.crew.specs.Errand.{IsCarriedOut, NotListed, BadRule, Taken, Full, NoMemory, AreCarriedOut, Ends, Then, HasCarriedOut, replied}
-use Rattle.crew.specs.Looking.{HasLooked, older_on}
+use Rattle.crew.specs.Looking.{HasLooked}
+use Rattle.crew.proofs.LookingLemmas.{older_on}
 use Rattle.crew.proofs.Soundness.{take_with}
 
 -- a seat that made no change has looked

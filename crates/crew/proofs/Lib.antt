@@ -1,9 +1,11 @@
 pub mod CarryingOut
 pub mod Crewing
 pub mod GatherLemmas
+pub mod LookingLemmas
 pub mod NewSeats
 pub mod NotingLemmas
 pub mod OneGathering
+pub mod Reasons
 pub mod Reports
 pub mod Soundness
 pub mod Story

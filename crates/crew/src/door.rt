@@ -33,8 +33,12 @@ impl<'a, R: Wait, P: Probe> HallDoor<'a, R, P> {
 }
 
 impl<'a, R: Wait, P: Probe> Door for HallDoor<'a, R, P> {
+    ghost use Rattle.std.specs.Prelude.{[], ◌++◌, refl};
+    ghost use Rattle.std.proofs.Common.{ap, sym, ◌∙◌};
+    ghost use Rattle.std.proofs.lemmas.List.{append_assoc};
     ghost use Rattle.desk_core.specs.Watch.{IsOlder};
-    ghost use Rattle.crew.specs.HallDoor.{door_hall, door_seat, StaysAt, stays_self, stays_on};
+    ghost use Rattle.hall.specs.Seats.{with_seen};
+    ghost use Rattle.crew.specs.HallDoor.{door_hall, door_seat, StaysAt};
 
     ghost names = { λ door. (door_hall door).names };
 
@@ -44,9 +48,27 @@ impl<'a, R: Wait, P: Probe> Door for HallDoor<'a, R, P> {
 
     ghost stays = { StaysAt };
 
-    ghost stays_self = { stays_self };
+    ghost stays_self = { λ a. record {
+      reference = refl;
+      hall = refl;
+      looked = record { same = refl; begins = record { newer = []; is = refl }; own = refl };
+    } };
 
-    ghost stays_on = { stays_on };
+    ghost stays_on = { λ a b c p q.
+        let early = p.looked.begins in
+        let late = q.looked.begins in
+        record {
+          reference = q.reference ∙ p.reference;
+          hall = q.hall ∙ p.hall;
+          looked = record {
+            same = q.looked.same ∙ ap (λ seat. with_seen seat (door_seat c).seen) p.looked.same;
+            begins = record {
+              newer = late.newer ++ early.newer;
+              is = late.is ∙ (ap (λ older. late.newer ++ older) early.is ∙ sym (append_assoc late.newer early.newer (door_seat a).seen));
+            };
+            own = q.looked.own ∙ p.looked.own;
+          };
+        } };
 
     fn check(&mut self, name: &str) -> Option<Serving> {
         self.hall.check(self.seat, name).status

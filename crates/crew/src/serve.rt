@@ -1,11 +1,10 @@
-ghost use Rattle.std.specs.Prelude.{◌≡◌, ◌<◌, ◌≤◌, ◌^◌, ◌+◌, ◌⊎◌, ℕ, List, Result, map, vec_len, Err, IfSome, IfNone, IfOk, IfErr, MatchResult};
+ghost use Rattle.std.specs.Prelude.{◌≡◌, ◌<◌, ◌≤◌, ◌^◌, ◌+◌, ◌⊎◌, List, Result, map, vec_len, Err, IfSome, IfNone, IfOk, IfErr, MatchResult};
 ghost use Rattle.std.specs.List.{All};
 ghost use Rattle.desk_core.specs.declared.refusal.Refusal.{Refusal};
 ghost use Rattle.desk_core.specs.declared.reply.Reply.{Reply};
 ghost use Rattle.hall.specs.Seats.{IsOf};
-ghost use Rattle.crew.specs.CrewWhy.{crew_fault};
+ghost use Rattle.crew.specs.CrewWhy.{crew_fault, IsOtherReason};
 ghost use Rattle.crew.specs.Errand.{IsReady, HaveRun};
-ghost use Rattle.crew.specs.Gather.{Fails};
 ghost use Rattle.crew.specs.Serve.{HasServed, lists_in};
 ghost use Rattle.crew.specs.Staff.{IsEquipped, IsRoomFor};
 ghost use Rattle.crew.specs.Work.{HaveLooked};
@@ -60,8 +59,8 @@ where
     // These come first, and start nothing.
     ensures refused { IfSome (crew_fault workers (vec_len orders) (vec_len seats)) (λ why. result ≡ Err (record { why = why; seats = seats })) }
 
-    // Else the fault is one that reports of some numbers have; of which, tests show.
-    ensures failed { IfNone (crew_fault workers (vec_len orders) (vec_len seats)) (IfErr result (λ fault. (numbers : List ℕ) × Fails (vec_len jobs) numbers fault.why)) }
+    // Else it is another reason, and which of the others, tests show.
+    ensures failed { IfNone (crew_fault workers (vec_len orders) (vec_len seats)) (IfErr result (λ fault. IsOtherReason (vec_len jobs) fault.why)) }
 
     // That each end is its own call's, tests show.
     ensures calls { IfOk result (λ report. vec_len report.calls ≡ vec_len jobs) }

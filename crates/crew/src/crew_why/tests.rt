@@ -1,5 +1,6 @@
 use super::*;
 use std::test::Fail;
+use test_support::same;
 
 const REASONS: [(CrewWhy, u8, &str); 6] = [
     (CrewWhy::NoWorkers, 1, "there are no workers"),
@@ -13,8 +14,8 @@ const REASONS: [(CrewWhy, u8, &str); 6] = [
 #[test]
 fn numbers_and_tells_each_reason(rt: HostRuntime) -> Result<(), Fail> {
     for (why, number, text) in REASONS {
-        assert_eq!(rt; why.number(), number, "of {text}");
-        assert_eq!(rt; why.to_string(rt.alloc())?.as_str(), text);
+        same(&why.number(), &number, &text)?;
+        same(&why.to_string(rt.alloc())?.as_str(), &text, &number)?;
     }
     Ok(())
 }

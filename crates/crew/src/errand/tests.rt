@@ -1,3 +1,4 @@
+ghost use Rattle.std.specs.Prelude.{IfOk};
 ghost use Rattle.std.specs.List.{All};
 ghost use Rattle.hall.specs.Seats.{IsOf};
 ghost use Rattle.crew.specs.Errand.{IsReady};
@@ -6,28 +7,28 @@ use super::*;
 use crate::tests::halls::{Wish, hall_of_two, orders};
 use desk_core::Setting;
 use probe_core::Manual;
-use std::process::Abort;
+use std::alloc::{AllocError, Global};
+use std::test::Fail;
+use test_support::same;
 use web_call::{Bell, Turn};
 
 /// An errand of these orders by this seat.
 fn errand(
-    rt: &(impl Abort + AllocGlobal),
+    alloc: Global,
     hall: &Hall<Manual>,
     seat: Seat<Manual>,
     wishes: &[Wish],
-) -> Errand<Manual>
+) -> Result<Errand<Manual>, AllocError>
     requires { IsOf hall.now seat }
-    ensures { IsReady hall.now result }
+    ensures { IfOk result (IsReady hall.now) }
 {
-    let orders = orders(rt, wishes);
-    let results = Vec::with_capacity(rt.alloc(), orders.len())
-        .ok()
-        .expect(rt, "room");
-    Errand {
+    let orders = orders(alloc, wishes)?;
+    let results = Vec::with_capacity(alloc, orders.len())?;
+    Ok(Errand {
         seat,
         orders,
         results,
-    }
+    })
 }
 
 /// Two changes, and between them one of a name that is not listed.
@@ -43,60 +44,48 @@ const RESULTS: [Result<Reply, Refusal>; 3] = [
     Ok(Reply::Done),
 ];
 
-fn expect_looks<B: Bell>(rt: &impl Abort, bell: &mut B, looks: u32) {
+fn expect_looks<B: Bell>(bell: &mut B, looks: u32) -> Result<(), Fail> {
     for look in 0..looks {
-        assert!(rt; bell.wait() == Turn::Look, "no Look {look} of {looks}");
+        same(&bell.wait(), &Turn::Look, &look)?;
     }
-    assert!(rt; bell.wait() == Turn::End, "more than {looks}");
+    same(&bell.wait(), &Turn::End, &looks)
 }
 
-fn run_one<R: Wait + Abort + AllocGlobal>(rt: &R) {
-    let (hall, mut seats) = hall_of_two(rt, 1);
-    let seat = seats.pop().expect(rt, "a seat");
-    let mut errand = errand(rt, &hall, seat, &WISHES);
+fn run_one<R: Wait>(rt: &R, alloc: Global) -> Result<(), Fail> {
+    let (hall, mut seats) = hall_of_two(rt, alloc, 1)?;
+    let Some(seat) = seats.pop() else {
+        return Err(Fail::new("no seat"));
+    };
+    let mut errand = errand(alloc, &hall, seat, &WISHES)?;
     let ring = Ring::new();
     let mut bell = ring.bell(rt);
     run(rt, &hall, &ring, &mut errand);
-    assert!(rt; errand.results.as_slice() == RESULTS.as_slice());
+    same(&errand.results.as_slice(), &RESULTS.as_slice(), &"results")?;
     // it has not ended the ring, so one ring more is counted
     ring.ring(rt);
     ring.end(rt);
-    expect_looks(rt, &mut bell, 4);
+    expect_looks(&mut bell, 4)
 }
 
 #[test]
-fn rings_after_each_order_also_where_it_was_refused(rt: HostRuntime) {
-    run_one(&rt);
+fn rings_after_each_order_also_where_it_was_refused(rt: HostRuntime) -> Result<(), Fail> {
+    run_one(&rt, rt.alloc())
 }
 
-/// Two errands: of three orders and of two.
-fn two_errands(
-    rt: &(impl Abort + AllocGlobal),
-    hall: &Hall<Manual>,
-    first: Seat<Manual>,
-    second: Seat<Manual>,
-) -> [Errand<Manual>; 2]
-    requires first { IsOf hall.now first }
-    requires second { IsOf hall.now second }
-    ensures { All (IsReady hall.now) result }
-{
-    let longer = errand(rt, hall, first, &WISHES);
-    let shorter = errand(rt, hall, second, &[Wish::Shutdown, Wish::Resume]);
-    [longer, shorter]
-}
-
-fn run_two<R: Wait + Threads + Sync + Abort + AllocGlobal>(rt: &R) {
-    let (hall, mut seats) = hall_of_two(rt, 2);
-    let second = seats.pop().expect(rt, "a seat");
-    let first = seats.pop().expect(rt, "a seat");
-    let mut errands = two_errands(rt, &hall, first, second);
+fn run_two<R: Wait + Threads + Sync>(rt: &R, alloc: Global) -> Result<(), Fail> {
+    let (hall, mut seats) = hall_of_two(rt, alloc, 2)?;
+    let (Some(second), Some(first)) = (seats.pop(), seats.pop()) else {
+        return Err(Fail::new("no seats"));
+    };
+    let longer = errand(alloc, &hall, first, &WISHES)?;
+    let shorter = errand(alloc, &hall, second, &[Wish::Shutdown, Wish::Resume])?;
     let ring = Ring::new();
     let mut bell = ring.bell(rt);
-    run_all(rt, &hall, &ring, &mut errands);
-    expect_looks(rt, &mut bell, 5);
+    run_all(rt, &hall, &ring, &mut [longer, shorter]);
+    expect_looks(&mut bell, 5)
 }
 
 #[test]
-fn rings_for_all_orders_of_all_errands_and_then_ends(rt: HostRuntime) {
-    run_two(&rt);
+fn rings_for_all_orders_of_all_errands_and_then_ends(rt: HostRuntime) -> Result<(), Fail> {
+    run_two(&rt, rt.alloc())
 }

@@ -1,6 +1,7 @@
 use super::*;
 use grpc_frame::Code;
-use std::process::Abort;
+use std::test::Fail;
+use test_support::same;
 use web_call::{ExchangeFault, Outcome, Why};
 
 mod memory;
@@ -11,15 +12,12 @@ fn end_of(place: u16) -> CallEnd {
 }
 
 /// Reports of these numbers, whose ends tell their places.
-fn reports(rt: &(impl Abort + AllocGlobal), numbers: &[u32]) -> Vec<(u32, CallEnd)> {
-    let mut found = Vec::new(rt.alloc());
+fn reports(alloc: Global, numbers: &[u32]) -> Result<Vec<(u32, CallEnd)>, AllocError> {
+    let mut found = Vec::new(alloc);
     for (place, number) in (0u16..1_000).zip(numbers) {
-        found
-            .push((*number, end_of(place)))
-            .ok()
-            .expect(rt, "no memory");
+        found.push((*number, end_of(place)))?;
     }
-    found
+    Ok(found)
 }
 
 /// The ends are those of the reports at these places, or both are the same reason.
@@ -61,23 +59,27 @@ const GATHERED: [(u32, &[u32], Result<&[u16], CrewWhy>); 16] = [
 ];
 
 #[test]
-fn gives_the_ends_by_number_or_the_leftmost_fault(rt: HostRuntime) {
+fn gives_the_ends_by_number_or_the_leftmost_fault(rt: HostRuntime) -> Result<(), Fail> {
+    let alloc = rt.alloc();
     for (expected, numbers, answer) in GATHERED {
-        let found = gather(rt.alloc(), expected, reports(&rt, numbers));
-        assert!(rt;
-            is_as_expected(&found, &answer),
-            "{found:?} of {expected} by {numbers:?}"
-        );
+        let found = gather(alloc, expected, reports(alloc, numbers)?);
+        same(
+            &is_as_expected(&found, &answer),
+            &true,
+            &(expected, numbers),
+        )?;
     }
+    Ok(())
 }
 
 #[test]
-fn knows_without_memory_what_it_knows_with_it(rt: HostRuntime) {
+fn knows_without_memory_what_it_knows_with_it(rt: HostRuntime) -> Result<(), Fail> {
     for (expected, numbers, answer) in GATHERED {
-        let why = fault_of(expected, &reports(&rt, numbers));
+        let why = fault_of(expected, &reports(rt.alloc(), numbers)?);
         let wanted = answer.err().unwrap_or(CrewWhy::NoMemory);
-        assert!(rt; why == wanted, "{why:?} of {expected} by {numbers:?}");
+        same(&why, &wanted, &(expected, numbers))?;
     }
+    Ok(())
 }
 
 const FAULT: CallEnd = CallEnd::Fault(ExchangeFault {
@@ -89,19 +91,10 @@ const ENDED: CallEnd = CallEnd::Done(Outcome::Status(Code::NotFound));
 
 const WATCHED: CallEnd = CallEnd::Done(Outcome::Watched { messages: 3 });
 
-fn copied(rt: &(impl Abort + AllocGlobal), reports: &[(u32, CallEnd)]) -> Vec<(u32, CallEnd)> {
-    let mut found = Vec::new(rt.alloc());
-    for report in reports {
-        found.push(*report).ok().expect(rt, "no memory");
-    }
-    found
-}
-
 #[test]
-fn keeps_each_kind_of_end(rt: HostRuntime) {
+fn keeps_each_kind_of_end(rt: HostRuntime) -> Result<(), Fail> {
     let reports = [(2, ENDED), (0, FAULT), (3, WATCHED), (1, CallEnd::Unopened)];
-    let gathered = gather(rt.alloc(), 4, copied(&rt, &reports))
-        .ok()
-        .expect(&rt, "no list");
-    assert!(rt; gathered.as_slice() == [FAULT, CallEnd::Unopened, ENDED, WATCHED].as_slice());
+    let gathered = gather(rt.alloc(), 4, Vec::from_array(rt.alloc(), reports)?)?;
+    let ends = [FAULT, CallEnd::Unopened, ENDED, WATCHED];
+    same(&gathered.as_slice(), &ends.as_slice(), &"four calls")
 }

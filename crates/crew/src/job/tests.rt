@@ -1,6 +1,7 @@
 use super::*;
 use std::alloc::Global;
-use std::process::Abort;
+use std::test::Fail;
+use test_support::same;
 
 /// A letter to answer, unless it was lost.
 #[derive(Drop)]
@@ -31,13 +32,13 @@ fn copied<J: Job>(job: J) -> Result<usize, Unopened> {
 }
 
 #[test]
-fn opens_a_job_or_tells_that_it_cannot(rt: HostRuntime) {
+fn opens_a_job_or_tells_that_it_cannot(rt: HostRuntime) -> Result<(), Fail> {
     let alloc = rt.alloc();
     let letter = Letter {
         alloc,
         text: Some(b"how are you"),
     };
-    assert!(rt; copied(letter) == Ok(11));
+    same(&copied(letter), &Ok(11), &"a letter")?;
     let lost = Letter { alloc, text: None };
-    assert!(rt; copied(lost) == Err(Unopened));
+    same(&copied(lost), &Err(Unopened), &"a lost letter")
 }

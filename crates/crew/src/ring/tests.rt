@@ -1,59 +1,57 @@
 use super::*;
-use std::process::Abort;
+use std::test::Fail;
 use std::thread;
 use std::thread::Threads;
+use test_support::same;
 
 /// Waits so often as there are turns expected.
-fn expect_turns<B: Bell>(rt: &impl Abort, bell: &mut B, expected: &[Turn]) {
+fn expect_turns<B: Bell>(bell: &mut B, expected: &[Turn]) -> Result<(), Fail> {
     for turn in expected {
-        assert!(rt; bell.wait() == *turn, "not {turn:?} of {expected:?}");
+        same(&bell.wait(), turn, &expected)?;
     }
+    Ok(())
 }
 
 #[test]
-fn gives_a_look_for_each_ring_from_then_on(rt: HostRuntime) {
+fn gives_a_look_for_each_ring_from_then_on(rt: HostRuntime) -> Result<(), Fail> {
     let ring = Ring::new();
     ring.ring(&rt);
     let mut bell = ring.bell(&rt);
     ring.ring(&rt);
     ring.ring(&rt);
     ring.end(&rt);
-    expect_turns(
-        &rt,
-        &mut bell,
-        &[Turn::Look, Turn::Look, Turn::End, Turn::End],
-    );
+    expect_turns(&mut bell, &[Turn::Look, Turn::Look, Turn::End, Turn::End])
 }
 
 #[test]
-fn counts_no_ring_after_the_end(rt: HostRuntime) {
+fn counts_no_ring_after_the_end(rt: HostRuntime) -> Result<(), Fail> {
     let ring = Ring::new();
     let mut bell = ring.bell(&rt);
     ring.ring(&rt);
     ring.end(&rt);
     ring.ring(&rt);
     ring.end(&rt);
-    expect_turns(&rt, &mut bell, &[Turn::Look, Turn::End, Turn::End]);
+    expect_turns(&mut bell, &[Turn::Look, Turn::End, Turn::End])?;
     let mut later = ring.bell(&rt);
-    expect_turns(&rt, &mut later, &[Turn::End, Turn::End]);
+    expect_turns(&mut later, &[Turn::End, Turn::End])
 }
 
 #[test]
-fn gives_each_bell_its_own_looks(rt: HostRuntime) {
+fn gives_each_bell_its_own_looks(rt: HostRuntime) -> Result<(), Fail> {
     let ring = Ring::new();
     let mut first = ring.bell(&rt);
     ring.ring(&rt);
     let mut second = ring.bell(&rt);
     ring.ring(&rt);
-    expect_turns(&rt, &mut first, &[Turn::Look, Turn::Look]);
-    expect_turns(&rt, &mut second, &[Turn::Look]);
+    expect_turns(&mut first, &[Turn::Look, Turn::Look])?;
+    expect_turns(&mut second, &[Turn::Look])?;
     ring.end(&rt);
-    expect_turns(&rt, &mut first, &[Turn::End]);
-    expect_turns(&rt, &mut second, &[Turn::End]);
+    expect_turns(&mut first, &[Turn::End])?;
+    expect_turns(&mut second, &[Turn::End])
 }
 
 #[test]
-fn counts_as_far_as_there_are_numbers(rt: HostRuntime) {
+fn counts_as_far_as_there_are_numbers(rt: HostRuntime) -> Result<(), Fail> {
     let ring = Ring {
         rung: Mutex::new(Rung {
             rings: u64::MAX - 1,
@@ -65,7 +63,7 @@ fn counts_as_far_as_there_are_numbers(rt: HostRuntime) {
     ring.ring(&rt);
     ring.ring(&rt);
     ring.end(&rt);
-    expect_turns(&rt, &mut bell, &[Turn::Look, Turn::End]);
+    expect_turns(&mut bell, &[Turn::Look, Turn::End])
 }
 
 /// Counts the Looks of a bell up to its End, or up to the most.
@@ -98,9 +96,9 @@ fn looks_beside<R: Wait + Threads + Sync>(rt: &R, rings: u32) -> u32 {
 }
 
 #[test]
-fn tells_another_thread_of_each_ring(rt: HostRuntime) {
+fn tells_another_thread_of_each_ring(rt: HostRuntime) -> Result<(), Fail> {
     for rings in [0, 1, 1_000] {
-        let looks = looks_beside(&rt, rings);
-        assert!(rt; looks == rings, "{looks} of {rings}");
+        same(&looks_beside(&rt, rings), &rings, &rings)?;
     }
+    Ok(())
 }

@@ -1,36 +1,34 @@
 use crate::CallEnd;
 use crate::tests::gates::Gate;
-use crate::tests::halls::{Found, expect_seats, hall_of_two, serve};
-use crate::tests::letters::{CHECK_OF_EMPTY, notes};
+use crate::tests::halls::{expect_seats, hall_of_two, reported, serve_notes};
 use grpc_frame::Code;
-use std::process::Abort;
+use std::alloc::Global;
 use std::sync::Wait;
-use std::sync::atomic::AtomicU32;
+use std::test::Fail;
 use std::thread::Threads;
+use test_support::requests::CHECK_OF_EMPTY;
+use test_support::same;
 use web_call::Outcome;
 
 const CHECKED: CallEnd = CallEnd::Done(Outcome::Status(Code::Ok));
 
-fn expect_both(rt: &impl Abort, found: Found) {
-    let report = found.ok().expect(rt, "a report");
-    assert!(rt; report.calls.as_slice() == [CHECKED, CHECKED].as_slice());
-    assert!(rt; report.orders.is_empty());
-    expect_seats(rt, &report.seats, &[0, 2]);
-}
-
-fn serve_side_by_side<R: Wait + Threads + Sync + Abort + AllocGlobal>(rt: &R) {
-    let (hall, seats) = hall_of_two(rt, 2);
-    let opened = AtomicU32::new(0);
-    let jobs = notes(rt, &[Some(CHECK_OF_EMPTY), Some(CHECK_OF_EMPTY)], &opened);
+fn serve_side_by_side<R: Wait + Threads + Sync>(rt: &R, alloc: Global) -> Result<(), Fail> {
+    let (hall, seats) = hall_of_two(rt, alloc, 2)?;
+    let requests = [Some(CHECK_OF_EMPTY), Some(CHECK_OF_EMPTY)];
     let gate = Gate::new(2);
-    let orders = Vec::new(rt.alloc());
-    let found = serve(rt, &hall, seats, jobs, orders, &gate, 2);
-    expect_both(rt, found);
-    assert!(rt; gate.given_up() == 0);
+    let (found, _) = serve_notes(rt, alloc, &hall, seats, &requests, &[], &gate, 2)?;
+    let report = reported(found)?;
+    same(
+        &report.calls.as_slice(),
+        &[CHECKED, CHECKED].as_slice(),
+        &"calls",
+    )?;
+    expect_seats(&report.seats, &[0, 2])?;
+    same(&gate.given_up(), &0, &"the gate")
 }
 
-// A crew that serves all calls on one thread gives up at the gate.
+// `one_thread_serves_all`, a crew that serves all calls on one thread, gives up at the gate.
 #[test]
-fn two_workers_serve_their_calls_at_the_same_time(rt: HostRuntime) {
-    serve_side_by_side(&rt);
+fn two_workers_serve_their_calls_at_the_same_time(rt: HostRuntime) -> Result<(), Fail> {
+    serve_side_by_side(&rt, rt.alloc())
 }

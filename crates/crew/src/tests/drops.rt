@@ -1,12 +1,15 @@
 use crate::Turnstile;
-use crate::tests::halls::{hall_of_two, serve};
-use crate::tests::letters::{CHECK_OF_EMPTY, CUT, Letter, WATCH_OF_ZZ};
+use crate::tests::halls::{hall_of_two, reported, serve};
+use crate::tests::letters::{CUT, Letter};
+use std::alloc::{AllocError, Global};
 use std::io;
 use std::io::{Read, Sink, Write};
-use std::process::Abort;
 use std::sync::Wait;
 use std::sync::atomic::{AtomicU32, Ordering};
+use std::test::Fail;
 use std::thread::Threads;
+use test_support::requests::{CHECK_OF_EMPTY, WATCH_OF_ZZ};
+use test_support::same;
 
 /// What is seen of a call from outside, in the order in which it has to come.
 #[derive(Clone, Copy)]
@@ -93,11 +96,11 @@ const REQUESTS: [&[u8]; 3] = [CHECK_OF_EMPTY, CUT, WATCH_OF_ZZ];
 type NotedLetter<'a> = Letter<'a, Noted<'a, &'static [u8]>, Noted<'a, Sink>>;
 
 fn noted_letters<'a>(
-    rt: &(impl Abort + AllocGlobal),
+    alloc: Global,
     opened: &'a AtomicU32,
     diary: &'a Diary,
-) -> Vec<NotedLetter<'a>> {
-    let mut letters = Vec::new(rt.alloc());
+) -> Result<Vec<NotedLetter<'a>>, AllocError> {
+    let mut letters = Vec::new(alloc);
     for request in REQUESTS {
         let input = Noted {
             end: request,
@@ -109,26 +112,31 @@ fn noted_letters<'a>(
             step: Step::DropOutput,
             diary,
         };
-        let letter = Letter::new(Some((input, output)), opened);
-        assert!(rt; letters.push(letter).is_ok());
+        letters.push(Letter::new(Some((input, output)), opened))?;
     }
-    letters
+    Ok(letters)
 }
 
-fn serve_noted<R: Wait + Threads + Sync + Abort + AllocGlobal>(rt: &R, diary: &Diary) {
-    let (hall, seats) = hall_of_two(rt, 1);
+fn serve_noted<R: Wait + Threads + Sync + AllocGlobal>(rt: &R, diary: &Diary) -> Result<(), Fail> {
+    let alloc = rt.alloc();
+    let (hall, seats) = hall_of_two(rt, alloc, 1)?;
     let opened = AtomicU32::new(0);
-    let jobs = noted_letters(rt, &opened, diary);
-    let orders = Vec::new(rt.alloc());
-    let found = serve(rt, &hall, seats, jobs, orders, diary, 1);
-    assert!(rt; found.is_ok());
-    assert!(rt; opened.load(Ordering::SeqCst) == 3);
+    let jobs = noted_letters(alloc, &opened, diary)?;
+    let orders = Vec::new(alloc);
+    reported(serve(rt, alloc, &hall, seats, jobs, orders, diary, 1)?)?;
+    same(&opened.load(Ordering::SeqCst), &3, &"opened")
 }
 
 #[test]
-fn a_call_drops_its_output_and_then_its_input_before_it_leaves(rt: HostRuntime) {
+fn a_call_drops_its_output_and_then_its_input_before_it_leaves(
+    rt: HostRuntime,
+) -> Result<(), Fail> {
     let diary = Diary::new();
-    serve_noted(&rt, &diary);
-    assert!(rt; diary.steps.load(Ordering::SeqCst) == 12);
-    assert!(rt; diary.wrong.load(Ordering::SeqCst) == 0);
+    serve_noted(&rt, &diary)?;
+    same(&diary.steps.load(Ordering::SeqCst), &12, &"steps")?;
+    same(
+        &diary.wrong.load(Ordering::SeqCst),
+        &0,
+        &"out of their turn",
+    )
 }

@@ -1,22 +1,22 @@
 use crate::tests::gates::{Doorkeeper, Noting};
-use crate::tests::halls::{Found, hall_of_two, serve};
-use crate::tests::letters::{
-    CHECK_OF_EMPTY, CHECK_OF_ZZ, CUT, GET, LIST, Letter, WATCH_OF_ZZ, notes,
-};
+use crate::tests::halls::{Found, hall_of_two, reported, serve, serve_notes};
+use crate::tests::letters::{CUT, GET, Letter, notes};
 use crate::{CallEnd, OpenTurnstile};
 use grpc_frame::Code;
+use std::alloc::{AllocError, Global};
 use std::io::ErrorKind;
-use std::process::Abort;
 use std::sync::Wait;
 use std::sync::atomic::{AtomicU32, Ordering};
+use std::test::Fail;
 use std::thread::Threads;
-use web_call::faulty::{Fault, FaultyReader, FaultyWriter};
+use test_support::requests::{CHECK_OF_EMPTY, CHECK_OF_ZZ, LIST, WATCH_OF_ZZ};
+use test_support::{Fault, FaultyReader, FaultyWriter, same};
 use web_call::{ExchangeFault, Outcome, Why};
 
 /// The calls have to end so, each at its number.
-fn expect_ends(rt: &impl Abort, found: Found, ends: &[CallEnd]) {
-    let report = found.ok().expect(rt, "a report");
-    assert!(rt; report.calls.as_slice() == ends, "{:?}", report.calls);
+fn expect_ends(found: Found, ends: &[CallEnd], workers: u16) -> Result<(), Fail> {
+    let report = reported(found)?;
+    same(&report.calls.as_slice(), &ends, &workers)
 }
 
 /// Calls of one crew, two of which can't be opened.
@@ -51,39 +51,40 @@ const CUT_SHORT: CallEnd = CallEnd::Fault(ExchangeFault {
     frames: 0,
 });
 
-fn serve_each<R: Wait + Threads + Sync + Abort + AllocGlobal>(rt: &R, workers: u16) {
-    let (hall, seats) = hall_of_two(rt, 4);
-    let opened = AtomicU32::new(0);
-    let jobs = notes(rt, &REQUESTS, &opened);
-    let noting = Noting::new(rt, REQUESTS.len());
-    let orders = Vec::new(rt.alloc());
-    let found = serve(rt, &hall, seats, jobs, orders, &noting, workers);
-    expect_ends(rt, found, &ENDS);
-    assert!(rt; opened.load(Ordering::SeqCst) == 9);
-    assert!(rt; noting.are_all_gone(rt), "with {workers} workers");
+fn serve_each<R: Wait + Threads + Sync>(rt: &R, alloc: Global, workers: u16) -> Result<(), Fail> {
+    let (hall, seats) = hall_of_two(rt, alloc, 4)?;
+    let noting = Noting::new(alloc, REQUESTS.len())?;
+    let (found, opened) = serve_notes(rt, alloc, &hall, seats, &REQUESTS, &[], &noting, workers)?;
+    expect_ends(found, &ENDS, workers)?;
+    same(&opened, &9, &workers)?;
+    same(&noting.are_all_gone(rt), &true, &workers)
 }
 
 #[test]
-fn each_call_ends_at_its_number_and_passes_the_turnstile_once(rt: HostRuntime) {
+fn each_call_ends_at_its_number_and_passes_the_turnstile_once(rt: HostRuntime) -> Result<(), Fail> {
     for workers in [1, 2, 3, 4] {
-        serve_each(&rt, workers);
+        serve_each(&rt, rt.alloc(), workers)?;
     }
+    Ok(())
 }
 
-fn serve_in_turn<R: Wait + Threads + Sync + Abort + AllocGlobal>(rt: &R) {
-    let (hall, seats) = hall_of_two(rt, 1);
+fn serve_in_turn<R: Wait + Threads + Sync + AllocGlobal>(rt: &R) -> Result<(), Fail> {
+    let alloc = rt.alloc();
+    let (hall, seats) = hall_of_two(rt, alloc, 1)?;
     let opened = AtomicU32::new(0);
-    let jobs = notes(rt, &REQUESTS, &opened);
+    let jobs = notes(alloc, &REQUESTS, &opened)?;
     let doorkeeper = Doorkeeper::new(&opened);
-    let orders = Vec::new(rt.alloc());
-    let found = serve(rt, &hall, seats, jobs, orders, &doorkeeper, 1);
-    expect_ends(rt, found, &ENDS);
-    assert!(rt; doorkeeper.wrong() == 0);
+    let orders = Vec::new(alloc);
+    let found = serve(rt, alloc, &hall, seats, jobs, orders, &doorkeeper, 1)?;
+    expect_ends(found, &ENDS, 1)?;
+    same(&doorkeeper.wrong(), &0, &"wrong")
 }
 
 #[test]
-fn a_worker_opens_each_job_between_its_entering_and_its_leaving(rt: HostRuntime) {
-    serve_in_turn(&rt);
+fn a_worker_opens_each_job_between_its_entering_and_its_leaving(
+    rt: HostRuntime,
+) -> Result<(), Fail> {
+    serve_in_turn(&rt)
 }
 
 /// A Check whose writer fails before its first frame is whole, before its second is, and behind both.
@@ -125,30 +126,42 @@ const FAULTS: [(usize, usize, Fault, CallEnd); 12] = [
 /// A letter over a faulty reader and a faulty writer.
 type Faulty<'a> = Letter<'a, FaultyReader<'static>, FaultyWriter>;
 
-fn faulty_letters<'a>(rt: &(impl Abort + AllocGlobal), opened: &'a AtomicU32) -> Vec<Faulty<'a>> {
-    let mut letters = Vec::new(rt.alloc());
+fn faulty_letters(alloc: Global, opened: &AtomicU32) -> Result<Vec<Faulty<'_>>, AllocError> {
+    let mut letters = Vec::new(alloc);
     for (read, write, fault, _) in FAULTS {
         let reader = FaultyReader::new(CHECK_OF_EMPTY, read, fault);
-        let writer = FaultyWriter::new(rt.alloc(), 1, write, fault);
-        let letter = Letter::new(Some((reader, writer)), opened);
-        assert!(rt; letters.push(letter).is_ok());
+        let writer = FaultyWriter::new(alloc, 1, write, fault);
+        letters.push(Letter::new(Some((reader, writer)), opened))?;
     }
-    letters
+    Ok(letters)
 }
 
-fn serve_faulty<R: Wait + Threads + Sync + Abort + AllocGlobal>(rt: &R, workers: u16) {
-    let (hall, seats) = hall_of_two(rt, 3);
+fn serve_faulty<R: Wait + Threads + Sync + AllocGlobal>(rt: &R, workers: u16) -> Result<(), Fail> {
+    let alloc = rt.alloc();
+    let (hall, seats) = hall_of_two(rt, alloc, 3)?;
     let opened = AtomicU32::new(0);
-    let jobs = faulty_letters(rt, &opened);
-    let orders = Vec::new(rt.alloc());
-    let found = serve(rt, &hall, seats, jobs, orders, &OpenTurnstile, workers);
+    let jobs = faulty_letters(alloc, &opened)?;
+    let orders = Vec::new(alloc);
+    let found = serve(
+        rt,
+        alloc,
+        &hall,
+        seats,
+        jobs,
+        orders,
+        &OpenTurnstile,
+        workers,
+    )?;
     let ends = FAULTS.map(|(_, _, _, end)| end);
-    expect_ends(rt, found, &ends);
+    expect_ends(found, &ends, workers)
 }
 
 #[test]
-fn a_call_whose_reader_or_writer_fails_is_a_fault_at_its_number(rt: HostRuntime) {
+fn a_call_whose_reader_or_writer_fails_is_a_fault_at_its_number(
+    rt: HostRuntime,
+) -> Result<(), Fail> {
     for workers in [1, 3] {
-        serve_faulty(&rt, workers);
+        serve_faulty(&rt, workers)?;
     }
+    Ok(())
 }

@@ -1,7 +1,7 @@
 //! Turnstiles that watch how calls pass.
 
 use crate::Turnstile;
-use std::process::Abort;
+use std::alloc::{AllocError, Global};
 use std::sync::atomic::{AtomicU32, Ordering};
 use std::sync::{Mutex, Wait};
 
@@ -66,14 +66,10 @@ pub(crate) struct Noting {
 }
 
 impl Noting {
-    pub(crate) fn new(rt: &(impl Abort + AllocGlobal), calls: usize) -> Noting {
-        let mut stays = Vec::new(rt.alloc());
-        for _ in 0..calls {
-            assert!(rt; stays.push(Stay::Outside).is_ok());
-        }
-        Noting {
-            stays: Mutex::new(stays),
-        }
+    pub(crate) fn new(alloc: Global, calls: usize) -> Result<Noting, AllocError> {
+        Ok(Noting {
+            stays: Mutex::new(vec![in alloc; Stay::Outside; calls]?),
+        })
     }
 
     /// Whether each call came in once, and then left once.

@@ -1,9 +1,9 @@
-//! Jobs, the requests that they ask, and the texts that answer a Watch.
+//! Jobs, and the texts that answer a Watch.
 
 use crate::{Job, Unopened};
+use std::alloc::{AllocError, Global};
 use std::io;
 use std::io::{Read, Sink, Write};
-use std::process::Abort;
 use std::sync::atomic::{AtomicU32, Ordering};
 
 /// A request that waits for its answer, unless its two ends were lost. It counts its opening.
@@ -36,56 +36,17 @@ pub(crate) type Note<'a> = Letter<'a, &'static [u8], Sink>;
 
 /// Letters with these requests. One without a request can't be opened.
 pub(crate) fn notes<'a>(
-    rt: &(impl Abort + AllocGlobal),
+    alloc: Global,
     requests: &[Option<&'static [u8]>],
     opened: &'a AtomicU32,
-) -> Vec<Note<'a>> {
-    let mut notes = Vec::new(rt.alloc());
+) -> Result<Vec<Note<'a>>, AllocError> {
+    let mut notes = Vec::new(alloc);
     for request in requests {
         let ends = request.map(|text| (text, io::sink()));
-        assert!(rt; notes.push(Letter::new(ends, opened)).is_ok());
+        notes.push(Letter::new(ends, opened))?;
     }
-    notes
+    Ok(notes)
 }
-
-/// A Check of the empty name. Its head has 107 bytes.
-pub(crate) const CHECK_OF_EMPTY: &[u8] = b"POST /grpc.health.v1.Health/Check HTTP/1.1\r\n\
-    content-type: application/grpc-web+proto\r\n\
-    content-length: 5\r\n\
-    \r\n\
-    \x00\x00\x00\x00\x00";
-
-/// A Check of `zz`, a name that is in no catalogue here.
-pub(crate) const CHECK_OF_ZZ: &[u8] = b"POST /grpc.health.v1.Health/Check HTTP/1.1\r\n\
-    content-type: application/grpc-web+proto\r\n\
-    content-length: 9\r\n\
-    \r\n\
-    \x00\x00\x00\x00\x04\x0a\x02zz";
-
-pub(crate) const CHECK_OF_A: &[u8] = b"POST /grpc.health.v1.Health/Check HTTP/1.1\r\n\
-    content-type: application/grpc-web+proto\r\n\
-    content-length: 8\r\n\
-    \r\n\
-    \x00\x00\x00\x00\x03\x0a\x01a";
-
-pub(crate) const WATCH_OF_A: &[u8] = b"POST /grpc.health.v1.Health/Watch HTTP/1.1\r\n\
-    content-type: application/grpc-web+proto\r\n\
-    content-length: 8\r\n\
-    \r\n\
-    \x00\x00\x00\x00\x03\x0a\x01a";
-
-pub(crate) const WATCH_OF_ZZ: &[u8] = b"POST /grpc.health.v1.Health/Watch HTTP/1.1\r\n\
-    content-type: application/grpc-web+proto\r\n\
-    content-length: 9\r\n\
-    \r\n\
-    \x00\x00\x00\x00\x04\x0a\x02zz";
-
-/// A call of a method that is not served.
-pub(crate) const LIST: &[u8] = b"POST /grpc.health.v1.Health/List HTTP/1.1\r\n\
-    content-type: application/grpc-web+proto\r\n\
-    content-length: 5\r\n\
-    \r\n\
-    \x00\x00\x00\x00\x00";
 
 /// A Check by another method of HTTP.
 pub(crate) const GET: &[u8] = b"GET /grpc.health.v1.Health/Check HTTP/1.1\r\n\

@@ -1,19 +1,36 @@
+ghost use Rattle.std.specs.Prelude.{IfOk, MatchResult};
+ghost use Rattle.std.specs.List.{All};
+ghost use Rattle.hall.specs.Seats.{IsOf};
+
 use crate::tests::halls::{Found, Wish, hall_of_two, lists, serve};
-use crate::tests::letters::{CHECK_OF_EMPTY, notes};
+use crate::tests::letters::notes;
 use crate::{CallEnd, CrewWhy, OpenTurnstile};
 use desk_core::{Refusal, Reply, Setting};
 use grpc_frame::Code;
-use hall::Seat;
+use hall::{Hall, Seat};
 use probe_core::Manual;
-use scarce::Scarcity;
-use std::process::Abort;
+use std::alloc::Global;
 use std::sync::Wait;
 use std::sync::atomic::{AtomicU32, Ordering};
+use std::test::Fail;
 use std::thread::Threads;
+use test_support::requests::CHECK_OF_EMPTY;
+use test_support::{Scarcity, same};
 use web_call::{ExchangeFault, Outcome, Why};
 
 /// The most bytes that are left, which is more than any of the crews needs.
-const ROOM: usize = 32_768;
+const ROOM: usize = 98_304;
+
+/// How many bytes more are left at each step.
+const STEP: usize = 16;
+
+/// A crew that is tried with little memory: its workers, what its jobs ask, and its lists of orders.
+#[derive(Clone, Copy)]
+struct Trial {
+    workers: u16,
+    requests: &'static [Option<&'static [u8]>],
+    lists: &'static [&'static [Wish]],
+}
 
 /// How a crew fares that has little memory. Here it makes no threads, since there is none for their stacks.
 #[derive(Clone, Copy, Debug, PartialEq, Eq)]
@@ -24,9 +41,9 @@ enum Fare {
     Stopped,
     /// It tells that memory ran out, and had opened all jobs.
     NoMemory,
-    /// It reports calls that ended for want of memory.
+    /// It reports all calls, and of the jobs that could be opened some ended for want of memory.
     Starved,
-    /// It reports calls that ended as they should.
+    /// It reports all calls, and each job that could be opened was answered.
     Served,
 }
 
@@ -37,138 +54,255 @@ const STARVED: CallEnd = CallEnd::Fault(ExchangeFault {
     frames: 0,
 });
 
-/// How a crew fared that has opened so many of its jobs, whose calls should all end so.
-fn fare_of(rt: &impl Abort, found: &Found, jobs: usize, opened: usize, end: CallEnd) -> Fare {
-    match found {
-        Ok(report) => {
-            assert!(rt; opened == jobs && report.calls.len() == jobs);
-            if report.calls.iter().all(|call| *call == end) {
-                return Fare::Served;
+/// Whether there is one end for each request, at its number: one of these for those that could be opened.
+fn have_ended(calls: &[CallEnd], requests: &[Option<&[u8]>], ends: &[CallEnd]) -> bool {
+    calls.len() == requests.len()
+        && calls.iter().zip(requests.iter()).all(|(call, request)| {
+            if request.is_some() {
+                ends.contains(call)
+            } else {
+                *call == CallEnd::Unopened
             }
-            assert!(rt; report.calls.iter().all(|call| *call == STARVED));
-            Fare::Starved
+        })
+}
+
+/// How a crew fared that has opened so many of its jobs.
+fn fare_of(found: &Found, requests: &[Option<&[u8]>], opened: usize) -> Result<Fare, Fail> {
+    let (fare, fits) = match found {
+        Ok(report) => {
+            if have_ended(&report.calls, requests, &[CHECKED]) {
+                (Fare::Served, opened == requests.len())
+            } else {
+                let fits = have_ended(&report.calls, requests, &[CHECKED, STARVED]);
+                (Fare::Starved, fits && opened == requests.len())
+            }
         }
         Err(fault) if fault.why == CrewWhy::Lost => {
-            assert!(rt; opened < jobs, "{opened} of {jobs} were opened");
             if opened == 0 {
-                Fare::Lost
+                (Fare::Lost, !requests.is_empty())
             } else {
-                Fare::Stopped
+                (Fare::Stopped, opened < requests.len())
             }
         }
         Err(fault) => {
-            assert!(rt; fault.why == CrewWhy::NoMemory && opened == jobs);
-            Fare::NoMemory
+            let fits = fault.why == CrewWhy::NoMemory && opened == requests.len();
+            (Fare::NoMemory, fits)
         }
-    }
-}
-
-/// Whether these are all seats, in their order.
-fn are_in_order(seats: &[Seat<Manual>]) -> bool {
-    let mut numbers = seats.iter().map(|seat| seat.number());
-    numbers.next() == Some(0)
-        && numbers.next() == Some(1)
-        && numbers.next() == Some(2)
-        && numbers.next().is_none()
-}
-
-/// Whether the only order was made, or refused for want of memory alone.
-fn is_made_or_refused(results: &[Vec<Result<Reply, Refusal>>]) -> bool {
-    let [results] = results else {
-        return false;
     };
-    let [result] = results.as_slice() else {
-        return false;
-    };
-    *result == Ok(Reply::Done) || *result == Err(Refusal::NoMemory)
+    same(&fits, &true, &(fare, opened))?;
+    Ok(fare)
 }
 
-/// A crew gives all seats back, and a report has the result of the order.
-fn expect_seats_and_results(rt: &impl Abort, found: &Found) {
-    match found {
-        Ok(report) => {
-            assert!(rt; are_in_order(&report.seats));
-            assert!(rt; is_made_or_refused(&report.orders));
-        }
-        Err(fault) => assert!(rt; are_in_order(&fault.seats)),
+/// How many of these orders got a reply; each other has to be refused for want of memory.
+fn made_in(results: &[Result<Reply, Refusal>]) -> Result<usize, Fail> {
+    let made = results.iter().filter(|one| one.is_ok()).count();
+    let starved = results
+        .iter()
+        .filter(|one| **one == Err(Refusal::NoMemory))
+        .count();
+    same(&made.saturating_add(starved), &results.len(), &results)?;
+    Ok(made)
+}
+
+fn made_in_all(lists: &[Vec<Result<Reply, Refusal>>]) -> Result<usize, Fail> {
+    let mut made = 0usize;
+    for results in lists {
+        made = made.saturating_add(made_in(results)?);
     }
+    Ok(made)
 }
 
-/// Lets a worker serve, beside a list of one order, with so many bytes left.
-fn serve_with<R: Wait + Threads + Sync + Abort + AllocGlobal>(
+/// All seats have to be back in their places; so many changes have they made together.
+fn made_by(seats: &[Seat<Manual>], count: u16) -> Result<usize, Fail> {
+    same(&seats.len(), &usize::from(count), &"seats")?;
+    let mut made = 0usize;
+    for (place, seat) in seats.iter().enumerate() {
+        same(&usize::from(seat.number()), &place, &"the seat's place")?;
+        made = made.saturating_add(seat.made() as usize);
+    }
+    Ok(made)
+}
+
+/// The journal has the two registrations and the orders that were made: as many as a report tells, and none where nothing began.
+fn expect_entries(hall: Hall<Manual>, found: Found, count: u16, has_begun: bool) -> Result<(), Fail>
+    requires { MatchResult found (λ report. All (IsOf hall) report.seats.items) (λ fault. All (IsOf hall) fault.seats.items) }
+{
+    let (seats, told) = match found {
+        Ok(report) => (report.seats, Some(made_in_all(&report.orders)?)),
+        Err(fault) if has_begun => (fault.seats, None),
+        Err(fault) => (fault.seats, Some(0)),
+    };
+    let made = made_by(&seats, count)?;
+    if let Some(told) = told {
+        same(&made, &told.saturating_add(2), &"orders")?;
+    }
+    let Ok(closed) = hall.close(seats) else {
+        return Err(Fail::new("seats are missing"));
+    };
+    same(&closed.desk.journal().len(), &made, &"entries")
+}
+
+/// What a crew answers with so many bytes left, and how many jobs it has opened.
+fn found_with<R: Wait + Threads + Sync>(
     rt: &R,
-    requests: &[Option<&'static [u8]>],
+    alloc: Global,
+    hall: &Hall<Manual>,
+    seats: Vec<Seat<Manual>>,
+    trial: &Trial,
     left: usize,
-    end: CallEnd,
-) -> Fare {
-    let (hall, seats) = hall_of_two(rt, 3);
+) -> Result<(Found, usize), Fail>
+    requires { All (IsOf hall.now) seats.items }
+    ensures { IfOk result (λ tried. MatchResult tried.0 (λ report. All (IsOf hall.now) report.seats.items) (λ fault. All (IsOf hall.now) fault.seats.items)) }
+{
     let opened = AtomicU32::new(0);
-    let jobs = notes(rt, requests, &opened);
-    let orders = lists(rt, &[&[Wish::Set("a", Setting::Down)]]);
-    let scarcity = Scarcity::new(rt.alloc(), ROOM).ok().expect(rt, "no memory");
-    let filler = scarcity.leave(left).ok().expect(rt, "no filler");
-    let found = serve(rt, &hall, seats, jobs, orders, &OpenTurnstile, 1);
+    let jobs = notes(alloc, trial.requests, &opened)?;
+    let orders = lists(alloc, trial.lists)?;
+    let scarcity = Scarcity::new(alloc, ROOM)?;
+    let filler = scarcity.leave(left)?;
+    let found = serve(
+        rt,
+        alloc,
+        hall,
+        seats,
+        jobs,
+        orders,
+        &OpenTurnstile,
+        trial.workers,
+    )?;
     drop(filler);
     drop(scarcity);
-    expect_seats_and_results(rt, &found);
-    let opened = opened.load(Ordering::SeqCst) as usize;
-    fare_of(rt, &found, requests.len(), opened, end)
+    Ok((found, opened.load(Ordering::SeqCst) as usize))
 }
 
-/// How a crew fares with more and more memory left, up to where it suffices.
+/// Tries a crew with so many bytes left, and looks at what it has made. With none left it can't begin, and a crew without jobs wants
+/// memory only to begin with.
+fn fare_with<R: Wait + Threads + Sync>(
+    rt: &R,
+    alloc: Global,
+    trial: &Trial,
+    left: usize,
+) -> Result<Fare, Fail> {
+    let lists = u16::try_from(trial.lists.len())?;
+    let count = trial.workers.saturating_add(lists).saturating_add(1);
+    let (hall, seats) = hall_of_two(rt, alloc, count)?;
+    let (found, opened) = found_with(rt, alloc, &hall, seats, trial, left)?;
+    let fare = fare_of(&found, trial.requests, opened)?;
+    let has_begun = left > 0 && !trial.requests.is_empty();
+    expect_entries(hall, found, count, has_begun)?;
+    Ok(fare)
+}
+
+/// How a crew fares with more and more memory left, up to where it fares so for the first time.
 ///
 /// It is tried with ample memory first: once it has looked for a thread, the C library takes single pages too where the heap is
 /// used up, and only then are those taken with the rest.
-fn fares<R: Wait + Threads + Sync + Abort + AllocGlobal>(
+fn fares<R: Wait + Threads + Sync>(
     rt: &R,
-    requests: &[Option<&'static [u8]>],
-    end: CallEnd,
-) -> Vec<Fare> {
-    let ample = serve_with(rt, requests, ROOM / 2, end);
-    assert!(rt; ample == Fare::Served, "{ample:?} of half the room");
-    let mut fares = Vec::new(rt.alloc());
-    for step in 0..ROOM / 16 {
-        let fare = serve_with(rt, requests, 16 * step, end);
-        assert!(rt; fares.push(fare).is_ok());
-        if fare == Fare::Served {
+    alloc: Global,
+    trial: &Trial,
+    last: Fare,
+) -> Result<Vec<Fare>, Fail> {
+    let ample = fare_with(rt, alloc, trial, ROOM / 2)?;
+    same(&ample, &Fare::Served, &"half the room")?;
+    let mut fares = Vec::new(alloc);
+    for step in 0..ROOM / STEP {
+        let fare = fare_with(rt, alloc, trial, STEP * step)?;
+        fares.push(fare)?;
+        if fare == last {
             break;
         }
     }
-    fares
+    Ok(fares)
 }
 
-/// Memory has to suffice at last, and before that the crew has to fare in each of these ways and in no other.
-fn expect_fares(rt: &impl Abort, fares: &[Fare], wanting: &[Fare]) {
-    let Some((last, before)) = fares.split_last() else {
-        assert!(rt; false, "nothing was served");
-        return;
+/// A crew fares so at last, and before that in each of these ways and in no other.
+fn expect_fares(fares: &[Fare], wanting: &[Fare], last: Fare) -> Result<(), Fail> {
+    let Some((at_last, before)) = fares.split_last() else {
+        return Err(Fail::new("nothing was tried"));
     };
-    assert!(rt; *last == Fare::Served, "memory never sufficed");
-    for fare in wanting {
-        assert!(rt; before.contains(fare), "never {fare:?}");
-    }
-    for fare in before {
-        assert!(rt; wanting.contains(fare), "{fare:?}");
-    }
+    same(at_last, &last, &"the last step")?;
+    same(
+        &wanting.iter().all(|fare| before.contains(fare)),
+        &true,
+        &wanting,
+    )?;
+    same(
+        &before.iter().all(|fare| wanting.contains(fare)),
+        &true,
+        &wanting,
+    )
 }
 
+/// Two lists of orders, and no call.
+const ORDERS: Trial = Trial {
+    workers: 1,
+    requests: &[],
+    lists: &[
+        &[
+            Wish::Set("a", Setting::Down),
+            Wish::Set("", Setting::Down),
+            Wish::Set("a", Setting::Up),
+        ],
+        &[Wish::Shutdown],
+    ],
+};
+
 #[test]
-fn want_of_memory_before_anything_began_is_told_where_no_call_waits(rt: HostRuntime) {
-    let fares = fares(&rt, &[], CHECKED);
-    expect_fares(&rt, &fares, &[Fare::NoMemory]);
+fn no_order_is_made_where_there_is_no_memory_for_its_result(rt: HostRuntime) -> Result<(), Fail> {
+    let fares = fares(&rt, rt.alloc(), &ORDERS, Fare::Served)?;
+    expect_fares(&fares, &[Fare::NoMemory], Fare::Served)
 }
 
+/// A Check, and one order.
+const CHECK: Trial = Trial {
+    workers: 1,
+    requests: &[Some(CHECK_OF_EMPTY)],
+    lists: &[&[Wish::Set("a", Setting::Down)]],
+};
+
 #[test]
-fn a_call_is_lost_or_starved_or_not_reported_where_memory_is_wanting(rt: HostRuntime) {
-    let fares = fares(&rt, &[Some(CHECK_OF_EMPTY)], CHECKED);
-    expect_fares(&rt, &fares, &[Fare::Lost, Fare::NoMemory, Fare::Starved]);
+fn a_call_is_lost_or_starved_or_not_reported_where_memory_is_wanting(
+    rt: HostRuntime,
+) -> Result<(), Fail> {
+    let fares = fares(&rt, rt.alloc(), &CHECK, Fare::Served)?;
+    let wanting = [Fare::Lost, Fare::NoMemory, Fare::Starved];
+    expect_fares(&fares, &wanting, Fare::Served)
 }
 
-/// So many that the report of the last one takes new memory, if that is taken in powers of two.
-const CALLS: usize = 65;
+const LOST: Option<&[u8]> = None;
+
+const ASKS: Option<&[u8]> = Some(CHECK_OF_EMPTY);
+
+/// So many calls that the report of the last one takes new memory, if that is taken in powers of two. Some have lost their ends.
+const CALLS: [Option<&[u8]>; 65] = [
+    ASKS, LOST, LOST, ASKS, LOST, ASKS, ASKS, LOST, LOST, LOST, LOST, LOST, LOST, //
+    LOST, LOST, LOST, LOST, LOST, LOST, LOST, LOST, LOST, LOST, LOST, LOST, LOST, //
+    LOST, LOST, LOST, ASKS, ASKS, ASKS, LOST, LOST, LOST, LOST, LOST, LOST, LOST, //
+    LOST, LOST, LOST, LOST, LOST, LOST, LOST, LOST, LOST, LOST, LOST, LOST, LOST, //
+    LOST, LOST, LOST, LOST, LOST, LOST, LOST, LOST, LOST, LOST, LOST, LOST, ASKS,
+];
+
+const ALONE: Trial = Trial {
+    workers: 1,
+    requests: &CALLS,
+    lists: &[&[Wish::Set("a", Setting::Down)]],
+};
+
+const TOGETHER: Trial = Trial {
+    workers: 3,
+    requests: &CALLS,
+    lists: &[&[Wish::Set("a", Setting::Down)]],
+};
 
 #[test]
-fn a_worker_without_memory_for_a_report_takes_no_job(rt: HostRuntime) {
-    let fares = fares(&rt, &[None; CALLS], CallEnd::Unopened);
-    expect_fares(&rt, &fares, &[Fare::Lost, Fare::Stopped]);
+fn a_worker_without_memory_for_a_report_leaves_the_jobs_to_the_others(
+    rt: HostRuntime,
+) -> Result<(), Fail> {
+    let alloc = rt.alloc();
+    let alone = fares(&rt, alloc, &ALONE, Fare::Starved)?;
+    expect_fares(&alone, &[Fare::Lost, Fare::Stopped], Fare::Starved)?;
+    let together = fares(&rt, alloc, &TOGETHER, Fare::Starved)?;
+    same(&together.last(), &Some(&Fare::Starved), &"together")?;
+    let enough = together.len().saturating_sub(1);
+    same(&alone.get(enough), &Some(&Fare::Stopped), &enough)
 }

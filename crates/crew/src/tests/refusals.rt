@@ -1,12 +1,13 @@
-use crate::tests::halls::{Found, Wish, expect_seats, lists, new_hall, serve};
-use crate::tests::letters::{CHECK_OF_EMPTY, notes};
+use crate::tests::halls::{Wish, expect_seats, new_hall, serve_notes};
 use crate::{CrewWhy, OpenTurnstile};
-use std::process::Abort;
+use std::alloc::Global;
 use std::sync::Wait;
-use std::sync::atomic::{AtomicU32, Ordering};
+use std::test::Fail;
 use std::thread::Threads;
+use test_support::requests::CHECK_OF_EMPTY;
+use test_support::same;
 
-/// How many workers and lists of orders there are, how many changes each of the seats has made, and why they are no crew.
+/// How many workers there are, the lists of orders, how many changes each of the seats has made, and why they are no crew.
 const REFUSED: [(u16, &[&[Wish]], &[u64], CrewWhy); 6] = [
     (0, &[], &[0], CrewWhy::NoWorkers),
     (0, &[&[]], &[0, 0, 0], CrewWhy::NoWorkers),
@@ -16,32 +17,32 @@ const REFUSED: [(u16, &[&[Wish]], &[u64], CrewWhy); 6] = [
     (u16::MAX, &[], &[0, 0, 0, 0], CrewWhy::NoSeats),
 ];
 
-fn expect_refused(rt: &impl Abort, found: Found, why: CrewWhy, made: &[u64]) {
-    let fault = found.err().expect(rt, "a fault");
-    assert!(rt; fault.why == why, "{:?} and not {why:?}", fault.why);
-    expect_seats(rt, &fault.seats, made);
-}
-
-fn refuse<R: Wait + Threads + Sync + Abort + AllocGlobal>(
+fn refuse<R: Wait + Threads + Sync>(
     rt: &R,
+    alloc: Global,
     workers: u16,
     wishes: &[&[Wish]],
     made: &[u64],
     why: CrewWhy,
-) {
-    assert!(rt; made.len() < 10);
-    let (hall, seats) = new_hall(rt, 100, made.len() as u16);
-    let opened = AtomicU32::new(0);
-    let jobs = notes(rt, &[Some(CHECK_OF_EMPTY), None], &opened);
-    let orders = lists(rt, wishes);
-    let found = serve(rt, &hall, seats, jobs, orders, &OpenTurnstile, workers);
-    expect_refused(rt, found, why, made);
-    assert!(rt; opened.load(Ordering::SeqCst) == 0);
+) -> Result<(), Fail> {
+    let (hall, seats) = new_hall(alloc, 100, u16::try_from(made.len())?)?;
+    let requests = [Some(CHECK_OF_EMPTY), None];
+    let gate = OpenTurnstile;
+    let (found, opened) = serve_notes(rt, alloc, &hall, seats, &requests, wishes, &gate, workers)?;
+    let Err(fault) = found else {
+        return Err(Fail::new("a report"));
+    };
+    same(&fault.why, &why, &made)?;
+    expect_seats(&fault.seats, made)?;
+    same(&opened, &0, &why)
 }
 
 #[test]
-fn a_crew_that_cannot_begin_opens_nothing_and_gives_all_seats_back(rt: HostRuntime) {
+fn a_crew_that_cannot_begin_opens_nothing_and_gives_all_seats_back(
+    rt: HostRuntime,
+) -> Result<(), Fail> {
     for (workers, wishes, made, why) in REFUSED {
-        refuse(&rt, workers, wishes, made, why);
+        refuse(&rt, rt.alloc(), workers, wishes, made, why)?;
     }
+    Ok(())
 }

@@ -1,21 +1,22 @@
-ghost use Rattle.std.specs.Prelude.{◌<◌};
+ghost use Rattle.std.specs.Prelude.{◌<◌, OnOk};
 ghost use Rattle.hall.specs.Seats.{IsOf};
 
 use crate::tests::halls::{
-    Found, Wish, expect_results, expect_seats, lists, new_hall, register, serve_within,
+    Wish, expect_results, expect_seats, last_two, lists, new_hall, register, reported, serve_within,
 };
-use crate::tests::letters::{
-    CHECK_OF_A, DOWN_UP, Letter, NOT_SERVING, UP, UP_DOWN, UP_DOWN_UP, WATCH_OF_A,
-};
-use crate::{CallEnd, HallDoor, OpenTurnstile};
+use crate::tests::letters::{DOWN_UP, Letter, NOT_SERVING, UP, UP_DOWN, UP_DOWN_UP};
+use crate::{CallEnd, HallDoor, OpenTurnstile, Report};
 use desk_core::{Reply, Setting};
 use grpc_frame::Code;
 use hall::{Hall, Seat};
 use probe_core::Manual;
-use std::process::Abort;
+use std::alloc::{AllocError, Global};
 use std::sync::Wait;
 use std::sync::atomic::AtomicU32;
+use std::test::Fail;
 use std::thread::Threads;
+use test_support::requests::{CHECK_OF_A, WATCH_OF_A};
+use test_support::same;
 use web_call::{Bell, Door, ExchangeFault, Limits, Outcome, Tap, Turn, exchange};
 
 /// What a Watch may tell of a service that is set Down and then Up beside it, and how many messages that are.
@@ -30,74 +31,75 @@ fn is_told(calls: &[CallEnd], written: &[u8]) -> bool {
     })
 }
 
-fn expect_told(rt: &impl Abort, found: Found, written: &[u8]) {
-    let report = found.ok().expect(rt, "a report");
-    assert!(rt; is_told(&report.calls, written), "{:?}", report.calls);
-    expect_results(rt, &report.orders, &[&[Ok(Reply::Done), Ok(Reply::Done)]]);
-    expect_seats(rt, &report.seats, &[0, 3]);
-}
-
 /// Watches `a` while these orders are made, with at most so many Looks, and gives what was written.
-fn watch_beside_orders<R: Wait + Threads + Sync + Abort + AllocGlobal>(
+fn watch_beside_orders<R: Wait + Threads + Sync>(
     rt: &R,
+    alloc: Global,
     wishes: &[Wish],
     looks: u32,
     written: &mut Vec<u8>,
-) -> Found {
-    let (hall, seats) = new_hall(rt, 10_000, 2);
-    let seats = register(rt, &hall, seats, "a");
+) -> Result<Report<Manual>, Fail> {
+    let (hall, seats) = new_hall(alloc, 10_000, 2)?;
+    let seats = register(rt, &hall, seats, "a")?;
     let opened = AtomicU32::new(0);
-    let mut jobs = Vec::new(rt.alloc());
-    let letter = Letter::new(Some((WATCH_OF_A, written)), &opened);
-    assert!(rt; jobs.push(letter).is_ok());
-    let orders = lists(rt, &[wishes]);
-    serve_within(rt, &hall, seats, jobs, orders, &OpenTurnstile, 1, looks)
+    let mut jobs = Vec::new(alloc);
+    jobs.push(Letter::new(Some((WATCH_OF_A, written)), &opened))?;
+    let orders = lists(alloc, &[wishes])?;
+    reported(serve_within(
+        rt,
+        alloc,
+        &hall,
+        seats,
+        jobs,
+        orders,
+        &OpenTurnstile,
+        1,
+        looks,
+    )?)
 }
 
-// A crew that serves nobody and tells that all calls were lost has no report here.
+// `serve_all_always_lost`, a crew that tells that all calls were lost, or that they were answered, and opens no job, has no such
+// report here, or has written nothing.
 #[test]
-fn a_watch_tells_each_change_from_its_opening(rt: HostRuntime) {
+fn a_watch_tells_each_change_from_its_opening(rt: HostRuntime) -> Result<(), Fail> {
+    let alloc = rt.alloc();
     let wishes = [Wish::Set("a", Setting::Down), Wish::Set("a", Setting::Up)];
     for _ in 0..50 {
-        let mut written = Vec::new(rt.alloc());
-        let found = watch_beside_orders(&rt, &wishes, 10, &mut written);
-        expect_told(&rt, found, &written);
+        let mut written = Vec::new(alloc);
+        let report = watch_beside_orders(&rt, alloc, &wishes, 10, &mut written)?;
+        same(&is_told(&report.calls, &written), &true, &report.calls)?;
+        expect_results(&report.orders, &[&[Ok(Reply::Done), Ok(Reply::Done)]])?;
+        expect_seats(&report.seats, &[0, 3])?;
     }
+    Ok(())
 }
 
 /// So many orders, which set `a` Down and Up in turn.
-fn flips(rt: &(impl Abort + AllocGlobal), count: u32) -> Vec<Wish> {
-    let mut wishes = Vec::new(rt.alloc());
+fn flips(alloc: Global, count: u32) -> Result<Vec<Wish>, AllocError> {
+    let mut wishes = Vec::new(alloc);
     for number in 0..count {
         let setting = if number % 2 == 0 {
             Setting::Down
         } else {
             Setting::Up
         };
-        assert!(rt; wishes.push(Wish::Set("a", setting)).is_ok());
+        wishes.push(Wish::Set("a", setting))?;
     }
-    wishes
-}
-
-fn expect_one_message(rt: &impl Abort, found: Found) {
-    let report = found.ok().expect(rt, "a report");
-    let end = CallEnd::Done(Outcome::Watched { messages: 1 });
-    assert!(rt;
-        report.calls.as_slice() == [end].as_slice(),
-        "{:?}",
-        report.calls
-    );
+    Ok(wishes)
 }
 
 // There are so many orders that the Watch is opened while they are made: with a Look it would tell a later change.
 #[test]
-fn a_watch_without_looks_tells_its_opening_alone(rt: HostRuntime) {
-    let wishes = flips(&rt, 5_000);
-    for _ in 0..5 {
-        let mut written = Vec::new(rt.alloc());
-        let found = watch_beside_orders(&rt, &wishes, 0, &mut written);
-        expect_one_message(&rt, found);
+fn a_watch_without_looks_tells_its_opening_alone(rt: HostRuntime) -> Result<(), Fail> {
+    let alloc = rt.alloc();
+    let wishes = flips(alloc, 5_000)?;
+    let end = CallEnd::Done(Outcome::Watched { messages: 1 });
+    for run in 0..5 {
+        let mut written = Vec::new(alloc);
+        let report = watch_beside_orders(&rt, alloc, &wishes, 0, &mut written)?;
+        same(&report.calls.as_slice(), &[end].as_slice(), &run)?;
     }
+    Ok(())
 }
 
 /// A bell that sets `a` Down by its seat and then gives a Look, once.
@@ -130,7 +132,7 @@ impl<R: Wait> Bell for Setter<'_, R> {
 
 /// Answers a request, with at most 10 Looks.
 fn exchange_over<D: Door + Drop, B: Bell + Drop>(
-    rt: &impl AllocGlobal,
+    alloc: Global,
     request: &[u8],
     written: &mut Vec<u8>,
     mut door: D,
@@ -140,7 +142,7 @@ fn exchange_over<D: Door + Drop, B: Bell + Drop>(
     let mut writer = Tap::new(written);
     let limits = Limits { looks: 10 };
     exchange(
-        rt.alloc(),
+        alloc,
         &mut reader,
         &mut writer,
         &mut door,
@@ -150,8 +152,9 @@ fn exchange_over<D: Door + Drop, B: Bell + Drop>(
 }
 
 /// Answers a request by the seat that looks, with a bell of the one that sets.
-fn answer<R: Wait + AllocGlobal>(
+fn answer<R: Wait>(
     rt: &R,
+    alloc: Global,
     hall: &Hall<Manual>,
     setting: &mut Seat<Manual>,
     looking: &mut Seat<Manual>,
@@ -169,38 +172,62 @@ fn answer<R: Wait + AllocGlobal>(
         looks: 0,
         is_over: false,
     };
-    exchange_over(rt, request, written, door, bell)
+    exchange_over(alloc, request, written, door, bell)
 }
 
-/// The seat that looks has met nobody, so what it tells comes from the hall alone.
-fn watch_another_seat<R: Wait + Abort + AllocGlobal>(rt: &R, written: &mut Vec<u8>) {
-    let (hall, seats) = new_hall(rt, 100, 2);
-    let mut seats = register(rt, &hall, seats, "a");
-    let mut setting = seats.pop().expect(rt, "a seat");
-    let mut looking = seats.pop().expect(rt, "a seat");
-    let ended = answer(rt, &hall, &mut setting, &mut looking, WATCH_OF_A, written);
-    assert!(rt; ended == Ok(Outcome::Watched { messages: 2 }));
-    assert!(rt; setting.made() == 2 && looking.made() == 0);
+/// Sets `a` Down, if it is to be Down from the first.
+fn begin_down<R: Wait>(
+    rt: &R,
+    hall: &Hall<Manual>,
+    seat: &mut Seat<Manual>,
+    is_down: bool,
+) -> Result<(), Fail>
+    requires { IsOf hall.now seat.old }
+    ensures { OnOk result (IsOf hall.now seat.new) }
+{
+    if !is_down {
+        return Ok(());
+    }
+    hall.set(rt, seat, "a", Setting::Down)?;
+    Ok(())
 }
 
-/// A Check asks no bell, so nothing is set but before it.
-fn check_another_seat<R: Wait + Abort + AllocGlobal>(rt: &R, written: &mut Vec<u8>) {
-    let (hall, seats) = new_hall(rt, 100, 2);
-    let mut seats = register(rt, &hall, seats, "a");
-    let mut setting = seats.pop().expect(rt, "a seat");
-    let mut looking = seats.pop().expect(rt, "a seat");
-    assert!(rt; hall.set(rt, &mut setting, "a", Setting::Down).is_ok());
-    let ended = answer(rt, &hall, &mut setting, &mut looking, CHECK_OF_A, written);
-    assert!(rt; ended == Ok(Outcome::Status(Code::Ok)));
-    assert!(rt; setting.made() == 2 && looking.made() == 0);
+/// Answers a request for `a` by a seat that has met nobody, so what it tells comes from the hall alone. Where `a` is to be Down
+/// from the first, the other seat sets it before the request; a Watch has it set at its first wait.
+fn ask_another_seat<R: Wait>(
+    rt: &R,
+    alloc: Global,
+    is_down: bool,
+    request: &[u8],
+    written: &mut Vec<u8>,
+) -> Result<Outcome, Fail> {
+    let (hall, seats) = new_hall(alloc, 100, 2)?;
+    let seats = register(rt, &hall, seats, "a")?;
+    let (mut setting, mut looking) = last_two(&hall, seats)?;
+    begin_down(rt, &hall, &mut setting, is_down)?;
+    let ended = answer(
+        rt,
+        alloc,
+        &hall,
+        &mut setting,
+        &mut looking,
+        request,
+        written,
+    )?;
+    same(&(setting.made(), looking.made()), &(2, 0), &"made")?;
+    Ok(ended)
 }
 
+// A Check asks no bell, so nothing is set but before it.
 #[test]
-fn a_door_tells_what_another_seat_sets(rt: HostRuntime) {
-    let mut written = Vec::new(rt.alloc());
-    watch_another_seat(&rt, &mut written);
-    assert!(rt; written.as_slice() == UP_DOWN);
+fn a_door_tells_what_another_seat_sets(rt: HostRuntime) -> Result<(), Fail> {
+    let alloc = rt.alloc();
+    let mut written = Vec::new(alloc);
+    let watched = ask_another_seat(&rt, alloc, false, WATCH_OF_A, &mut written)?;
+    same(&watched, &Outcome::Watched { messages: 2 }, &"a Watch")?;
+    same(&written.as_slice(), &UP_DOWN, &"a Watch")?;
     written.clear();
-    check_another_seat(&rt, &mut written);
-    assert!(rt; written.as_slice() == NOT_SERVING);
+    let checked = ask_another_seat(&rt, alloc, true, CHECK_OF_A, &mut written)?;
+    same(&checked, &Outcome::Status(Code::Ok), &"a Check")?;
+    same(&written.as_slice(), &NOT_SERVING, &"a Check")
 }

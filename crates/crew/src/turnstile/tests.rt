@@ -1,5 +1,7 @@
 use super::*;
 use std::sync::atomic::{AtomicU32, Ordering};
+use std::test::Fail;
+use test_support::same;
 
 /// A turnstile that adds the numbers of those inside.
 #[derive(Drop)]
@@ -31,17 +33,17 @@ fn pass<R: Wait, T: Turnstile>(rt: &R, turnstile: &T, numbers: &[u32]) -> usize 
 }
 
 #[test]
-fn passes_the_numbers_on(rt: HostRuntime) {
+fn passes_the_numbers_on(rt: HostRuntime) -> Result<(), Fail> {
     let adding = Adding {
         inside: AtomicU32::new(5),
     };
     adding.enter(&rt, 3);
-    assert!(rt; adding.inside.load(Ordering::SeqCst) == 8);
-    assert!(rt; pass(&rt, &adding, &[7, 8]) == 2);
-    assert!(rt; adding.inside.load(Ordering::SeqCst) == 8);
+    same(&adding.inside.load(Ordering::SeqCst), &8, &"entered")?;
+    same(&pass(&rt, &adding, &[7, 8]), &2, &"passed")?;
+    same(&adding.inside.load(Ordering::SeqCst), &8, &"left")
 }
 
 #[test]
-fn an_open_turnstile_holds_no_call(rt: HostRuntime) {
-    assert!(rt; pass(&rt, &OpenTurnstile, &[0, 1, 1]) == 3);
+fn an_open_turnstile_holds_no_call(rt: HostRuntime) -> Result<(), Fail> {
+    same(&pass(&rt, &OpenTurnstile, &[0, 1, 1]), &3, &"passed")
 }

@@ -1,4 +1,4 @@
-use Rattle.crew.specs.Looking.{looked_on}
+use Rattle.crew.proofs.LookingLemmas.{looked_on}
 use Rattle.crew.proofs.work.work.Goals as goal
 
 pub loop-preserved : goal.loop-preserved

@@ -1,6 +1,6 @@
 use super::*;
-use scarce::Scarcity;
 use std::mem::size_of;
+use test_support::Scarcity;
 
 const CALLS: u32 = 128;
 
@@ -15,74 +15,66 @@ const PLACES: usize = CALLS as usize * size_of::<Option<CallEnd>>();
 const ENDS: usize = CALLS as usize * size_of::<CallEnd>();
 
 /// Reports of all calls but the last in their order, and then of this number.
-fn reports_with(rt: &(impl Abort + AllocGlobal), last: Option<u32>) -> Vec<(u32, CallEnd)> {
-    let mut found = Vec::with_capacity(rt.alloc(), CALLS as usize)
-        .ok()
-        .expect(rt, "no memory");
+fn reports_with(alloc: Global, last: Option<u32>) -> Result<Vec<(u32, CallEnd)>, AllocError> {
+    let mut found = Vec::with_capacity(alloc, CALLS as usize)?;
     for number in (0..CALLS - 1).chain(last) {
-        found
-            .push((number, CallEnd::Unopened))
-            .ok()
-            .expect(rt, "no memory");
+        found.push((number, CallEnd::Unopened))?;
     }
-    found
+    Ok(found)
 }
 
 /// Gathers with so many bytes left, and tells whether they sufficed. Any other answer has to be this one.
 fn gathers(
-    rt: &(impl Abort + AllocGlobal),
+    alloc: Global,
     scarcity: &Scarcity,
     left: usize,
     last: Option<u32>,
     refused: CrewWhy,
-) -> bool {
-    let found = reports_with(rt, last);
-    let filler = scarcity
-        .leave(left.saturating_add(REPORTS))
-        .ok()
-        .expect(rt, "no filler");
-    let gathered = gather(rt.alloc(), CALLS, found);
+) -> Result<bool, Fail> {
+    let found = reports_with(alloc, last)?;
+    let filler = scarcity.leave(left.saturating_add(REPORTS))?;
+    let gathered = gather(alloc, CALLS, found);
     drop(filler);
     match gathered {
         Ok(ends) => {
-            assert!(rt; ends.len() == CALLS as usize);
-            true
+            same(&ends.len(), &(CALLS as usize), &left)?;
+            Ok(true)
         }
         Err(why) => {
-            assert!(rt; why == refused);
-            false
+            same(&why, &refused, &left)?;
+            Ok(false)
         }
     }
 }
 
 /// Gathers with more and more memory left, and counts the steps at which it sufficed.
-fn count_whole(rt: &(impl Abort + AllocGlobal), last: Option<u32>, refused: CrewWhy) -> usize {
-    let scarcity = Scarcity::new(rt.alloc(), 16_384)
-        .ok()
-        .expect(rt, "no memory");
+fn count_whole(alloc: Global, last: Option<u32>, refused: CrewWhy) -> Result<usize, Fail> {
+    let scarcity = Scarcity::with_small_room(alloc)?;
     let mut whole = 0usize;
     for step in 0..STEPS {
-        if gathers(rt, &scarcity, step.saturating_mul(16), last, refused) {
+        if gathers(alloc, &scarcity, step.saturating_mul(16), last, refused)? {
             whole = whole.saturating_add(1);
         }
     }
-    whole
+    Ok(whole)
 }
 
+// `always_out_of_memory` never gathers here.
 #[test]
-fn refuses_each_growth_where_no_fault_stands(rt: HostRuntime) {
-    let whole = count_whole(&rt, Some(127), CrewWhy::NoMemory);
+fn refuses_each_growth_where_no_fault_stands(rt: HostRuntime) -> Result<(), Fail> {
+    let whole = count_whole(rt.alloc(), Some(127), CrewWhy::NoMemory)?;
     let most = STEPS.saturating_sub((PLACES + ENDS) / 16);
-    assert!(rt; whole > 0 && whole <= most, "{whole} of {most}");
+    same(&(whole > 0 && whole <= most), &true, &(whole, most))
 }
 
 #[test]
-fn want_of_memory_hides_no_fault(rt: HostRuntime) {
+fn want_of_memory_hides_no_fault(rt: HostRuntime) -> Result<(), Fail> {
     for (last, fault) in [
         (Some(128), CrewWhy::Stranger),
         (Some(0), CrewWhy::Doubled),
         (None, CrewWhy::Lost),
     ] {
-        assert!(rt; count_whole(&rt, last, fault) == 0, "at {fault:?}");
+        same(&count_whole(rt.alloc(), last, fault)?, &0, &fault)?;
     }
+    Ok(())
 }
