@@ -1,8 +1,11 @@
+ghost use Rattle.probe_core.specs.Made.{IsAsked};
+
 use crate::figures::Figures;
 use crate::load::Load;
 use crate::serving::serve_clients;
-use probe_core::{Manual, Probe};
+use probe_core::{Depends, Manual, Probe, Rule, Threshold};
 use script::{Mode, read_script};
+use std::alloc::AllocError;
 use std::net::{Net, TcpListener, TcpStream};
 use std::sync::Wait;
 use std::thread::Threads;
@@ -27,9 +30,17 @@ where
 {
     let alloc = rt.alloc();
     let script = read_script(alloc, SCRIPT.as_bytes(), Mode::Serve).ok()?;
-    let mut probes: Vec<Box<dyn Probe + Send>> = Vec::new(alloc);
-    probes.push(Box::new(alloc, Manual::new()).ok()?).ok()?;
-    let figures = Figures::of(serve_clients(rt, alloc, &script, probes, load)?)?;
+    let make = |rule: Rule| -> Result<Box<dyn Probe + Send>, AllocError>
+        ensures { IsAsked (λ probe. (Probe-box probe).rule probe.value) (λ probe. (Probe-box probe).memory probe.value) rule result }
+    {
+        let probe: Box<dyn Probe + Send> = match rule {
+            Rule::Threshold(fall) => Box::new(alloc, Threshold::new(fall))?,
+            Rule::Manual => Box::new(alloc, Manual::new())?,
+            Rule::Depends(mask) => Box::new(alloc, Depends::new(mask))?,
+        };
+        Ok(probe)
+    };
+    let figures = Figures::of(serve_clients(rt, alloc, &script, &make, load)?)?;
     print!(rt;
         "clients {}: {} requests a second,",
         load.clients, figures.per_second

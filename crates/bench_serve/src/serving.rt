@@ -1,15 +1,16 @@
-ghost use Rattle.std.specs.Prelude.{◌≡◌, vec_len};
-ghost use Rattle.script.specs.Run.{registers};
+ghost use Rattle.std.specs.List.{All};
+ghost use Rattle.hall.specs.Seats.{IsOf};
+ghost use Rattle.probe_core.specs.Made.{MakesAsked};
 
 use crate::clients::{Asked, ask_all};
 use crate::load::Load;
 use crate::request::HOST;
 use crew::CallEnd;
 use grpc_frame::Code;
-use probe_core::Probe;
-use script::{Script, registers};
-use server::{Capacity, hall_of, serve};
-use std::alloc::Global;
+use probe_core::{Probe, Rule};
+use script::Script;
+use server::{Capacity, SetUpHall, hall_of, serve};
+use std::alloc::{AllocError, Global};
 use std::net::{Net, TcpListener, TcpStream};
 use std::sync::Wait;
 use std::thread;
@@ -23,26 +24,26 @@ const WORKERS: u16 = 4;
 const SEATS: u16 = 5;
 
 /// Serves the connections of the clients beside them, on a port that is free. None if a connection was not answered.
-pub fn serve_clients<R, P: Probe + Send>(
+pub fn serve_clients<R, P: Probe + Send, F: Fn(Rule) -> Result<P, AllocError>>(
     rt: &R,
     alloc: Global,
     script: &Script,
-    probes: Vec<P>,
+    make: &F,
     load: Load,
 ) -> Option<Asked>
 where
     R: Clock + Threads + Wait + Sync + Net<Listener = TcpListener, Stream = TcpStream>,
+    requires callable { F.IsAlwaysCallable make.now }
+    requires asked { MakesAsked P.rule P.memory (F.post make.now) }
 {
     let listener = TcpListener::bind(rt, (HOST, 0u16)).ok()?;
     let port = listener.local_addr().ok()?.port();
-    if probes.len() != registers(script.lines()) {
-        return None;
-    }
+    let made = hall_of(rt, alloc, script, make, SEATS).ok()?;
     let (answered, asked) = thread::join(
         rt,
         move || -> Option<usize>
-            requires { vec_len probes ≡ registers script.now.lines }
-        { serve_checks(rt, alloc, script, probes, listener, load.connections) },
+            requires { All (IsOf made.hall) made.seats.items }
+        { serve_checks(rt, alloc, made, listener, load.connections) },
         move || ask_all(rt, alloc, port, load),
     );
     if answered == Some(load.connections as usize) {
@@ -56,21 +57,24 @@ where
 fn serve_checks<R, P: Probe + Send>(
     rt: &R,
     alloc: Global,
-    script: &Script,
-    probes: Vec<P>,
+    made: SetUpHall<P>,
     listener: TcpListener,
     connections: u16,
 ) -> Option<usize>
 where
     R: Wait + Threads + Sync,
-    requires { vec_len probes ≡ registers script.now.lines }
+    requires { All (IsOf made.hall) made.seats.items }
 {
-    let orders = Vec::new(alloc);
-    let (hall, seats) = hall_of(rt, alloc, script, probes, SEATS).ok()?;
+    let SetUpHall {
+        hall,
+        seats,
+        results: _,
+    } = made;
     let capacity = Capacity {
         workers: WORKERS,
         calls: connections,
     };
+    let orders = Vec::new(alloc);
     let served = serve(rt, alloc, hall, seats, orders, &listener, capacity).ok()?;
     let answered = CallEnd::Done(Outcome::Status(Code::Ok));
     Some(served.calls.iter().filter(|end| **end == answered).count())

@@ -1,6 +1,5 @@
 -- The command `replay`.
 use Rattle.std.specs.Prelude.{ℕ, ◌≢◌, List}
-use Rattle.probe_core.specs.declared.rule.Rule.{Rule}
 use Rattle.healthd.specs.declared.fault.Fault.{Fault}
 use Rattle.healthd.specs.declared.fault.Fault.TheVariants.{BadHex, BadService, Script, Read, Write, Bind, Crew, SeatsMissing, NameTooLong, Connect, Ask, OutOfMemory}
 use Rattle.script.specs.declared.script.Mode.TheVariants.{Replay}
@@ -8,12 +7,11 @@ use Rattle.script.specs.declared.script_fault.ScriptFault.TheVariants.{NoMemory}
 use Rattle.script.specs.Script.{ScriptParts, IsScript, IsScriptFault}
 use Rattle.script.specs.Run.{IsScriptRun}
 
--- the bytes are a script to replay, and the output is that of a run of it, with probes of some rules
+-- the bytes are a script to replay, and the output is that of a run of it
 pub record Replays (bytes output : List ℕ) : Type 0 where
   pub script : ScriptParts
-  pub rules : List Rule
   pub is : IsScript Replay bytes script
-  pub runs : IsScriptRun script rules output
+  pub runs : IsScriptRun script output
 
 -- a fault that ends a replay of the bytes: their own first one as a script, or want of memory
 abbrev pub EndsReplay : List ℕ → Fault → Type 0

@@ -1,6 +1,8 @@
 //! gRPC's health checking service over gRPC-Web.
 #![tactic(auto)]
 
+ghost use Rattle.probe_core.specs.Made.{IsAsked};
+
 mod answer;
 mod ask;
 mod body;
@@ -13,8 +15,11 @@ mod service;
 #[cfg(test)]
 mod tests;
 
+use clap::ArgMatches;
 use clap::error::ErrorKind;
 use fault::Fault;
+use probe_core::{Depends, Manual, Probe, Rule, Threshold};
+use std::alloc::AllocError;
 use std::net::{Net, TcpListener, TcpStream};
 use std::process::ExitCode;
 use std::rt::Env;
@@ -56,10 +61,35 @@ where
         Ok(matches) => matches,
         Err(error) => return refuse(rt, &error),
     };
+    run(rt, &matches)
+}
+
+/// Runs the command that the words name. All probes of the program are made here.
+fn run<R>(rt: &R, matches: &ArgMatches<'_>) -> Result<ExitCode, Fault>
+where
+    R: Input
+        + Print
+        + AllocGlobal
+        + Wait
+        + Threads
+        + Sync
+        + Net<Listener = TcpListener, Stream = TcpStream>,
+{
+    let alloc = rt.alloc();
+    let make = |rule: Rule| -> Result<Box<dyn Probe + Send>, AllocError>
+        ensures { IsAsked (λ probe. (Probe-box probe).rule probe.value) (λ probe. (Probe-box probe).memory probe.value) rule result }
+    {
+        let probe: Box<dyn Probe + Send> = match rule {
+            Rule::Threshold(fall) => Box::new(alloc, Threshold::new(fall))?,
+            Rule::Manual => Box::new(alloc, Manual::new())?,
+            Rule::Depends(mask) => Box::new(alloc, Depends::new(mask))?,
+        };
+        Ok(probe)
+    };
     match matches.subcommand() {
         Some(("body", matches)) => body::run(rt, matches)?,
-        Some(("replay", _)) => replay::run(rt)?,
-        Some(("serve", matches)) => serve::run(rt, matches)?,
+        Some(("replay", _)) => replay::run(rt, &make)?,
+        Some(("serve", matches)) => serve::run(rt, &make, matches)?,
         Some(("ask", matches)) => ask::run(rt, matches)?,
         _ => return Ok(ExitCode::from(REFUSED)),
     }

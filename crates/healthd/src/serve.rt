@@ -1,14 +1,13 @@
-ghost use Rattle.std.specs.Prelude.{◌≡◌, vec_len};
-ghost use Rattle.script.specs.Run.{registers};
+ghost use Rattle.probe_core.specs.Made.{MakesAsked};
 
 use crate::command::{HOST, MAX_WORKERS, port_in};
 use crate::fault::Fault;
 use crate::input::read;
 use clap::ArgMatches;
-use probe_core::{Depends, Manual, Probe, Rule, Threshold};
-use script::{Line, Mode, Script, copy_of_orders, read_script};
-use server::{Capacity, Served, hall_of, serve};
-use std::alloc::Global;
+use probe_core::{Probe, Rule};
+use script::{Mode, copy_of_orders, read_script};
+use server::{Capacity, hall_of, serve};
+use std::alloc::{AllocError, Global};
 use std::io;
 use std::io::Write;
 use std::net::{Net, TcpListener, TcpStream};
@@ -18,8 +17,12 @@ use std::thread::Threads;
 /// Beside those of the workers: one for the orders, and a spare one.
 const MORE_SEATS: u16 = 2;
 
-/// The command `serve`.
-pub fn run<R>(rt: &R, matches: &ArgMatches<'_>) -> Result<(), Fault>
+/// The command `serve`, with the probes that `make` gives.
+pub fn run<R, P: Probe + Send, F: Fn(Rule) -> Result<P, AllocError>>(
+    rt: &R,
+    make: &F,
+    matches: &ArgMatches<'_>,
+) -> Result<(), Fault>
 where
     R: Input
         + Print
@@ -28,12 +31,19 @@ where
         + Threads
         + Sync
         + Net<Listener = TcpListener, Stream = TcpStream>,
+    requires callable { F.IsAlwaysCallable make.now }
+    requires asked { MakesAsked P.rule P.memory (F.post make.now) }
 {
     let alloc = rt.alloc();
     let bytes = read(alloc, rt.reader())?;
-    let served = serve_script(rt, alloc, &bytes, port_in(matches), capacity_in(matches))?;
-    let mut output = String::new(alloc);
-    served.put(&mut output)?;
+    let output = serve_script(
+        rt,
+        alloc,
+        make,
+        &bytes,
+        port_in(matches),
+        capacity_in(matches),
+    )?;
     match io::writer(rt).write_all(output.as_bytes()) {
         Ok(()) => Ok(()),
         Err(_) => Err(Fault::Write),
@@ -48,50 +58,37 @@ fn capacity_in(matches: &ArgMatches<'_>) -> Capacity {
     }
 }
 
-/// Serves what the script says, with a probe of its rule for each line that registers one.
-fn serve_script<R>(
+/// Serves what the script says, and tells how each call ended and how long the journal is.
+fn serve_script<R, P: Probe + Send, F: Fn(Rule) -> Result<P, AllocError>>(
     rt: &R,
     alloc: Global,
+    make: &F,
     bytes: &[u8],
     port: u16,
     capacity: Capacity,
-) -> Result<Served, Fault>
+) -> Result<String, Fault>
 where
     R: Print + Wait + Threads + Sync + Net<Listener = TcpListener, Stream = TcpStream>,
+    requires callable { F.IsAlwaysCallable make.now }
+    requires asked { MakesAsked P.rule P.memory (F.post make.now) }
 {
     let script = read_script(alloc, bytes, Mode::Serve)?;
-    let mut probes: Vec<Box<dyn Probe + Send>> = Vec::new(alloc);
-    for line in script.lines() {
-        if let Line::Register(_, rule) = line {
-            let probe: Box<dyn Probe + Send> = match rule {
-                Rule::Threshold(fall) => Box::new(alloc, Threshold::new(*fall))?,
-                Rule::Manual => Box::new(alloc, Manual::new())?,
-                Rule::Depends(mask) => Box::new(alloc, Depends::new(*mask))?,
-            };
-            probes.push(probe)?;
-        }
-    }
-    serve_at(rt, alloc, &script, probes, port, capacity)
-}
-
-/// Sets the hall up, and then serves the calls that come to the port.
-fn serve_at<R, P: Probe + Send>(
-    rt: &R,
-    alloc: Global,
-    script: &Script,
-    probes: Vec<P>,
-    port: u16,
-    capacity: Capacity,
-) -> Result<Served, Fault>
-where
-    R: Print + Wait + Threads + Sync + Net<Listener = TcpListener, Stream = TcpStream>,
-    requires { vec_len probes ≡ registers script.now.lines }
-{
     let seats = capacity.workers.min(MAX_WORKERS) + MORE_SEATS;
     let orders = copy_of_orders(alloc, script.orders())?;
-    let (hall, seats) = hall_of(rt, alloc, script, probes, seats)?;
+    let set_up = hall_of(rt, alloc, &script, make, seats)?;
     let listener = listen(rt, port)?;
-    Ok(serve(rt, alloc, hall, seats, orders, &listener, capacity)?)
+    let served = serve(
+        rt,
+        alloc,
+        set_up.hall,
+        set_up.seats,
+        orders,
+        &listener,
+        capacity,
+    )?;
+    let mut output = String::new(alloc);
+    served.put(&mut output)?;
+    Ok(output)
 }
 
 /// Binds the port, and prints where it listens before a connection is accepted. Standard output keeps nothing back.

@@ -2,15 +2,13 @@ use crate::answer::answer_body;
 use crate::fault::Fault;
 use crate::service::{parse_service, parse_services};
 use health_wire::Serving;
+use std::alloc::{AllocError, Global};
 use std::fmt::Debug;
-use std::process::Abort;
+use std::test::Fail;
+use test_support::{Scarcity, same};
 
-pub(crate) mod room;
-pub(crate) mod same;
 pub(crate) mod texts;
 
-use room::{filler, scarcity};
-use same::same;
 use texts::padded;
 
 const SERVING: &[u8] = b"\0\0\0\0\x02\x08\x01\x80\0\0\0\x0fgrpc-status:0\r\n";
@@ -55,58 +53,53 @@ const ANSWERS: [(&[u8], &[u8]); 14] = [
     (b"\0\0\0\0\0\0", MALFORMED_REQUEST),
 ];
 
-fn services(rt: &(impl Abort + AllocGlobal), words: &[&str]) -> Vec<(String, Serving)> {
-    parse_services(rt.alloc(), words)
-        .ok()
-        .expect(rt, "services")
-}
-
 fn expect_answer<A: Debug>(
-    rt: &(impl Abort + AllocGlobal),
+    alloc: Global,
     list: &[(String, Serving)],
     body: &[u8],
     expected: &[u8],
     at: &A,
-) {
-    let answer = answer_body(rt.alloc(), list, body)
-        .ok()
-        .expect(rt, "an answer");
-    same(rt, &answer.as_slice(), &expected, at);
+) -> Result<(), Fail> {
+    let answer = answer_body(alloc, list, body)?;
+    same(&answer.as_slice(), &expected, at)
 }
 
+/// An answer of `NoMemory` in place of every other meets the contract of `answer_body`: `always_out_of_memory` is refused here.
 #[test]
-fn answers_each_body(rt: HostRuntime) {
-    let list = services(&rt, &["a=not_serving", "=serving", "b=serving"]);
+fn answers_each_body(rt: HostRuntime) -> Result<(), Fail> {
+    let alloc = rt.alloc();
+    let list = parse_services(alloc, &["a=not_serving", "=serving", "b=serving"])?;
     for (body, expected) in &ANSWERS {
-        expect_answer(&rt, &list, *body, *expected, body);
+        expect_answer(alloc, &list, *body, *expected, body)?;
     }
-}
-
-fn expect_cut(rt: &(impl Abort + AllocGlobal), list: &[(String, Serving)], len: usize) {
-    let cut = TWO_SERVICES.get(..len).expect(rt, "a front");
-    expect_answer(rt, list, cut, MALFORMED_REQUEST, &len);
+    Ok(())
 }
 
 #[test]
-fn refuses_each_cut_body(rt: HostRuntime) {
-    let list = services(&rt, &["a=not_serving", "=serving", "b=serving"]);
-    for len in 0..TWO_SERVICES.len() {
-        expect_cut(&rt, &list, len);
+fn refuses_each_cut_body(rt: HostRuntime) -> Result<(), Fail> {
+    let alloc = rt.alloc();
+    let list = parse_services(alloc, &["a=not_serving", "=serving", "b=serving"])?;
+    for len in 0..13usize {
+        let cut = TWO_SERVICES.get(..len).unwrap_or(TWO_SERVICES);
+        expect_answer(alloc, &list, cut, MALFORMED_REQUEST, &len)?;
     }
+    Ok(())
 }
 
 #[test]
-fn refuses_a_body_of_over_8_192_bytes(rt: HostRuntime) {
-    let mut body = padded(&rt, b"\0\0\0\x1f\xfb", 8_192, 0x80);
-    expect_answer(&rt, &[], &body, MALFORMED_REQUEST, &8_192);
-    assert!(rt; body.push(0).is_ok());
-    expect_answer(&rt, &[], &body, REQUEST_TOO_LARGE, &8_193);
+fn refuses_a_body_of_over_8_192_bytes(rt: HostRuntime) -> Result<(), Fail> {
+    let alloc = rt.alloc();
+    let mut body = padded(alloc, b"\0\0\0\x1f\xfb", 8_192, 0x80)?;
+    expect_answer(alloc, &[], &body, MALFORMED_REQUEST, &8_192)?;
+    body.push(0)?;
+    expect_answer(alloc, &[], &body, REQUEST_TOO_LARGE, &8_193)
 }
 
 #[test]
-fn answers_from_the_first_pair_with_the_name(rt: HostRuntime) {
-    let list = services(&rt, &["=not_serving", "=serving"]);
-    expect_answer(&rt, &list, b"\0\0\0\0\0", NOT_SERVING, &"the first pair");
+fn answers_from_the_first_pair_with_the_name(rt: HostRuntime) -> Result<(), Fail> {
+    let alloc = rt.alloc();
+    let list = parse_services(alloc, &["=not_serving", "=serving"])?;
+    expect_answer(alloc, &list, b"\0\0\0\0\0", NOT_SERVING, &"the first pair")
 }
 
 static SERVICE_WORDS: [(&str, Result<(&str, Serving), Fault>); 8] = [
@@ -121,49 +114,41 @@ static SERVICE_WORDS: [(&str, Result<(&str, Serving), Fault>); 8] = [
 ];
 
 fn expect_service(
-    rt: &(impl Abort + AllocGlobal),
+    alloc: Global,
     word: &str,
     expected: Result<(&str, Serving), Fault>,
-) {
-    match parse_service(rt.alloc(), word) {
-        Ok((name, status)) => same(rt, &Ok((name.as_str(), status)), &expected, &word),
-        Err(fault) => same(rt, &Err(fault), &expected, &word),
+) -> Result<(), Fail> {
+    match parse_service(alloc, word) {
+        Ok((name, status)) => same(&Ok((name.as_str(), status)), &expected, &word),
+        Err(fault) => same(&Err(fault), &expected, &word),
     }
 }
 
 #[test]
-fn cuts_a_service_word_at_its_last_equals_sign(rt: HostRuntime) {
+fn cuts_a_service_word_at_its_last_equals_sign(rt: HostRuntime) -> Result<(), Fail> {
     for (word, expected) in &SERVICE_WORDS {
-        expect_service(&rt, *word, *expected);
+        expect_service(rt.alloc(), *word, *expected)?;
     }
-}
-
-/// Answers a Check of the empty name, and tells whether memory sufficed.
-fn is_answered(rt: &(impl Abort + AllocGlobal), list: &[(String, Serving)]) -> bool {
-    match answer_body(rt.alloc(), list, b"\0\0\0\0\0") {
-        Ok(answer) => {
-            assert!(rt; answer.as_slice() == SERVING);
-            true
-        }
-        Err(_) => false,
-    }
+    Ok(())
 }
 
 #[test]
-fn refuses_each_growth_of_an_answer(rt: HostRuntime) {
-    let list = services(&rt, &["=serving"]);
-    let scarcity = scarcity(&rt);
-    let mut refused = 0u32;
-    let mut whole = 0u32;
+fn refuses_each_growth_of_an_answer(rt: HostRuntime) -> Result<(), Fail> {
+    let alloc = rt.alloc();
+    let list = parse_services(alloc, &["=serving"])?;
+    let scarcity = Scarcity::with_small_room(alloc)?;
+    let (mut refused, mut whole) = (0u32, 0u32);
     for step in 0..512usize {
-        let filler = filler(&rt, &scarcity, step);
-        if is_answered(&rt, &list) {
-            whole = whole.wrapping_add(1);
-        } else {
-            refused = refused.wrapping_add(1);
+        let filler = scarcity.leave_steps(step)?;
+        match answer_body(alloc, &list, b"\0\0\0\0\0") {
+            Ok(answer) => {
+                same(&answer.as_slice(), &SERVING, &step)?;
+                whole = whole.wrapping_add(1);
+            }
+            Err(AllocError) => refused = refused.wrapping_add(1),
         }
         drop(filler);
     }
-    assert!(rt; refused > 1);
-    assert!(rt; whole > 0);
+    drop(scarcity);
+    same(&(refused > 1, whole > 0), &(true, true), &"refused, whole")
 }

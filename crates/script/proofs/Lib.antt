@@ -7,6 +7,7 @@ pub mod NumberLemmas
 pub mod OneLine
 pub mod OneScript
 pub mod OpeningLemmas
+pub mod RuleLemmas
 pub mod RunLemmas
 pub mod RunningLemmas
 pub mod ScriptLemmas

@@ -2,6 +2,7 @@ pub mod Line
 pub mod Lines
 pub mod Opening
 pub mod Reading
+pub mod Rules
 pub mod Run
 pub mod RunText
 pub mod Script

@@ -1,5 +1,5 @@
 -- A script that is run: its lines one after the other, by one thread over a new registry.
-use Rattle.std.specs.Prelude.{ℕ, ◌≡◌, Bool, true, false, List, [], ◌∷◌, ◌++◌, length, codes, slice_get, slice_set, count_by, Option, None, Some, Result, Ok, Err}
+use Rattle.std.specs.Prelude.{ℕ, ◌≡◌, List, [], ◌∷◌, ◌++◌, length, codes, slice_get, slice_set, Option, None, Some, Result, Ok, Err}
 use Rattle.health_wire.specs.declared.serving.Serving.{Serving}
 use Rattle.probe_core.specs.declared.rule.Rule.{Rule}
 use Rattle.desk_core.specs.declared.call.Call.{Call}
@@ -82,47 +82,6 @@ pub data ScriptRun (names : List (List ℕ)) : RunState → List Line → List �
   Ends : (run : RunState) → ScriptRun names run [] []
   Runs : (run after : RunState) (line : Line) (outcome : Outcome) (lines : List Line) (output : List ℕ) → IsLineRun names run line after outcome → ScriptRun names after lines output → ScriptRun names run (line ∷ lines) (outcome_text outcome ++ codes "\n" ++ output)
 
--- the line registers a probe
-abbrev pub is_register : Line → Bool
-is_register (Register name rule) = true
-is_register (Retire name) = false
-is_register (Order order) = false
-is_register (Check name) = false
-is_register (Open name) = false
-is_register (Step number) = false
-is_register Board = false
-
--- how many probes the lines register
-abbrev pub registers : List Line → ℕ
-registers lines = count_by is_register lines
-
--- a line, with the first of these rules where it registers a probe
-abbrev pub with_rule : Line → List Rule → Line
-with_rule (Register name said) [] = Register name said
-with_rule (Register name said) (rule ∷ rules) = Register name rule
-with_rule (Retire name) rules = Retire name
-with_rule (Order order) rules = Order order
-with_rule (Check name) rules = Check name
-with_rule (Open name) rules = Open name
-with_rule (Step number) rules = Step number
-with_rule Board rules = Board
-
--- the rules that are left for the lines behind it
-abbrev pub rules_after : Line → List Rule → List Rule
-rules_after (Register name said) [] = []
-rules_after (Register name said) (rule ∷ rules) = rules
-rules_after (Retire name) rules = rules
-rules_after (Order order) rules = rules
-rules_after (Check name) rules = rules
-rules_after (Open name) rules = rules
-rules_after (Step number) rules = rules
-rules_after Board rules = rules
-
--- the lines, each that registers a probe with the rule of the probe that is handed in for it
-abbrev pub with_rules : List Line → List Rule → List Line
-with_rules [] rules = []
-with_rules (line ∷ lines) rules = with_rule line rules ∷ with_rules lines (rules_after line rules)
-
--- what a run of a script prints, with probes of these rules
-abbrev pub IsScriptRun : ScriptParts → List Rule → List ℕ → Type 0
-IsScriptRun script rules output = ScriptRun script.names (opening script.max) (with_rules script.lines rules) output
+-- what a run of a script prints
+abbrev pub IsScriptRun : ScriptParts → List ℕ → Type 0
+IsScriptRun script output = ScriptRun script.names (opening script.max) script.lines output

@@ -10,6 +10,7 @@ mod number;
 mod opening;
 mod order;
 mod outcome;
+mod probes;
 mod reading;
 mod rule;
 mod run;
@@ -22,8 +23,9 @@ mod words;
 pub use copies::{copy_of_catalogue, copy_of_orders};
 pub use laws::one_script;
 pub use line::Line;
+pub use probes::probes_for;
 pub use reading::read_script;
-pub use running::{registers, run_script};
+pub use running::run_script;
 pub use script::{Mode, Script};
 pub use script_fault::ScriptFault;
 

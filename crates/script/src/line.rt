@@ -28,7 +28,18 @@ pub enum Line {
 
 impl Line {
     ghost use Rattle.std.specs.Prelude.{◌≡◌, ◌+◌, ◌^◌, ◌<◌, ◌↔◌, IsTrue};
+    ghost use Rattle.script.specs.Rules.{rule_in};
     ghost use Rattle.script.specs.Script.{IsAllowed, watches_after};
+
+    /// The rule by which the line registers a service.
+    pub(crate) fn rule(&self) -> Option<Rule>
+        ensures { result ≡ rule_in self.now }
+    {
+        match self {
+            Line::Register(_, rule) => Some(*rule),
+            _ => None,
+        }
+    }
 
     /// Whether the line may stand behind lines that opened so many watches.
     pub(crate) fn is_allowed(&self, mode: Mode, watches: usize) -> bool

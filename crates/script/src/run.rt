@@ -8,7 +8,6 @@ use health_wire::Serving;
 use probe_core::Probe;
 use std::alloc::{AllocError, Global};
 use std::marker::Model;
-use std::vec::IntoIter;
 
 /// The seat whose changes those of a run are.
 const SEAT: u16 = 0;
@@ -30,14 +29,15 @@ impl<P: Probe> Model for Run<P> {
 }
 
 impl<P: Probe> Run<P> {
-    ghost use Rattle.std.specs.Prelude.{◌≡◌, ◌+◌, ◌<◌, ◌≤◌, [], ◌∷◌, ◌++◌, map, length, Some, IfOk, OnOk};
-    ghost use Rattle.std.specs.Vec.Iter.{into_iter_items, into_iter_len};
+    ghost use Rattle.std.specs.Prelude.{◌≡◌, ◌<◌, [], ◌∷◌, ◌++◌, length, Some, IfOk, OnOk};
+    ghost use Rattle.std.specs.Option.{option_map};
     ghost use Rattle.desk_core.specs.declared.call.Call.TheVariants as calls;
     ghost use Rattle.desk_core.specs.Changes.{changes_of};
     ghost use Rattle.desk_core.specs.Status.{shown};
     ghost use Rattle.desk_core.specs.Watch.{opened};
     ghost use Rattle.desk_core.specs.Order.{call_at, ordered};
-    ghost use Rattle.script.specs.Run.{opening, with_watches, IsChanged, IsStepped, IsLineRun, registers, with_rule, rules_after};
+    ghost use Rattle.script.specs.Run.{opening, with_watches, IsChanged, IsStepped, IsLineRun};
+    ghost use Rattle.script.specs.Rules.{rule_in};
     ghost use Rattle.script.specs.Script.{IsStepOfOpened};
 
     pub fn new(alloc: Global, max_entries: u32) -> Run<P>
@@ -49,22 +49,20 @@ impl<P: Probe> Run<P> {
         }
     }
 
-    /// Does what a line says. A line that registers a probe takes the next one.
+    /// Does what a line says, with a probe of its rule where it registers one.
     pub fn meet(
         &mut self,
         catalogue: &Catalogue,
         line: &Line,
-        probes: &mut IntoIter<P>,
+        probe: Option<P>,
     ) -> Result<Outcome, AllocError>
         requires opened { IsStepOfOpened line.now (length self.old.watches) }
-        requires handed_in { registers (line.now ∷ []) ≤ into_iter_len probes.old }
-        ensures outcome { IfOk result (λ outcome. IsLineRun catalogue.now self.old (with_rule line.now (map P.rule (into_iter_items probes.old))) self.new outcome) }
-        ensures rules { map P.rule (into_iter_items probes.new) ≡ rules_after line.now (map P.rule (into_iter_items probes.old)) }
-        ensures left { into_iter_len probes.old ≡ registers (line.now ∷ []) + into_iter_len probes.new }
+        requires ruled { option_map P.rule probe ≡ rule_in line.now }
+        ensures { IfOk result (λ outcome. IsLineRun catalogue.now self.old line.now self.new outcome) }
     {
         match line {
             Line::Register(name, _) => {
-                let probe = probes.next().unwrap();
+                let probe = probe.unwrap();
                 Ok(Outcome::Changed(self.register(catalogue, name, probe)))
             }
             Line::Retire(name) => Ok(Outcome::Changed(self.retire(catalogue, name))),

@@ -1,44 +1,52 @@
-ghost use Rattle.std.specs.Prelude.{◌≡◌, map, vec_len, IfOk};
-ghost use Rattle.script.specs.Run.{is_register, registers, IsScriptRun};
+ghost use Rattle.std.specs.Prelude.{◌↔◌, ◌≡◌, ◌++◌, ◌+◌, ◌<◌, length, IsSome, IfOk};
+ghost use Rattle.std.specs.Option.{option_to_list};
+ghost use Rattle.std.specs.Vec.Iter.{into_iter_items, into_iter_len};
+ghost use Rattle.probe_core.specs.Made.{MakesAsked};
+ghost use Rattle.script.specs.Rules.{rule_in};
+ghost use Rattle.script.specs.Run.{IsScriptRun};
 
 use crate::line::Line;
+use crate::probes::probes_for;
 use crate::run::Run;
 use crate::script::Script;
-use probe_core::Probe;
+use probe_core::{Probe, Rule};
 use std::alloc::{AllocError, Global};
 use std::fmt::Write;
+use std::vec::IntoIter;
 
-/// What the lines of a script come to, each in a line of its own. There is one probe for each line that registers one, in their
-/// order, and its rule counts for the line.
-pub fn run_script<P: Probe>(
+/// What the lines of a script come to, each in a line of its own. All probes are made before the first line is met.
+pub fn run_script<P: Probe, F: Fn(Rule) -> Result<P, AllocError>>(
     alloc: Global,
     script: Script,
-    probes: Vec<P>,
+    make: &F,
 ) -> Result<Vec<u8>, AllocError>
-    requires { vec_len probes ≡ registers script.lines }
-    ensures { IfOk result (λ output. IsScriptRun script (map P.rule probes.items) output.items) }
+    requires callable { F.IsAlwaysCallable make.now }
+    requires asked { MakesAsked P.rule P.memory (F.post make.now) }
+    ensures { IfOk result (λ output. IsScriptRun script output.items) }
 {
+    let made = probes_for(alloc, make, script.lines())?;
+    let mut probes = made.into_iter();
     let mut run = Run::new(alloc, script.max());
-    let mut probes = probes.into_iter();
     let mut output = String::new(alloc);
     for line in script.lines() {
-        let outcome = run.meet(script.catalogue(), line, &mut probes)?;
+        let probe = probe_of(line, &mut probes);
+        let outcome = run.meet(script.catalogue(), line, probe)?;
         writeln!(output, "{outcome}")?;
     }
     Ok(output.into_bytes())
 }
 
-/// How many probes the lines register.
-pub fn registers(lines: &[Line]) -> usize
-    ensures { result ≡ registers lines.now }
+/// The next probe, where the line registers one.
+fn probe_of<P: Probe>(line: &Line, probes: &mut IntoIter<P>) -> Option<P>
+    requires { IsSome (rule_in line.now) → 0 < into_iter_len probes.old }
+    ensures there { IsSome result ↔ IsSome (rule_in line.now) }
+    ensures items { into_iter_items probes.old ≡ option_to_list result ++ into_iter_items probes.new }
+    ensures len { into_iter_len probes.new + length (option_to_list result) ≡ into_iter_len probes.old }
 {
-    lines.iter().filter(|line| is_register(line)).count()
-}
-
-fn is_register(line: &Line) -> bool
-    ensures { result ≡ is_register line.now }
-{
-    matches!(line, Line::Register(..))
+    match line.rule() {
+        Some(_) => probes.next(),
+        None => None,
+    }
 }
 
 #[cfg(test)]

@@ -1,3 +1,1 @@
-pub(crate) mod room;
-pub(crate) mod same;
 pub(crate) mod texts;

@@ -40,10 +40,9 @@ set_up_ours hall most count seats first new calls results is are ours carried =
 -- the first of them met changes
 pub set_up_by_first : (hall : HallState) (most count : ℕ) (seats : List SeatState) (first new : SeatState) (calls others : List (Option Call)) (results : List (Result Reply Refusal))
     → seats ≡ new_seats hall.table most count → 1 ≤ count → first ≡ slice_index_or seats 0 first → calls ≡ others → HasCarriedOut first new calls results
-    → AreSetUp others (new_seats hall.table most count) (slice_set seats 0 new)
+    → AreSetUp others results (new_seats hall.table most count) (slice_set seats 0 new)
 set_up_by_first hall most count seats first new calls others results are some at same carried = record {
   first = new;
-  results = results;
   met = λ other. subst (λ old. HasCarriedOut old new others results)
       (at ∙ (get_or_default seats 0 first other (omega (arith, new_len hall most count seats are, some)) ∙ ap (λ (l : List SeatState). slice_index_or l 0 other) are))
       (subst (λ c. HasCarriedOut first new c results) same carried);

@@ -10,7 +10,4 @@ mod socket;
 pub use serve_fault::ServeFault;
 pub use served::Served;
 pub use serving::{Capacity, serve};
-pub use setup::{hall_of, run_setup};
-
-#[cfg(test)]
-mod tests;
+pub use setup::{SetUpHall, hall_of, run_setup};

@@ -1,24 +1,37 @@
 use crew::CallEnd;
+use desk_core::{Desk, Refusal, Reply};
+use probe_core::Probe;
 use std::alloc::AllocError;
 use std::fmt::Write;
 use web_call::{Outcome, Why};
 
 /// What a server did before it ended.
-#[derive(Debug, Drop)]
-pub struct Served {
+#[derive(Drop)]
+pub struct Served<P: Probe> {
     /// How each call ended, by its number.
     pub calls: Vec<CallEnd>,
-    /// How many changes its journal has.
-    pub entries: usize,
+    /// What came of each order, in their order.
+    pub orders: Vec<Result<Reply, Refusal>>,
+    /// The registry that the hall had, with its journal.
+    pub desk: Desk<P>,
 }
 
-impl Served {
-    /// Puts a line for each call, and one for the journal.
+impl<P: Probe> Served<P> {
+    ghost use Rattle.std.specs.Prelude.{◌≡◌, length};
+
+    /// Puts a line for each call, and one for the length of the journal.
     pub fn put(&self, output: &mut String) -> Result<(), AllocError> {
         for (number, end) in self.calls.iter().enumerate() {
             put_end(output, number, *end)?;
         }
-        writeln!(output, "journal {}", self.entries)
+        writeln!(output, "journal {}", self.entries())
+    }
+
+    /// How many changes the journal has.
+    pub fn entries(&self) -> usize
+        ensures { result ≡ length self.now.desk.journal }
+    {
+        self.desk.journal().len()
     }
 }
 

@@ -1,9 +1,9 @@
-ghost use Rattle.std.specs.Prelude.{◌≡◌, ◌≢◌, ◌⊎◌, ◌∷◌, [], ℕ, List, Err, IfOk, IfSome, IfNone, IsErrOf, vec_len};
-ghost use Rattle.std.specs.List.{All};
-ghost use Rattle.hall.specs.Seats.{IsOf};
+ghost use Rattle.std.specs.Prelude.{◌≡◌, ◌≢◌, ◌⊎◌, ◌+◌, ◌∷◌, [], Err, length, IfOk, IfSome, IfNone, IsErrOf, is_ok, vec_len};
+ghost use Rattle.std.specs.List.{All, sum_by, count_by};
+ghost use Rattle.desk_core.specs.Past.{past};
+ghost use Rattle.hall.specs.Seats.{IsOf, own_calls};
 ghost use Rattle.crew.specs.declared.crew_why.CrewWhy.{CrewWhy};
-ghost use Rattle.crew.specs.CrewWhy.{crew_fault};
-ghost use Rattle.crew.specs.Gather.{Fails};
+ghost use Rattle.crew.specs.CrewWhy.{crew_fault, IsOtherReason};
 ghost use Rattle.crew.specs.Serve.{lists_in};
 ghost use Rattle.server.specs.Serving.{HasServedOrders};
 
@@ -11,8 +11,8 @@ use crate::serve_fault::ServeFault;
 use crate::served::Served;
 use crate::socket::Accept;
 use crew::{OpenTurnstile, Report, serve_all};
-use desk_core::Order;
-use hall::{Hall, Seat};
+use desk_core::{Order, Refusal, Reply};
+use hall::{Closed, Hall, Seat};
 use probe_core::Probe;
 use std::alloc::{AllocError, Global};
 use std::net::TcpListener;
@@ -42,15 +42,20 @@ pub fn serve<R, P: Probe + Send>(
     orders: Vec<Order>,
     listener: &TcpListener,
     capacity: Capacity,
-) -> Result<Served, ServeFault>
+) -> Result<Served<P>, ServeFault>
 where
     R: Wait + Threads + Sync,
     requires { All (IsOf hall) seats.items }
     // A crew that has too few seats, or no workers, is refused, and no other for that; of which other fault there is, tests show.
     ensures refused { IfSome (crew_fault capacity.workers 1 (vec_len seats)) (λ why. (result ≡ Err (ServeFault.Crew why)) ⊎ (result ≡ Err ServeFault.NoMemory)) }
-    ensures failed { IfNone (crew_fault capacity.workers 1 (vec_len seats)) ((why : CrewWhy) → IsErrOf result (ServeFault.Crew why) → (numbers : List ℕ) × Fails capacity.calls numbers why) }
+    ensures failed { IfNone (crew_fault capacity.workers 1 (vec_len seats)) ((why : CrewWhy) → IsErrOf result (ServeFault.Crew why) → IsOtherReason capacity.calls why) }
     ensures calls { IfOk result (λ served. vec_len served.calls ≡ capacity.calls) }
-    ensures entries { IfOk result (λ served. HasServedOrders hall.names capacity.workers orders.items seats.items served.entries) }
+
+    // The journal that is left is one legal history of what all seats saw and made.
+    ensures served { IfOk result (λ served. HasServedOrders hall capacity.workers orders.items served.orders.items seats.items (past served.desk.journal)) }
+    ensures entries { IfOk result (λ served. length served.desk.journal ≡ sum_by (λ seat. length (own_calls seat)) seats.items + count_by is_ok served.orders.items) }
+    ensures most { IfOk result (λ served. served.desk.max_entries ≡ hall.most) }
+
     ensures missing { IsErrOf result ServeFault.SeatsMissing → vec_len seats ≢ hall.seats }
 {
     let Ok((jobs, lists)) = work_of(alloc, listener, capacity.calls, orders) else {
@@ -58,7 +63,7 @@ where
     };
     let Report {
         calls,
-        orders: _,
+        orders: lists,
         seats,
     } = match serve_all(
         rt,
@@ -74,13 +79,22 @@ where
         Ok(report) => report,
         Err(fault) => return Err(ServeFault::from(fault.why)),
     };
-    match hall.close(seats) {
-        Ok(closed) => Ok(Served {
-            calls,
-            entries: closed.desk.journal().len(),
-        }),
-        Err(_) => Err(ServeFault::SeatsMissing),
-    }
+    let Ok(Closed { desk, catalogue: _ }) = hall.close(seats) else {
+        return Err(ServeFault::SeatsMissing);
+    };
+    Ok(Served {
+        calls,
+        orders: only_list(lists),
+        desk,
+    })
+}
+
+/// The results of the one list of orders.
+fn only_list(mut lists: Vec<Vec<Result<Reply, Refusal>>>) -> Vec<Result<Reply, Refusal>>
+    requires { vec_len lists ≡ 1 }
+    ensures { lists_in lists ≡ result.items ∷ [] }
+{
+    lists.pop().unwrap()
 }
 
 /// What a crew is given to do: a job for each of so many connections, and the orders as its one list.

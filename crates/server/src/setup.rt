@@ -1,43 +1,56 @@
-ghost use Rattle.std.specs.Prelude.{◌≡◌, ◌+◌, ◌<◌, ◌≤◌, [], ◌∷◌, ◌++◌, map, vec_len, vec_capacity, IfOk, OnErr};
+ghost use Rattle.std.specs.Prelude.{◌≡◌, ◌+◌, ◌<◌, ◌≤◌, ◌++◌, List, map, vec_len, vec_capacity, IfOk, OnErr};
 ghost use Rattle.std.specs.List.{All};
 ghost use Rattle.std.specs.Option.{option_to_list};
-ghost use Rattle.std.specs.Vec.Iter.{into_iter_items, into_iter_len};
+ghost use Rattle.std.specs.Vec.Iter.{into_iter_items};
+ghost use Rattle.probe_core.specs.declared.rule.Rule.{Rule};
+ghost use Rattle.probe_core.specs.Made.{MakesAsked};
 ghost use Rattle.desk_core.specs.declared.call.Call.TheVariants as calls;
 ghost use Rattle.desk_core.specs.Order.{call_at};
 ghost use Rattle.hall.specs.Seats.{IsOf, new_seats};
 ghost use Rattle.crew.specs.Errand.{IsCarriedOut, HasCarriedOut};
-ghost use Rattle.script.specs.Run.{registers, with_rule, rules_after};
+ghost use Rattle.script.specs.Rules.{rule_in};
 ghost use Rattle.server.specs.Setup.{line_change, line_changes, IsSetUp, AreSetUp};
 
 use crew::carry_out;
 use desk_core::{Name, Refusal, Reply};
 use hall::{Hall, Seat};
-use probe_core::Probe;
-use script::{Line, Script, copy_of_catalogue};
+use probe_core::{Probe, Rule};
+use script::{Line, Script, copy_of_catalogue, probes_for};
 use std::alloc::{AllocError, Global};
 use std::sync::Wait;
 use std::vec::IntoIter;
 
+/// A hall that a script has set up.
+#[derive(Drop)]
+pub struct SetUpHall<P: Probe> {
+    pub hall: Hall<P>,
+    /// All seats of the hall, in the order of their numbers.
+    pub seats: Vec<Seat<P>>,
+    /// What came of each line that asks for a change, in the order of the lines.
+    pub results: Vec<Result<Reply, Refusal>>,
+}
+
 /// Makes the changes that the lines of a script ask for, in their order, and tells what came of each. Lines that ask for none are
-/// passed over. There is one probe for each line that registers one, in their order, and its rule counts for the line.
+/// passed over.
 ///
-/// Room for all results is taken before the first change.
-pub fn run_setup<R: Wait, P: Probe>(
+/// All probes are made, and room for all results is taken, before the first change.
+pub fn run_setup<R: Wait, P: Probe, F: Fn(Rule) -> Result<P, AllocError>>(
     rt: &R,
     alloc: Global,
     hall: &Hall<P>,
     seat: &mut Seat<P>,
     script: &Script,
-    probes: Vec<P>,
+    make: &F,
 ) -> Result<Vec<Result<Reply, Refusal>>, AllocError>
     requires seat { IsOf hall.now seat.old }
-    requires probes { vec_len probes ≡ registers script.now.lines }
-    ensures met { IfOk result (λ results. HasCarriedOut seat.old seat.new (line_changes hall.now.names script.now.lines (map P.rule probes.items)) results.items) }
+    requires callable { F.IsAlwaysCallable make.now }
+    requires asked { MakesAsked P.rule P.memory (F.post make.now) }
+    ensures met { IfOk result (λ results. HasCarriedOut seat.old seat.new (line_changes hall.now.names script.now.lines) results.items) }
     ensures unmet { OnErr result (seat.new ≡ seat.old) }
 {
     let lines = script.lines();
+    let mut probes = probes_for(alloc, make, lines)?.into_iter();
     let mut results = Vec::with_capacity(alloc, lines.len())?;
-    let mut probes = probes.into_iter();
     for line in lines {
         let taken = set_up(rt, hall, seat, line, &mut probes);
         put(&mut results, taken);
@@ -45,7 +58,7 @@ pub fn run_setup<R: Wait, P: Probe>(
     Ok(results)
 }
 
-/// Makes the change that a line asks for, if it asks for one. A line that registers a probe takes the next one.
+/// Makes the change that a line asks for, if it asks for one. A line that registers a service takes the next probe.
 fn set_up<R: Wait, P: Probe>(
     rt: &R,
     hall: &Hall<P>,
@@ -54,10 +67,9 @@ fn set_up<R: Wait, P: Probe>(
     probes: &mut IntoIter<P>,
 ) -> Option<Result<Reply, Refusal>>
     requires seat { IsOf hall.now seat.old }
-    requires handed_in { registers (line.now ∷ []) ≤ into_iter_len probes.old }
-    ensures met { IsSetUp (line_change hall.now.names (with_rule line.now (map P.rule (into_iter_items probes.old)))) seat.old seat.new result }
-    ensures rules { map P.rule (into_iter_items probes.new) ≡ rules_after line.now (map P.rule (into_iter_items probes.old)) }
-    ensures left { into_iter_len probes.old ≡ registers (line.now ∷ []) + into_iter_len probes.new }
+    requires handed_in { (others : List Rule) × (map P.rule (into_iter_items probes.old) ≡ option_to_list (rule_in line.now) ++ others) }
+    ensures met { IsSetUp (line_change hall.now.names line.now) seat.old seat.new result }
+    ensures left { map P.rule (into_iter_items probes.old) ≡ option_to_list (rule_in line.now) ++ map P.rule (into_iter_items probes.new) }
 {
     match line {
         Line::Register(name, _) => {
@@ -113,26 +125,31 @@ fn put(results: &mut Vec<Result<Reply, Refusal>>, taken: Option<Result<Reply, Re
 
 /// A hall with the script's catalogue and most entries, and so many seats, of which the first has made the changes that the lines of
 /// the script ask for.
-pub fn hall_of<R: Wait, P: Probe>(
+pub fn hall_of<R: Wait, P: Probe, F: Fn(Rule) -> Result<P, AllocError>>(
     rt: &R,
     alloc: Global,
     script: &Script,
-    probes: Vec<P>,
+    make: &F,
     seats: u16,
-) -> Result<(Hall<P>, Vec<Seat<P>>), AllocError>
-    requires probes { vec_len probes ≡ registers script.now.lines }
+) -> Result<SetUpHall<P>, AllocError>
+    requires callable { F.IsAlwaysCallable make.now }
+    requires asked { MakesAsked P.rule P.memory (F.post make.now) }
     requires some { 1 ≤ seats }
     requires not_too_many { seats ≤ 1024 }
-    ensures hall { IfOk result (λ made. (made.0.names ≡ script.now.names) × (made.0.most ≡ script.now.max) × (made.0.seats ≡ seats)) }
-    ensures seats { IfOk result (λ made. AreSetUp (line_changes script.now.names script.now.lines (map P.rule probes.items)) (new_seats made.0.table script.now.max seats) made.1.items) }
-    ensures ours { IfOk result (λ made. All (IsOf made.0) made.1.items) }
+    ensures hall { IfOk result (λ made. (made.hall.names ≡ script.now.names) × (made.hall.most ≡ script.now.max) × (made.hall.seats ≡ seats)) }
+    ensures seats { IfOk result (λ made. AreSetUp (line_changes script.now.names script.now.lines) made.results.items (new_seats made.hall.table script.now.max seats) made.seats.items) }
+    ensures ours { IfOk result (λ made. All (IsOf made.hall) made.seats.items) }
 {
     let catalogue = copy_of_catalogue(alloc, script.catalogue())?;
     let Ok((hall, mut dealt)) = Hall::new(alloc, catalogue, script.max(), seats) else {
         return Err(AllocError);
     };
-    run_setup(rt, alloc, &hall, &mut dealt[0], script, probes)?;
-    Ok((hall, dealt))
+    let results = run_setup(rt, alloc, &hall, &mut dealt[0], script, make)?;
+    Ok(SetUpHall {
+        hall,
+        seats: dealt,
+        results,
+    })
 }
 
 #[cfg(test)]

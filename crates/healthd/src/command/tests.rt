@@ -1,7 +1,7 @@
 use super::*;
-use crate::tests::same::same;
 use clap::error::ErrorKind;
-use std::process::Abort;
+use std::test::Fail;
+use test_support::same;
 
 /// The words behind the program's name, and why they are refused, if they are. `--help` and `--version` refuse to run anything.
 static ROWS: [(&[&str], Option<ErrorKind>); 26] = [
@@ -83,26 +83,21 @@ static ROWS: [(&[&str], Option<ErrorKind>); 26] = [
     (&["ask"], Some(ErrorKind::MissingRequiredArgument)),
 ];
 
-fn words_of<'a>(rt: &(impl Abort + AllocGlobal), words: &[&'a str]) -> Vec<&'a str> {
-    let mut all = Vec::new(rt.alloc());
-    assert!(rt; all.push("healthd").is_ok());
-    assert!(rt; all.extend_from_slice(words).is_ok());
-    all
-}
-
-fn expect_kind(rt: &(impl Abort + AllocGlobal), words: &[&str], expected: Option<ErrorKind>) {
-    let all = words_of(rt, words);
-    let command = command(rt.alloc()).ok().expect(rt, "a command");
-    let found = match command.try_get_matches_from(all.as_slice()) {
+fn expect_kind(alloc: Global, words: &[&str], expected: Option<ErrorKind>) -> Result<(), Fail> {
+    let mut all = Vec::new(alloc);
+    all.push("healthd")?;
+    all.extend_from_slice(words)?;
+    let found = match command(alloc)?.try_get_matches_from(all.as_slice()) {
         Ok(_) => None,
         Err(error) => Some(error.kind()),
     };
-    same(rt, &found, &expected, &words);
+    same(&found, &expected, &words)
 }
 
 #[test]
-fn takes_and_refuses_command_lines(rt: HostRuntime) {
+fn takes_and_refuses_command_lines(rt: HostRuntime) -> Result<(), Fail> {
     for (words, expected) in &ROWS {
-        expect_kind(&rt, words, *expected);
+        expect_kind(rt.alloc(), words, *expected)?;
     }
+    Ok(())
 }

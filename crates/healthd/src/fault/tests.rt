@@ -1,7 +1,8 @@
 use super::*;
-use crate::tests::same::same;
 use desk_core::CatalogueFault;
-use std::process::Abort;
+use std::alloc::Global;
+use std::test::Fail;
+use test_support::same;
 
 /// Each fault, and its text on standard error behind the program's name.
 const TEXTS: [(Fault, &str); 16] = [
@@ -26,14 +27,15 @@ const TEXTS: [(Fault, &str); 16] = [
     (Fault::OutOfMemory, "out of memory"),
 ];
 
-fn expect_text(rt: &(impl Abort + AllocGlobal), fault: &Fault, expected: &str) {
-    let text = format!(in rt.alloc(); "{fault}").ok().expect(rt, "a text");
-    same(rt, &text.as_str(), &expected, fault);
+fn expect_text(alloc: Global, fault: &Fault, expected: &str) -> Result<(), Fail> {
+    let text = format!(in alloc; "{fault}")?;
+    same(&text.as_str(), &expected, fault)
 }
 
 #[test]
-fn tells_each_fault_in_words(rt: HostRuntime) {
+fn tells_each_fault_in_words(rt: HostRuntime) -> Result<(), Fail> {
     for (fault, expected) in &TEXTS {
-        expect_text(&rt, fault, *expected);
+        expect_text(rt.alloc(), fault, *expected)?;
     }
+    Ok(())
 }

@@ -1,10 +1,13 @@
+ghost use Rattle.probe_core.specs.Made.{IsAsked};
+
 use super::*;
-use crate::tests::same::same;
 use crate::tests::texts::padded;
 use desk_core::CatalogueFault;
+use probe_core::{Depends, Manual, Threshold};
 use script::ScriptFault;
 use std::fmt::Display;
-use std::process::Abort;
+use std::test::Fail;
+use test_support::same;
 
 const SCRIPT: &str = "catalogue a b -
 max 100
@@ -40,10 +43,63 @@ none
 30064771110
 ";
 
+/// Each rule by what it alone shows: how many failures it bears, what it follows, and on whom it depends.
+const RULES: &str = "catalogue a b c -
+max 100
+register a threshold 2
+register b manual
+register c depends a
+fail a
+check a
+up a
+fail a
+check a
+check c
+fail b
+down b
+check b
+pass c
+up c
+";
+
+const RULES_OUTPUT: &str = "done
+done
+done
+done
+serving
+wrong kind
+done
+not serving
+not serving
+wrong kind
+done
+not serving
+wrong kind
+wrong kind
+";
+
+/// What `replay` answers with probes of the three kinds.
+fn replayed(alloc: Global, bytes: &[u8]) -> Result<Vec<u8>, Fault> {
+    let make = |rule: Rule| -> Result<Box<dyn Probe + Send>, AllocError>
+        ensures { IsAsked (λ probe. (Probe-box probe).rule probe.value) (λ probe. (Probe-box probe).memory probe.value) rule result }
+    {
+        let probe: Box<dyn Probe + Send> = match rule {
+            Rule::Threshold(fall) => Box::new(alloc, Threshold::new(fall))?,
+            Rule::Manual => Box::new(alloc, Manual::new())?,
+            Rule::Depends(mask) => Box::new(alloc, Depends::new(mask))?,
+        };
+        Ok(probe)
+    };
+    replay(alloc, &make, bytes)
+}
+
 #[test]
-fn makes_a_probe_of_each_kind(rt: HostRuntime) {
-    let output = replay(rt.alloc(), SCRIPT.as_bytes());
-    assert!(rt; output.is_ok_and(|output| output.as_slice() == OUTPUT.as_bytes()));
+fn replays_with_the_rules_of_the_script(rt: HostRuntime) -> Result<(), Fail> {
+    for (script, expected) in &[(SCRIPT, OUTPUT), (RULES, RULES_OUTPUT)] {
+        let output = replayed(rt.alloc(), script.as_bytes())?;
+        same(&str::from_utf8(&output)?, expected, script)?;
+    }
+    Ok(())
 }
 
 /// What ends a run, and its text on standard error behind the program's name.
@@ -72,23 +128,24 @@ const FAULTS: [(&[u8], ScriptFault, &str); 6] = [
     ),
 ];
 
-fn expect_end(rt: &(impl Abort + AllocGlobal), bytes: &[u8], fault: ScriptFault) {
-    let ended = replay(rt.alloc(), bytes).err();
-    same(rt, &ended, &Some(Fault::Script(fault)), &bytes.len());
+fn expect_end(alloc: Global, bytes: &[u8], fault: ScriptFault) -> Result<(), Fail> {
+    let ended = replayed(alloc, bytes).err();
+    same(&ended, &Some(Fault::Script(fault)), &bytes.len())
 }
 
-fn expect_text<F: Display>(rt: &(impl Abort + AllocGlobal), fault: &F, text: &str) {
-    let told = format!(in rt.alloc(); "{fault}").ok().expect(rt, "a text");
-    same(rt, &told.as_str(), &text, &"the text");
+fn expect_text<F: Display>(alloc: Global, fault: &F, text: &str) -> Result<(), Fail> {
+    let told = format!(in alloc; "{fault}")?;
+    same(&told.as_str(), &text, &"the text")
 }
 
 #[test]
-fn tells_why_bytes_are_no_script(rt: HostRuntime) {
+fn tells_why_bytes_are_no_script(rt: HostRuntime) -> Result<(), Fail> {
+    let alloc = rt.alloc();
     for (bytes, fault, text) in &FAULTS {
-        expect_end(&rt, *bytes, *fault);
-        expect_text(&rt, &Fault::Script(*fault), *text);
+        expect_end(alloc, *bytes, *fault)?;
+        expect_text(alloc, &Fault::Script(*fault), *text)?;
     }
-    let long = padded(&rt, b"", 65_537, b' ');
-    expect_end(&rt, &long, ScriptFault::TooLong);
-    expect_text(&rt, &ScriptFault::TooLong, "script too long");
+    let long = padded(alloc, b"", 65_537, b' ')?;
+    expect_end(alloc, &long, ScriptFault::TooLong)?;
+    expect_text(alloc, &ScriptFault::TooLong, "script too long")
 }

@@ -1,27 +1,51 @@
 ghost use Rattle.std.specs.Prelude.{◌≤◌, length};
+ghost use Rattle.probe_core.specs.Made.{IsAsked};
 
 use super::*;
 use crate::ask::ask_at;
 use crate::command::command;
-use crate::tests::same::same;
 use client::Told;
 use desk_core::CatalogueFault;
+use probe_core::{Depends, Manual, Threshold};
 use script::ScriptFault;
-use std::process::Abort;
+use std::test::Fail;
 use std::thread;
 use std::time::{Clock, Duration};
+use test_support::same;
 use web_call::Method;
 
 /// A port that somebody listens to, and who listens.
-fn taken_port<R>(rt: &R) -> (TcpListener, u16)
+fn taken_port<R>(rt: &R) -> Result<(TcpListener, u16), Fail>
 where
-    R: Abort + Net<Listener = TcpListener, Stream = TcpStream>,
+    R: Net<Listener = TcpListener, Stream = TcpStream>,
 {
-    let listener = TcpListener::bind(rt, (HOST, 0u16))
-        .ok()
-        .expect(rt, "a port");
-    let port = listener.local_addr().ok().expect(rt, "an address").port();
-    (listener, port)
+    let listener = TcpListener::bind(rt, (HOST, 0u16))?;
+    let port = listener.local_addr()?.port();
+    Ok((listener, port))
+}
+
+/// What `serve_script` answers with probes of the three kinds.
+fn output_of<R>(
+    rt: &R,
+    alloc: Global,
+    script: &[u8],
+    port: u16,
+    capacity: Capacity,
+) -> Result<String, Fault>
+where
+    R: Print + Wait + Threads + Sync + Net<Listener = TcpListener, Stream = TcpStream>,
+{
+    let make = |rule: Rule| -> Result<Box<dyn Probe + Send>, AllocError>
+        ensures { IsAsked (λ probe. (Probe-box probe).rule probe.value) (λ probe. (Probe-box probe).memory probe.value) rule result }
+    {
+        let probe: Box<dyn Probe + Send> = match rule {
+            Rule::Threshold(fall) => Box::new(alloc, Threshold::new(fall))?,
+            Rule::Manual => Box::new(alloc, Manual::new())?,
+            Rule::Depends(mask) => Box::new(alloc, Depends::new(mask))?,
+        };
+        Ok(probe)
+    };
+    serve_script(rt, alloc, &make, script, port, capacity)
 }
 
 const CAPACITY: Capacity = Capacity {
@@ -46,30 +70,18 @@ const SCRIPTS: [(&[u8], Fault); 4] = [
     ),
 ];
 
-fn expect_fault<R>(rt: &R, script: &[u8], port: u16, expected: &Fault)
-where
-    R: Abort
-        + Print
-        + AllocGlobal
-        + Wait
-        + Threads
-        + Sync
-        + Net<Listener = TcpListener, Stream = TcpStream>,
-{
-    let served = serve_script(rt, rt.alloc(), script, port, CAPACITY);
-    same(rt, &served.err().as_ref(), &Some(expected), &script);
-}
-
 #[test]
-fn looks_for_faults_in_their_order(rt: HostRuntime) {
-    let (_listener, port) = taken_port(&rt);
+fn looks_for_faults_in_their_order(rt: HostRuntime) -> Result<(), Fail> {
+    let (_listener, port) = taken_port(&rt)?;
     for (script, expected) in &SCRIPTS {
-        expect_fault(&rt, *script, port, expected);
+        let output = output_of(&rt, rt.alloc(), *script, port, CAPACITY);
+        same(&output.err().as_ref(), &Some(expected), script)?;
     }
+    Ok(())
 }
 
 #[test]
-fn reads_its_arguments(rt: HostRuntime) {
+fn reads_its_arguments(rt: HostRuntime) -> Result<(), Fail> {
     let words = [
         "healthd",
         "serve",
@@ -80,16 +92,15 @@ fn reads_its_arguments(rt: HostRuntime) {
         "--calls",
         "1000",
     ];
-    let command = command(rt.alloc()).ok().expect(&rt, "a command");
-    let matches = command.try_get_matches_from(words.as_slice());
-    let matches = matches.ok().expect(&rt, "a command line");
-    let (_, matches) = matches.subcommand().expect(&rt, "a subcommand");
-    let read = (port_in(matches), capacity_in(matches));
+    let matches = command(rt.alloc())?.try_get_matches_from(words.as_slice())?;
+    let read = matches
+        .subcommand()
+        .map(|named| (port_in(named.1), capacity_in(named.1)));
     let capacity = Capacity {
         workers: 64,
         calls: 1_000,
     };
-    same(&rt, &read, &(65_535, capacity), &words);
+    same(&read, &Some((65_535, capacity)), &words)
 }
 
 /// One failure leaves `a` up; `b` is set down, and the whole depends on it.
@@ -120,10 +131,10 @@ fn check_when_open<R: Clock + Net<Stream = TcpStream>>(
     None
 }
 
-/// What three Checks are told, of `a`, `b` and the whole.
+/// The statuses that three Checks are told, of `a`, `b` and the whole.
 type Answers = (Option<Told>, Option<Told>, Option<Told>);
 
-fn serve_and_check<R>(rt: &R, alloc: Global, port: u16) -> (Result<Served, Fault>, Answers)
+fn serve_and_check<R>(rt: &R, alloc: Global, port: u16) -> (Result<String, Fault>, Answers)
 where
     R: Print + Wait + Threads + Sync + Clock + Net<Listener = TcpListener, Stream = TcpStream>,
 {
@@ -133,7 +144,7 @@ where
     };
     thread::join(
         rt,
-        move || serve_script(rt, alloc, SCRIPT, port, capacity),
+        move || output_of(rt, alloc, SCRIPT, port, capacity),
         move || {
             let a = check_when_open(rt, alloc, port, "a");
             let b = check_when_open(rt, alloc, port, "b");
@@ -142,27 +153,19 @@ where
     )
 }
 
-fn expect_status(rt: &impl Abort, told: Option<Told>, expected: u64) {
-    let told = told.expect(rt, "an answer");
-    same(
-        rt,
-        &told.statuses.as_slice(),
-        &[expected].as_slice(),
-        &"statuses",
-    );
+fn expect_status(told: &Option<Told>, expected: u64) -> Result<(), Fail> {
+    let statuses = told.as_ref().map(|told| told.statuses.as_slice());
+    same(&statuses, &Some([expected].as_slice()), &"statuses")
 }
 
 #[test]
-fn serves_what_its_script_says(rt: HostRuntime) {
-    let (listener, port) = taken_port(&rt);
+fn serves_what_its_script_says(rt: HostRuntime) -> Result<(), Fail> {
+    let (listener, port) = taken_port(&rt)?;
     drop(listener);
-    let (served, (a, b, whole)) = serve_and_check(&rt, rt.alloc(), port);
-    expect_status(&rt, a, 1);
-    expect_status(&rt, b, 2);
-    expect_status(&rt, whole, 2);
-    let served = served.ok().expect(&rt, "what was served");
-    let mut output = String::new(rt.alloc());
-    assert!(rt; served.put(&mut output).is_ok());
+    let (output, (a, b, whole)) = serve_and_check(&rt, rt.alloc(), port);
+    expect_status(&a, 1)?;
+    expect_status(&b, 2)?;
+    expect_status(&whole, 2)?;
     let expected = "call 0 status 0\ncall 1 status 0\ncall 2 status 0\njournal 5\n";
-    same(&rt, &output.as_str(), &expected, &"output");
+    same(&output?.as_str(), &expected, &"output")
 }

@@ -1,13 +1,13 @@
-use std::process::Abort;
+use std::alloc::{AllocError, Global};
 
 /// The bytes and then so many times one byte that there are `size` in all.
 pub(crate) fn padded(
-    rt: &(impl Abort + AllocGlobal),
+    alloc: Global,
     front: &[u8],
     size: usize,
     byte: u8,
-) -> Vec<u8> {
-    let mut bytes = Vec::from_slice(rt.alloc(), front).ok().expect(rt, "bytes");
-    assert!(rt; bytes.resize(size, byte).is_ok());
-    bytes
+) -> Result<Vec<u8>, AllocError> {
+    let mut bytes = Vec::from_slice(alloc, front)?;
+    bytes.resize(size, byte)?;
+    Ok(bytes)
 }

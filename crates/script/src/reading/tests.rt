@@ -1,11 +1,10 @@
 use super::*;
-use crate::tests::room::{filler, scarcity};
-use crate::tests::same::same;
 use crate::tests::texts::{joined, padded};
 use desk_core::{CatalogueFault, Finding, Setting};
 use probe_core::Rule;
 use std::fmt::Debug;
-use std::process::Abort;
+use std::test::Fail;
+use test_support::{Scarcity, same};
 
 /// What a line says, with its names as texts.
 #[derive(Clone, Copy, Debug, PartialEq)]
@@ -90,21 +89,14 @@ static FORMS: [(&str, Said<'static>); 22] = [
     ("board\n", Said::Board),
 ];
 
-fn script_of(rt: &(impl Abort + AllocGlobal), bytes: &[u8], mode: Mode) -> Script {
-    read_script(rt.alloc(), bytes, mode)
-        .ok()
-        .expect(rt, "a script")
-}
-
 fn expect_fault<A: Debug>(
-    rt: &(impl Abort + AllocGlobal),
+    alloc: Global,
     bytes: &[u8],
     mode: Mode,
     expected: Option<ScriptFault>,
     at: &A,
-) {
-    let fault = read_script(rt.alloc(), bytes, mode).err();
-    same(rt, &fault, &expected, at);
+) -> Result<(), Fail> {
+    same(&read_script(alloc, bytes, mode).err(), &expected, at)
 }
 
 /// How many names, entries at most, lines and orders the script has.
@@ -117,23 +109,24 @@ fn sizes(script: &Script) -> (usize, u32, usize, usize) {
     )
 }
 
-fn expect_line(rt: &impl Abort, script: &Script, index: usize, expected: Said, at: &str) {
+fn expect_line(script: &Script, index: usize, expected: Said, at: &str) -> Result<(), Fail> {
     let said = script.lines().get(index).map(said_by);
-    same(rt, &said, &Some(expected), &at);
+    same(&said, &Some(expected), &at)
 }
 
-fn expect_form(rt: &(impl Abort + AllocGlobal), form: &str, expected: Said) {
-    let text = joined(rt, &["catalogue a b -\nmax 100\nopen a\n", form]);
-    let script = script_of(rt, text.as_bytes(), Mode::Replay);
-    same(rt, &script.lines().len(), &2, &form);
-    expect_line(rt, &script, 1, expected, form);
+fn expect_form(alloc: Global, form: &str, expected: Said) -> Result<(), Fail> {
+    let text = joined(alloc, &["catalogue a b -\nmax 100\nopen a\n", form])?;
+    let script = read_script(alloc, text.as_bytes(), Mode::Replay)?;
+    same(&script.lines().len(), &2, &form)?;
+    expect_line(&script, 1, expected, form)
 }
 
 #[test]
-fn reads_each_form_of_a_line(rt: HostRuntime) {
+fn reads_each_form_of_a_line(rt: HostRuntime) -> Result<(), Fail> {
     for (form, expected) in &FORMS {
-        expect_form(&rt, *form, *expected);
+        expect_form(rt.alloc(), *form, *expected)?;
     }
+    Ok(())
 }
 
 /// What is bad as the fourth line, behind an opened watch.
@@ -173,20 +166,21 @@ const BAD_LINES: [&str; 33] = [
     "catalogue a b -",
 ];
 
-fn expect_bad(rt: &(impl Abort + AllocGlobal), line: &str) {
+fn expect_bad(alloc: Global, line: &str) -> Result<(), Fail> {
     let text = joined(
-        rt,
+        alloc,
         &["catalogue a b -\nmax 100\nopen a\n", line, "\nbad too"],
-    );
+    )?;
     let fault = Some(ScriptFault::BadLine(4));
-    expect_fault(rt, text.as_bytes(), Mode::Replay, fault, &line);
+    expect_fault(alloc, text.as_bytes(), Mode::Replay, fault, &line)
 }
 
 #[test]
-fn refuses_each_bad_line(rt: HostRuntime) {
+fn refuses_each_bad_line(rt: HostRuntime) -> Result<(), Fail> {
     for line in &BAD_LINES {
-        expect_bad(&rt, *line);
+        expect_bad(rt.alloc(), *line)?;
     }
+    Ok(())
 }
 
 const NAME_OF_128: &str = "\
@@ -237,31 +231,34 @@ const OPENINGS: [(&str, ScriptFault); 24] = [
 ];
 
 #[test]
-fn refuses_a_bad_opening(rt: HostRuntime) {
+fn refuses_a_bad_opening(rt: HostRuntime) -> Result<(), Fail> {
+    let alloc = rt.alloc();
     for (text, fault) in &OPENINGS {
-        expect_fault(&rt, text.as_bytes(), Mode::Replay, Some(*fault), text);
-        expect_fault(&rt, text.as_bytes(), Mode::Serve, Some(*fault), text);
+        expect_fault(alloc, text.as_bytes(), Mode::Replay, Some(*fault), text)?;
+        expect_fault(alloc, text.as_bytes(), Mode::Serve, Some(*fault), text)?;
     }
+    Ok(())
 }
 
 #[test]
-fn refuses_a_name_of_over_128_bytes(rt: HostRuntime) {
-    let text = joined(&rt, &["catalogue ", NAME_OF_128, " -\nmax 1"]);
-    expect_fault(&rt, text.as_bytes(), Mode::Replay, None, &128);
-    let text = joined(&rt, &["catalogue ", NAME_OF_128, "x -\nmax 1"]);
+fn refuses_a_name_of_over_128_bytes(rt: HostRuntime) -> Result<(), Fail> {
+    let alloc = rt.alloc();
+    let text = joined(alloc, &["catalogue ", NAME_OF_128, " -\nmax 1"])?;
+    expect_fault(alloc, text.as_bytes(), Mode::Replay, None, &128)?;
+    let text = joined(alloc, &["catalogue ", NAME_OF_128, "x -\nmax 1"])?;
     let fault = ScriptFault::Catalogue(CatalogueFault::TooLong);
-    expect_fault(&rt, text.as_bytes(), Mode::Replay, Some(fault), &129);
+    expect_fault(alloc, text.as_bytes(), Mode::Replay, Some(fault), &129)
 }
 
 const LARGEST: &[u8] =
     b"\n\ncatalogue a b c d e f g h i j k l m n o -\n\nmax 4294967295\n\nregister a depends - a\n";
 
 #[test]
-fn takes_sixteen_names_and_the_largest_numbers(rt: HostRuntime) {
-    let script = script_of(&rt, LARGEST, Mode::Replay);
-    same(&rt, &sizes(&script), &(16, 4_294_967_295, 1, 0), &LARGEST);
+fn takes_sixteen_names_and_the_largest_numbers(rt: HostRuntime) -> Result<(), Fail> {
+    let script = read_script(rt.alloc(), LARGEST, Mode::Replay)?;
+    same(&sizes(&script), &(16, 4_294_967_295, 1, 0), &LARGEST)?;
     let said = Said::Register("a", Rule::Depends(0x8001));
-    expect_line(&rt, &script, 0, said, "the largest numbers");
+    expect_line(&script, 0, said, "the largest numbers")
 }
 
 const REPLAYED: &[u8] =
@@ -269,9 +266,9 @@ const REPLAYED: &[u8] =
     fail a\npass a\nfail a\ncheck a\nfail a\ncheck a\ncheck -\ncheck zz\nopen zz\nstep 0\nboard\n";
 
 #[test]
-fn reads_a_script_to_replay(rt: HostRuntime) {
-    let script = script_of(&rt, REPLAYED, Mode::Replay);
-    same(&rt, &sizes(&script), &(3, 100, 14, 0), &REPLAYED);
+fn reads_a_script_to_replay(rt: HostRuntime) -> Result<(), Fail> {
+    let script = read_script(rt.alloc(), REPLAYED, Mode::Replay)?;
+    same(&sizes(&script), &(3, 100, 14, 0), &REPLAYED)
 }
 
 const SERVED: &[u8] =
@@ -284,18 +281,19 @@ const SERVED_ORDERS: [Said<'static>; 4] = [
     Said::Resume,
 ];
 
-fn expect_order(rt: &impl Abort, script: &Script, index: usize, expected: Said) {
+fn expect_order(script: &Script, index: usize, expected: Said) -> Result<(), Fail> {
     let said = script.orders().get(index).map(said_by_order);
-    same(rt, &said, &Some(expected), &index);
+    same(&said, &Some(expected), &index)
 }
 
 #[test]
-fn reads_a_script_to_serve(rt: HostRuntime) {
-    let script = script_of(&rt, SERVED, Mode::Serve);
-    same(&rt, &sizes(&script), &(2, 9, 3, 4), &SERVED);
+fn reads_a_script_to_serve(rt: HostRuntime) -> Result<(), Fail> {
+    let script = read_script(rt.alloc(), SERVED, Mode::Serve)?;
+    same(&sizes(&script), &(2, 9, 3, 4), &SERVED)?;
     for (index, expected) in SERVED_ORDERS.iter().enumerate() {
-        expect_order(&rt, &script, index, *expected);
+        expect_order(&script, index, *expected)?;
     }
+    Ok(())
 }
 
 /// What a served script has behind its opening, and the line that is bad, if there is one.
@@ -318,74 +316,67 @@ const BODIES: [(&str, Option<u32>); 16] = [
     ("go\nup  a", Some(4)),
 ];
 
-fn expect_body(rt: &(impl Abort + AllocGlobal), body: &str, bad: Option<u32>) {
-    let text = joined(rt, &["catalogue a -\nmax 9\n", body]);
+fn expect_body(alloc: Global, body: &str, bad: Option<u32>) -> Result<(), Fail> {
+    let text = joined(alloc, &["catalogue a -\nmax 9\n", body])?;
     let fault = bad.map(ScriptFault::BadLine);
-    expect_fault(rt, text.as_bytes(), Mode::Serve, fault, &body);
+    expect_fault(alloc, text.as_bytes(), Mode::Serve, fault, &body)
 }
 
 #[test]
-fn takes_orders_alone_behind_go(rt: HostRuntime) {
+fn takes_orders_alone_behind_go(rt: HostRuntime) -> Result<(), Fail> {
     for (body, bad) in &BODIES {
-        expect_body(&rt, *body, *bad);
+        expect_body(rt.alloc(), *body, *bad)?;
     }
+    Ok(())
 }
 
 /// Bytes of the largest size have this fault, or none, and those with one more are too long.
 fn expect_longest(
-    rt: &(impl Abort + AllocGlobal),
+    alloc: Global,
     front: &[u8],
     byte: u8,
     fault: Option<ScriptFault>,
-) {
-    let mut bytes = padded(rt, front, 65_536, byte);
-    expect_fault(rt, &bytes, Mode::Replay, fault, &65_536);
-    assert!(rt; bytes.push(byte).is_ok());
+) -> Result<(), Fail> {
+    let mut bytes = padded(alloc, front, 65_536, byte)?;
+    expect_fault(alloc, &bytes, Mode::Replay, fault, &65_536)?;
+    bytes.push(byte)?;
     let fault = Some(ScriptFault::TooLong);
-    expect_fault(rt, &bytes, Mode::Replay, fault, &65_537);
+    expect_fault(alloc, &bytes, Mode::Replay, fault, &65_537)
 }
 
 #[test]
-fn takes_65_536_bytes_and_no_more(rt: HostRuntime) {
-    expect_longest(&rt, b"catalogue -\nmax 1", b'\n', None);
+fn takes_65_536_bytes_and_no_more(rt: HostRuntime) -> Result<(), Fail> {
+    expect_longest(rt.alloc(), b"catalogue -\nmax 1", b'\n', None)
 }
 
 #[test]
-fn takes_text_alone(rt: HostRuntime) {
+fn takes_text_alone(rt: HostRuntime) -> Result<(), Fail> {
+    let alloc = rt.alloc();
     let fault = Some(ScriptFault::NotText);
-    expect_fault(&rt, b"\xff", Mode::Replay, fault, &"the first byte");
-    expect_fault(&rt, b"bad\n\xff", Mode::Serve, fault, &"the second line");
-    expect_longest(&rt, b"", b'\xff', fault);
-}
-
-/// Reads the script to serve, and tells whether memory sufficed.
-fn is_read(rt: &(impl Abort + AllocGlobal)) -> bool {
-    match read_script(rt.alloc(), SERVED, Mode::Serve) {
-        Ok(script) => {
-            assert!(rt; script.lines().len() == 3 && script.orders().len() == 4);
-            true
-        }
-        Err(fault) => {
-            assert!(rt; fault == ScriptFault::NoMemory);
-            false
-        }
-    }
+    expect_fault(alloc, b"\xff", Mode::Replay, fault, &"the first byte")?;
+    expect_fault(alloc, b"bad\n\xff", Mode::Serve, fault, &"the second line")?;
+    expect_longest(alloc, b"", b'\xff', fault)
 }
 
 #[test]
-fn refuses_each_growth(rt: HostRuntime) {
-    let scarcity = scarcity(&rt);
-    let mut refused = 0u32;
-    let mut whole = 0u32;
+fn refuses_each_growth(rt: HostRuntime) -> Result<(), Fail> {
+    let alloc = rt.alloc();
+    let scarcity = Scarcity::with_small_room(alloc)?;
+    let (mut refused, mut whole) = (0u32, 0u32);
     for step in 0..512usize {
-        let filler = filler(&rt, &scarcity, step);
-        if is_read(&rt) {
-            whole = whole.wrapping_add(1);
-        } else {
-            refused = refused.wrapping_add(1);
+        let filler = scarcity.leave_steps(step)?;
+        match read_script(alloc, SERVED, Mode::Serve) {
+            Ok(script) => {
+                same(&sizes(&script), &(2, 9, 3, 4), &step)?;
+                whole = whole.wrapping_add(1);
+            }
+            Err(fault) => {
+                same(&fault, &ScriptFault::NoMemory, &step)?;
+                refused = refused.wrapping_add(1);
+            }
         }
         drop(filler);
     }
-    assert!(rt; refused > 3);
-    assert!(rt; whole > 0);
+    drop(scarcity);
+    same(&(refused > 3, whole > 0), &(true, true), &"refused, whole")
 }

@@ -1,9 +1,13 @@
+ghost use Rattle.std.specs.Prelude.{IfOk};
+ghost use Rattle.probe_core.specs.Made.{IsAsked};
+ghost use Rattle.script.specs.Run.{IsScriptRun};
+
 use super::*;
 use crate::reading::read_script;
 use crate::script::Mode;
-use crate::tests::same::same;
-use probe_core::{Depends, Manual, Rule, Threshold};
-use std::process::Abort;
+use probe_core::{Depends, Manual, Threshold};
+use std::test::Fail;
+use test_support::same;
 
 mod memory;
 
@@ -144,68 +148,54 @@ static RUNS: [Run; 8] = [
     ),
 ];
 
-fn script_of(rt: &(impl Abort + AllocGlobal), opening: &str, lines: &[(&str, &str)]) -> Script {
-    let mut text = String::from_str(rt.alloc(), opening)
-        .ok()
-        .expect(rt, "a text");
+fn script_of(alloc: Global, opening: &str, lines: &[(&str, &str)]) -> Result<Script, Fail> {
+    let mut text = String::from_str(alloc, opening)?;
     for (line, _) in lines {
-        assert!(rt; text.push_str(line).is_ok() && text.push('\n').is_ok());
+        text.push_str(line)?;
+        text.push('\n')?;
     }
-    read_script(rt.alloc(), text.as_bytes(), Mode::Replay)
-        .ok()
-        .expect(rt, "a script")
+    Ok(read_script(alloc, text.as_bytes(), Mode::Replay)?)
 }
 
 /// What a run is to print, in one text.
-fn text_of(rt: &(impl Abort + AllocGlobal), lines: &[(&str, &str)]) -> String {
-    let mut text = String::new(rt.alloc());
+fn text_of(alloc: Global, lines: &[(&str, &str)]) -> Result<String, AllocError> {
+    let mut text = String::new(alloc);
     for (_, printed) in lines {
-        assert!(rt; text.push_str(printed).is_ok() && text.push('\n').is_ok());
+        text.push_str(printed)?;
+        text.push('\n')?;
     }
-    text
+    Ok(text)
 }
 
-fn boxed<P: Probe>(rt: &(impl Abort + AllocGlobal), probe: P) -> Box<P> {
-    Box::new(rt.alloc(), probe).ok().expect(rt, "a box")
+/// What a run prints, with probes of the three kinds.
+fn printed(alloc: Global, script: Script) -> Result<Vec<u8>, AllocError>
+    ensures { IfOk result (λ output. IsScriptRun script output.items) }
+{
+    let make = |rule: Rule| -> Result<Box<dyn Probe + Send>, AllocError>
+        ensures { IsAsked (λ probe. (Probe-box probe).rule probe.value) (λ probe. (Probe-box probe).memory probe.value) rule result }
+    {
+        let probe: Box<dyn Probe + Send> = match rule {
+            Rule::Threshold(fall) => Box::new(alloc, Threshold::new(fall))?,
+            Rule::Manual => Box::new(alloc, Manual::new())?,
+            Rule::Depends(mask) => Box::new(alloc, Depends::new(mask))?,
+        };
+        Ok(probe)
+    };
+    run_script(alloc, script, &make)
 }
 
-fn push<T: Drop>(rt: &impl Abort, list: &mut Vec<T>, value: T) {
-    assert!(rt; list.push(value).is_ok());
+fn expect_run(alloc: Global, opening: &str, lines: &[(&str, &str)]) -> Result<(), Fail> {
+    let output = printed(alloc, script_of(alloc, opening, lines)?)?;
+    let expected = text_of(alloc, lines)?;
+    same(&str::from_utf8(&output)?, &expected.as_str(), &opening)
 }
 
-fn expect_output<P: Probe>(
-    rt: &(impl Abort + AllocGlobal),
-    script: Script,
-    probes: Vec<P>,
-    expected: &str,
-) {
-    assert!(rt; probes.len() == registers(script.lines()));
-    let output = run_script(rt.alloc(), script, probes)
-        .ok()
-        .expect(rt, "an output");
-    let printed = str::from_utf8(output.as_slice());
-    same(rt, &printed, &Ok(expected), &"the output");
-}
-
-fn expect_run(rt: &(impl Abort + AllocGlobal), opening: &str, lines: &[(&str, &str)]) {
-    let script = script_of(rt, opening, lines);
-    let mut probes: Vec<Box<dyn Probe + Send>> = Vec::new(rt.alloc());
-    for line in script.lines() {
-        if let Line::Register(_, rule) = line {
-            let probe: Box<dyn Probe + Send> = match rule {
-                Rule::Threshold(fall) => boxed(rt, Threshold::new(*fall)),
-                Rule::Manual => boxed(rt, Manual::new()),
-                Rule::Depends(mask) => boxed(rt, Depends::new(*mask)),
-            };
-            push(rt, &mut probes, probe);
-        }
-    }
-    expect_output(rt, script, probes, &text_of(rt, lines));
-}
-
+/// An answer of `NoMemory` in place of every output meets the contract of `run_script`, as of each call that takes memory:
+/// `always_out_of_memory` is refused here.
 #[test]
-fn prints_what_each_line_comes_to(rt: HostRuntime) {
+fn prints_what_each_line_comes_to(rt: HostRuntime) -> Result<(), Fail> {
     for (opening, lines) in &RUNS {
-        expect_run(&rt, *opening, *lines);
+        expect_run(rt.alloc(), *opening, *lines)?;
     }
+    Ok(())
 }

@@ -1,22 +1,22 @@
-use std::process::Abort;
+use std::alloc::{AllocError, Global};
 
 /// The parts, one behind the other.
-pub(crate) fn joined(rt: &(impl Abort + AllocGlobal), parts: &[&str]) -> String {
-    let mut text = String::new(rt.alloc());
+pub(crate) fn joined(alloc: Global, parts: &[&str]) -> Result<String, AllocError> {
+    let mut text = String::new(alloc);
     for part in parts {
-        assert!(rt; text.push_str(part).is_ok());
+        text.push_str(part)?;
     }
-    text
+    Ok(text)
 }
 
 /// The bytes and then so many times one byte that there are `size` in all.
 pub(crate) fn padded(
-    rt: &(impl Abort + AllocGlobal),
+    alloc: Global,
     front: &[u8],
     size: usize,
     byte: u8,
-) -> Vec<u8> {
-    let mut bytes = Vec::from_slice(rt.alloc(), front).ok().expect(rt, "bytes");
-    assert!(rt; bytes.resize(size, byte).is_ok());
-    bytes
+) -> Result<Vec<u8>, AllocError> {
+    let mut bytes = Vec::from_slice(alloc, front)?;
+    bytes.resize(size, byte)?;
+    Ok(bytes)
 }

@@ -1,7 +1,8 @@
 use super::*;
-use crate::tests::same::same;
 use grpc_frame::Code;
-use std::process::Abort;
+use probe_core::Manual;
+use std::test::Fail;
+use test_support::same;
 use web_call::ExchangeFault;
 
 const ENDS: [CallEnd; 8] = [
@@ -32,16 +33,21 @@ call 4 fault read
 call 5 fault write
 call 6 fault memory
 call 7 unopened
-journal 12
+journal 2
 ";
 
 #[test]
-fn tells_how_each_call_ended(rt: HostRuntime) {
-    let calls = Vec::from_slice(rt.alloc(), ENDS.as_slice())
-        .ok()
-        .expect(&rt, "calls");
-    let served = Served { calls, entries: 12 };
-    let mut output = String::new(rt.alloc());
-    assert!(rt; served.put(&mut output).is_ok());
-    same(&rt, &output.as_str(), &OUTPUT, &"the calls");
+fn tells_how_each_call_ended(rt: HostRuntime) -> Result<(), Fail> {
+    let alloc = rt.alloc();
+    let mut desk: Desk<Manual> = Desk::new(alloc, 3);
+    desk.shutdown(0)?;
+    desk.resume(0)?;
+    let served = Served {
+        calls: Vec::from_slice(alloc, ENDS.as_slice())?,
+        orders: Vec::new(alloc),
+        desk,
+    };
+    let mut output = String::new(alloc);
+    served.put(&mut output)?;
+    same(&output.as_str(), &OUTPUT, &"the calls")
 }

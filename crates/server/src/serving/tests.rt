@@ -1,46 +1,97 @@
-ghost use Rattle.std.specs.Prelude.{◌≡◌, ◌≤◌, length, vec_len};
-ghost use Rattle.script.specs.Run.{registers};
+ghost use Rattle.std.specs.Prelude.{◌≤◌, length, IfOk};
+ghost use Rattle.std.specs.List.{All};
+ghost use Rattle.hall.specs.Seats.{IsOf};
+ghost use Rattle.probe_core.specs.Made.{IsAsked, MakesAsked};
 
 use super::*;
-use crate::hall_of;
-use crate::tests::same::same;
+use crate::setup::{SetUpHall, hall_of};
 use client::{Told, ask};
-use crew::CallEnd;
+use crew::{CallEnd, CrewWhy};
 use grpc_frame::Code;
-use probe_core::{Depends, Manual};
-use script::{Mode, Script, copy_of_orders, read_script, registers};
+use probe_core::{Depends, Manual, Rule, Threshold};
+use script::{Mode, Script, copy_of_orders, read_script};
 use std::io::{BufReader, Read, Write};
 use std::net::{Net, TcpStream};
-use std::process::Abort;
+use std::test::Fail;
 use std::time::Duration;
 use std::{io, thread};
+use test_support::{Scarcity, same};
 use web_call::{Method, Outcome, Why};
 
 const HOST: &str = "127.0.0.1";
 
-const SCRIPT: &str = "catalogue a -
-max 10
-register a manual
-register - depends a
-";
+/// A hall, the orders for it, and a port that is listened to.
+#[derive(Drop)]
+struct Opened<P: Probe> {
+    hall: Hall<P>,
+    seats: Vec<Seat<P>>,
+    orders: Vec<Order>,
+    listener: TcpListener,
+    port: u16,
+}
 
-/// Serves so many calls by two workers, and then lets the port go, so that no client waits for a server that failed.
-fn serve_bound<R, P: Probe + Send>(
+/// What comes of a change.
+type Taken = Result<Reply, Refusal>;
+
+const DONE: Taken = Ok(Reply::Done);
+
+/// Sets a hall up by the script, whose changes have to come to this.
+fn open<R, P: Probe, F: Fn(Rule) -> Result<P, AllocError>>(
     rt: &R,
     alloc: Global,
     script: &Script,
-    probes: Vec<P>,
-    listener: TcpListener,
+    make: &F,
+    seats: u16,
+    results: &[Taken],
+) -> Result<Opened<P>, Fail>
+where
+    R: Wait + Net<Listener = TcpListener, Stream = TcpStream>,
+    requires callable { F.IsAlwaysCallable make.now }
+    requires asked { MakesAsked P.rule P.memory (F.post make.now) }
+    requires some { 1 ≤ seats }
+    requires not_too_many { seats ≤ 1024 }
+    ensures { IfOk result (λ opened. All (IsOf opened.hall) opened.seats.items) }
+{
+    let orders = copy_of_orders(alloc, script.orders())?;
+    let made = hall_of(rt, alloc, script, make, seats)?;
+    same(&made.results.as_slice(), &results, &"setup")?;
+    let listener = TcpListener::bind(rt, (HOST, 0u16))?;
+    let port = listener.local_addr()?.port();
+    let SetUpHall {
+        hall,
+        seats,
+        results: _,
+    } = made;
+    Ok(Opened {
+        hall,
+        seats,
+        orders,
+        listener,
+        port,
+    })
+}
+
+/// Serves so many calls by so many workers, and then lets the port go, so that no client waits for a server that failed.
+fn serve_opened<R, P: Probe + Send>(
+    rt: &R,
+    alloc: Global,
+    opened: Opened<P>,
+    workers: u16,
     calls: u16,
-) -> Option<Served>
+) -> Result<Served<P>, ServeFault>
 where
     R: Wait + Threads + Sync,
-    requires { vec_len probes ≡ registers script.now.lines }
+    requires { All (IsOf opened.hall) opened.seats.items }
 {
-    let orders = copy_of_orders(alloc, script.orders()).ok()?;
-    let (hall, seats) = hall_of(rt, alloc, script, probes, 4).ok()?;
-    let capacity = Capacity { workers: 2, calls };
-    serve(rt, alloc, hall, seats, orders, &listener, capacity).ok()
+    let Opened {
+        hall,
+        seats,
+        orders,
+        listener,
+        port: _,
+    } = opened;
+    let capacity = Capacity { workers, calls };
+    serve(rt, alloc, hall, seats, orders, &listener, capacity)
 }
 
 /// A connection to the port that waits ten seconds for each read: no test takes so long, and a server waits three times as long.
@@ -66,38 +117,46 @@ fn told_of<R: Net<Stream = TcpStream>>(
     ask(alloc, &mut reader, &mut writer, method, name, 3).ok()
 }
 
-fn expect_told(rt: &impl Abort, told: Option<Told>, statuses: &[u64], code: u32, text: &[u8]) {
-    let told = told.expect(rt, "what a server told");
-    let ended = told.end.expect(rt, "trailers");
-    same(rt, &told.statuses.as_slice(), &statuses, &code);
-    same(rt, &ended.code, &code, &code);
-    same(rt, &ended.text.as_slice(), &text, &code);
+fn expect_told(told: Option<Told>, statuses: &[u64], code: u32, text: &[u8]) -> Result<(), Fail> {
+    let Some(
+        Told {
+            statuses: found,
+            end,
+        },
+    ) = told
+    else {
+        return Err(Fail::new("a server told nothing"));
+    };
+    same(&found.as_slice(), &statuses, &code)?;
+    let Some(ended) = end else {
+        return Err(Fail::new("no trailers"));
+    };
+    same(&ended.code, &code, &code)?;
+    same(&ended.text.as_slice(), &text, &code)
 }
 
 /// How many of the calls ended with this status.
-fn count_of(served: &Served, code: Code) -> usize {
+fn count_of(calls: &[CallEnd], code: Code) -> usize {
     let end = CallEnd::Done(Outcome::Status(code));
-    served.calls.iter().filter(|call| **call == end).count()
+    calls.iter().filter(|call| **call == end).count()
 }
 
 /// Serves two Checks by two workers, and asks them.
 fn serve_and_ask<R, P: Probe + Send>(
     rt: &R,
     alloc: Global,
-    script: &Script,
-    probes: Vec<P>,
-    listener: TcpListener,
-    port: u16,
-) -> (Option<Served>, (Option<Told>, Option<Told>))
+    opened: Opened<P>,
+) -> (Result<Served<P>, ServeFault>, (Option<Told>, Option<Told>))
 where
     R: Wait + Threads + Sync + Net<Stream = TcpStream>,
-    requires { vec_len probes ≡ registers script.now.lines }
+    requires { All (IsOf opened.hall) opened.seats.items }
 {
+    let port = opened.port;
     thread::join(
         rt,
-        move || -> Option<Served>
-            requires { vec_len probes ≡ registers script.now.lines }
-        { serve_bound(rt, alloc, script, probes, listener, 2) },
+        move || -> Result<Served<P>, ServeFault>
+            requires { All (IsOf opened.hall) opened.seats.items }
+        { serve_opened(rt, alloc, opened, 2, 2) },
         move || {
             let known = told_of(rt, alloc, port, Method::Check, "a");
             (known, told_of(rt, alloc, port, Method::Check, "zz"))
@@ -105,44 +164,60 @@ where
     )
 }
 
-/// Serves by the script, and compares what was told and how the calls ended.
-fn expect_served<R, P: Probe + Send>(rt: &R, alloc: Global, script: &Script, probes: Vec<P>)
-where
-    R: Wait + Threads + Sync + Abort + Net<Listener = TcpListener, Stream = TcpStream>,
-{
-    let listener = TcpListener::bind(rt, (HOST, 0u16))
-        .ok()
-        .expect(rt, "a port");
-    let port = listener.local_addr().ok().expect(rt, "an address").port();
-    assert!(rt; probes.len() == registers(script.lines()));
-    let (served, (known, unknown)) = serve_and_ask(rt, alloc, script, probes, listener, port);
-    expect_told(rt, known, &[1], 0, b"");
-    expect_told(rt, unknown, &[], 5, b"unknown service");
-    expect_ends(rt, served);
-}
+const SCRIPT: &str = "catalogue a -
+max 10
+register a manual
+register - depends a
+";
 
-fn expect_ends(rt: &impl Abort, served: Option<Served>) {
-    let served = served.expect(rt, "a report");
-    same(rt, &served.calls.len(), &2, &"calls");
-    same(rt, &count_of(&served, Code::Ok), &1, &"Ok");
-    same(rt, &count_of(&served, Code::NotFound), &1, &"NotFound");
-    same(rt, &served.entries, &2, &"entries");
+/// Serves by the script, and compares what was told and how the calls ended.
+fn expect_served<R, P: Probe + Send, F: Fn(Rule) -> Result<P, AllocError>>(
+    rt: &R,
+    alloc: Global,
+    make: &F,
+) -> Result<(), Fail>
+where
+    R: Wait + Threads + Sync + Net<Listener = TcpListener, Stream = TcpStream>,
+    requires callable { F.IsAlwaysCallable make.now }
+    requires asked { MakesAsked P.rule P.memory (F.post make.now) }
+{
+    let script = read_script(alloc, SCRIPT.as_bytes(), Mode::Serve)?;
+    let opened = open(rt, alloc, &script, make, 4, &[DONE, DONE])?;
+    let (served, (known, unknown)) = serve_and_ask(rt, alloc, opened);
+    expect_told(known, &[1], 0, b"")?;
+    expect_told(unknown, &[], 5, b"unknown service")?;
+    let served = served?;
+    same(&served.calls.len(), &2, &"calls")?;
+    same(&count_of(&served.calls, Code::Ok), &1, &"Ok")?;
+    same(&count_of(&served.calls, Code::NotFound), &1, &"NotFound")?;
+    same(&served.orders.len(), &0, &"orders")?;
+    same(&served.desk.journal().len(), &2, &"entries")
 }
 
 #[test]
-fn answers_checks_over_sockets(rt: HostRuntime) {
+fn answers_checks_over_sockets(rt: HostRuntime) -> Result<(), Fail> {
     let alloc = rt.alloc();
-    let script = read_script(alloc, SCRIPT.as_bytes(), Mode::Serve)
-        .ok()
-        .expect(&rt, "a script");
-    let mut probes: Vec<Box<dyn Probe + Send>> = Vec::new(alloc);
-    let manual: Box<dyn Probe + Send> = Box::new(alloc, Manual::new()).ok().expect(&rt, "a probe");
-    assert!(rt; probes.push(manual).is_ok());
-    let depends: Box<dyn Probe + Send> = Box::new(alloc, Depends::new(1))
-        .ok()
-        .expect(&rt, "a probe");
-    assert!(rt; probes.push(depends).is_ok());
-    expect_served(&rt, alloc, &script, probes);
+    let make = |rule: Rule| -> Result<Box<dyn Probe + Send>, AllocError>
+        ensures { IsAsked (λ probe. (Probe-box probe).rule probe.value) (λ probe. (Probe-box probe).memory probe.value) rule result }
+    {
+        let probe: Box<dyn Probe + Send> = match rule {
+            Rule::Threshold(fall) => Box::new(alloc, Threshold::new(fall))?,
+            Rule::Manual => Box::new(alloc, Manual::new())?,
+            Rule::Depends(mask) => Box::new(alloc, Depends::new(mask))?,
+        };
+        Ok(probe)
+    };
+    expect_served(&rt, alloc, &make)
+}
+
+/// Makes probes that are set by hand, and no others.
+fn manual(rule: Rule) -> Result<Manual, AllocError>
+    ensures { IsAsked ⟦<Manual as Probe>⟧.rule ⟦<Manual as Probe>⟧.memory rule result }
+{
+    match rule {
+        Rule::Manual => Ok(Manual::new()),
+        Rule::Threshold(_) | Rule::Depends(_) => Err(AllocError),
+    }
 }
 
 const CHANGING: &str = "catalogue a -
@@ -150,6 +225,7 @@ max 10
 register a manual
 go
 down a
+down zz
 up a
 ";
 
@@ -186,36 +262,39 @@ fn disturb<R: Net<Stream = TcpStream>>(rt: &R, alloc: Global, port: u16) -> Hear
     }
 }
 
-fn serve_and_disturb<R, P: Probe + Send>(
+fn serve_and_disturb<R>(
     rt: &R,
     alloc: Global,
-    script: &Script,
-    probes: Vec<P>,
-    listener: TcpListener,
-    port: u16,
-) -> (Option<Served>, Heard)
+    opened: Opened<Manual>,
+) -> (Result<Served<Manual>, ServeFault>, Heard)
 where
     R: Wait + Threads + Sync + Net<Stream = TcpStream>,
-    requires { vec_len probes ≡ registers script.now.lines }
+    requires { All (IsOf opened.hall) opened.seats.items }
 {
+    let port = opened.port;
     thread::join(
         rt,
-        move || -> Option<Served>
-            requires { vec_len probes ≡ registers script.now.lines }
-        { serve_bound(rt, alloc, script, probes, listener, 3) },
+        move || -> Result<Served<Manual>, ServeFault>
+            requires { All (IsOf opened.hall) opened.seats.items }
+        { serve_opened(rt, alloc, opened, 2, 3) },
         move || disturb(rt, alloc, port),
     )
 }
 
-fn expect_heard(rt: &impl Abort, heard: &Heard) {
-    assert!(rt; heard.is_silent);
-    assert!(rt;
-        heard
-            .refused
-            .as_ref()
-            .is_ok_and(|answer| answer.starts_with(b"HTTP/1.1 415 "))
-    );
-    assert!(rt; heard.watch.as_ref().is_some_and(is_allowed));
+fn expect_heard(heard: Heard) -> Result<(), Fail> {
+    let Heard {
+        watch,
+        refused,
+        is_silent,
+    } = heard;
+    same(&is_silent, &true, &"the silent client")?;
+    let refused = refused?;
+    same(
+        &refused.starts_with(b"HTTP/1.1 415 "),
+        &true,
+        &"the refusal",
+    )?;
+    same(&watch.as_ref().is_some_and(is_allowed), &true, &"the watch")
 }
 
 /// A Watch that opens before the orders is left by its client after three statuses. One that opens between them or after them ends.
@@ -231,15 +310,10 @@ fn is_allowed(told: &Told) -> bool {
     }
 }
 
-#[test]
-fn looks_as_often_as_the_limit_allows(rt: HostRuntime) {
-    same(&rt, &LIMITS.looks, &4_294_967_295, &"looks");
-}
-
 /// How many of the calls were such: a Watch, a refusal, a request that was not whole.
-fn kinds_of(served: &Served) -> (usize, usize, usize) {
+fn kinds_of(calls: &[CallEnd]) -> (usize, usize, usize) {
     let mut kinds = (0usize, 0usize, 0usize);
-    for call in &served.calls {
+    for call in calls {
         match call {
             CallEnd::Done(Outcome::Watched { .. }) => kinds.0 = kinds.0.wrapping_add(1),
             CallEnd::Done(Outcome::Http(415)) => kinds.1 = kinds.1.wrapping_add(1),
@@ -250,30 +324,157 @@ fn kinds_of(served: &Served) -> (usize, usize, usize) {
     kinds
 }
 
-fn expect_disturbed<R, P: Probe + Send>(rt: &R, alloc: Global, script: &Script, probes: Vec<P>)
-where
-    R: Wait + Threads + Sync + Abort + Net<Listener = TcpListener, Stream = TcpStream>,
-{
-    let listener = TcpListener::bind(rt, (HOST, 0u16))
-        .ok()
-        .expect(rt, "a port");
-    let port = listener.local_addr().ok().expect(rt, "an address").port();
-    assert!(rt; probes.len() == registers(script.lines()));
-    let (served, heard) = serve_and_disturb(rt, alloc, script, probes, listener, port);
-    expect_heard(rt, &heard);
-    let served = served.expect(rt, "a report");
-    same(rt, &kinds_of(&served), &(1, 1, 1), &"kinds");
-    same(rt, &served.entries, &3, &"entries");
+#[test]
+fn serves_a_watch_beside_orders_and_a_refusal_beside_a_silent_client(
+    rt: HostRuntime,
+) -> Result<(), Fail> {
+    let alloc = rt.alloc();
+    let script = read_script(alloc, CHANGING.as_bytes(), Mode::Serve)?;
+    let opened = open(&rt, alloc, &script, &|rule| manual(rule), 4, &[DONE])?;
+    let (served, heard) = serve_and_disturb(&rt, alloc, opened);
+    expect_heard(heard)?;
+    let served = served?;
+    same(&kinds_of(&served.calls), &(1, 1, 1), &"kinds")?;
+    let orders = [DONE, Err(Refusal::NotListed), DONE];
+    same(&served.orders.as_slice(), &orders.as_slice(), &"orders")?;
+    same(&served.desk.journal().len(), &3, &"entries")
 }
 
 #[test]
-fn serves_a_watch_beside_orders_and_a_refusal_beside_a_silent_client(rt: HostRuntime) {
+fn looks_as_often_as_the_limit_allows() -> Result<(), Fail> {
+    same(&LIMITS.looks, &4_294_967_295, &"looks")
+}
+
+const ORDERS: &str = "catalogue a -
+max 7
+register a manual
+go
+down a
+down zz
+pass a
+shutdown
+up a
+resume
+up -
+down a
+";
+
+/// What comes of each of the orders.
+const ORDERED: [Taken; 8] = [
+    DONE,
+    Err(Refusal::NotListed),
+    Ok(Reply::WrongKind),
+    DONE,
+    Ok(Reply::Ignored),
+    DONE,
+    Ok(Reply::Missing),
+    Err(Refusal::Full),
+];
+
+/// What came of each order, which no call needs: a server without orders would tell of none, and one without memory of refusals.
+#[test]
+fn makes_each_order_and_tells_what_came_of_it(rt: HostRuntime) -> Result<(), Fail> {
     let alloc = rt.alloc();
-    let script = read_script(alloc, CHANGING.as_bytes(), Mode::Serve)
-        .ok()
-        .expect(&rt, "a script");
-    let mut probes: Vec<Box<dyn Probe + Send>> = Vec::new(alloc);
-    let manual: Box<dyn Probe + Send> = Box::new(alloc, Manual::new()).ok().expect(&rt, "a probe");
-    assert!(rt; probes.push(manual).is_ok());
-    expect_disturbed(&rt, alloc, &script, probes);
+    let script = read_script(alloc, ORDERS.as_bytes(), Mode::Serve)?;
+    let opened = open(&rt, alloc, &script, &|rule| manual(rule), 2, &[DONE])?;
+    let served = serve_opened(&rt, alloc, opened, 1, 0)?;
+    same(&served.calls.len(), &0, &"calls")?;
+    same(&served.orders.as_slice(), &ORDERED.as_slice(), &"orders")?;
+    same(&served.desk.journal().len(), &7, &"entries")
+}
+
+/// The bytes that a server without calls never needs.
+const ROOM: usize = 32_768;
+
+const SETTING: &str = "catalogue a -
+max 10
+register a manual
+go
+down a
+up a
+";
+
+/// How many of the orders got a reply, with so many steps of memory left, if there was room for a report. The others were refused
+/// for want of memory, and the journal has the changes of those with a reply.
+fn replies_in<R>(
+    rt: &R,
+    alloc: Global,
+    script: &Script,
+    steps: usize,
+) -> Result<Option<usize>, Fail>
+where
+    R: Wait + Threads + Sync + Net<Listener = TcpListener, Stream = TcpStream>,
+{
+    let opened = open(rt, alloc, script, &|rule| manual(rule), 2, &[DONE])?;
+    let scarcity = Scarcity::new(alloc, ROOM)?;
+    let filler = scarcity.leave_steps(steps)?;
+    let served = serve_opened(rt, alloc, opened, 1, 0);
+    drop(filler);
+    drop(scarcity);
+    let served = match served {
+        Ok(served) => served,
+        Err(fault) => {
+            same(&fault, &ServeFault::NoMemory, &steps)?;
+            return Ok(None);
+        }
+    };
+    let mut replies = 0usize;
+    for result in &served.orders {
+        match result {
+            Ok(_) => replies = replies.wrapping_add(1),
+            Err(refusal) => same(refusal, &Refusal::NoMemory, &steps)?,
+        }
+    }
+    same(&served.orders.len(), &2, &steps)?;
+    same(
+        &served.desk.journal().len(),
+        &replies.wrapping_add(1),
+        &steps,
+    )?;
+    Ok(Some(replies))
+}
+
+/// With more and more memory left, up to where it suffices. It is tried with half the room first: once the C library has looked for a
+/// thread it takes single pages too where the heap is used up, and only then are those taken with the rest.
+#[test]
+fn tells_what_was_made_where_memory_is_wanting(rt: HostRuntime) -> Result<(), Fail> {
+    let alloc = rt.alloc();
+    let script = read_script(alloc, SETTING.as_bytes(), Mode::Serve)?;
+    same(
+        &replies_in(&rt, alloc, &script, ROOM / 32)?,
+        &Some(2),
+        &"half the room",
+    )?;
+    let (mut untold, mut fewer, mut all) = (0u32, 0u32, 0u32);
+    for steps in 0..ROOM / 32 {
+        match replies_in(&rt, alloc, &script, steps)? {
+            None => untold = untold.wrapping_add(1),
+            Some(2) => {
+                all = 1;
+                break;
+            }
+            Some(_) => fewer = fewer.wrapping_add(1),
+        }
+    }
+    assert!(rt; untold > 1 && all == 1, "{untold} {fewer} {all}");
+    Ok(())
+}
+
+/// Workers and seats that make no crew, with the fault.
+const REFUSED: [(u16, u16, CrewWhy); 3] = [
+    (0, 2, CrewWhy::NoWorkers),
+    (1, 1, CrewWhy::NoSeats),
+    (2, 2, CrewWhy::NoSeats),
+];
+
+#[test]
+fn refuses_what_makes_no_crew(rt: HostRuntime) -> Result<(), Fail> {
+    let alloc = rt.alloc();
+    let script = read_script(alloc, ORDERS.as_bytes(), Mode::Serve)?;
+    for (workers, seats, why) in REFUSED {
+        let opened = open(&rt, alloc, &script, &|rule| manual(rule), seats, &[DONE])?;
+        let fault = serve_opened(&rt, alloc, opened, workers, 0).err();
+        same(&fault, &Some(ServeFault::Crew(why)), &workers)?;
+    }
+    Ok(())
 }

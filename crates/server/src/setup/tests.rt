@@ -1,12 +1,13 @@
+ghost use Rattle.std.specs.Prelude.{All, IfOk};
 ghost use Rattle.hall.specs.Seats.{IsOf};
+ghost use Rattle.probe_core.specs.Made.{IsAsked, MakesAsked};
 
 use super::*;
-use crate::tests::room::{filler, scarcity};
-use crate::tests::same::same;
 use desk_core::Catalogue;
 use probe_core::{Depends, Manual, Threshold};
-use script::{Mode, read_script, registers};
-use std::process::Abort;
+use script::{Mode, read_script};
+use std::test::Fail;
+use test_support::{Scarcity, same};
 
 /// What comes of a line, if it asks for a change.
 type Taken = Option<Result<Reply, Refusal>>;
@@ -29,184 +30,235 @@ const LINES: [(&str, Taken); 12] = [
     ("retire zz", Some(Err(Refusal::NotListed))),
 ];
 
-fn script_of(rt: &(impl Abort + AllocGlobal), lines: &[(&str, Taken)]) -> Script {
-    let mut text = String::from_str(rt.alloc(), OPENING)
-        .ok()
-        .expect(rt, "a text");
+fn script_of(alloc: Global, lines: &[(&str, Taken)]) -> Result<Script, Fail> {
+    let mut text = String::from_str(alloc, OPENING)?;
     for (line, _) in lines {
-        assert!(rt; text.push_str(line).is_ok() && text.push('\n').is_ok());
+        text.push_str(line)?;
+        text.push('\n')?;
     }
-    read_script(rt.alloc(), text.as_bytes(), Mode::Replay)
-        .ok()
-        .expect(rt, "a script")
+    Ok(read_script(alloc, text.as_bytes(), Mode::Replay)?)
 }
 
-fn catalogue(rt: &(impl Abort + AllocGlobal)) -> Catalogue {
-    let mut names = Vec::new(rt.alloc());
+fn catalogue(alloc: Global) -> Result<Catalogue, Fail> {
+    let mut names = Vec::new(alloc);
     for name in ["a", "b", ""] {
-        let name = String::from_str(rt.alloc(), name).ok().expect(rt, "a name");
-        assert!(rt; names.push(name).is_ok());
+        names.push(String::from_str(alloc, name)?)?;
     }
-    Catalogue::new(rt.alloc(), names)
-        .ok()
-        .expect(rt, "a catalogue")
+    Ok(Catalogue::new(alloc, names)?)
 }
 
-fn one_seat<R: Abort + AllocGlobal, P: Probe>(rt: &R) -> (Hall<P>, Seat<P>)
-    ensures { IsOf result.0 result.1 }
+fn one_seat<P: Probe>(alloc: Global) -> Result<(Hall<P>, Seat<P>), Fail>
+    ensures { IfOk result (λ made. IsOf made.0 made.1) }
 {
-    let made = Hall::new(rt.alloc(), catalogue(rt), 4, 1);
-    let (hall, mut seats) = made.ok().expect(rt, "a hall");
-    let seat = seats.pop().expect(rt, "a seat");
-    (hall, seat)
+    let (hall, mut seats) = Hall::new(alloc, catalogue(alloc)?, 4, 1)?;
+    let Some(seat) = seats.pop() else {
+        return Err(Fail::new("no seat"));
+    };
+    Ok((hall, seat))
 }
 
 /// The results are those of the lines that ask for a change.
-fn expect_results(rt: &impl Abort, results: &[Result<Reply, Refusal>], lines: &[(&str, Taken)]) {
+fn expect_results(results: &[Result<Reply, Refusal>], lines: &[(&str, Taken)]) -> Result<(), Fail> {
     let mut results = results.iter();
     for (line, expected) in lines {
         if expected.is_some() {
-            same(rt, &results.next().copied(), expected, line);
+            same(&results.next().copied(), expected, line)?;
         }
     }
-    assert!(rt; results.next().is_none());
+    same(&results.next().copied(), &None, &"the end")
 }
 
-fn expect_setup<P: Probe>(rt: &(impl Abort + AllocGlobal + Wait), probes: Vec<P>) {
-    let script = script_of(rt, &LINES);
-    assert!(rt; probes.len() == registers(script.lines()));
-    let (hall, mut seat) = one_seat(rt);
-    let results = run_setup(rt, rt.alloc(), &hall, &mut seat, &script, probes)
-        .ok()
-        .expect(rt, "results");
-    expect_results(rt, &results, &LINES);
-    assert!(rt; seat.made() == 4);
+/// How many changes each of the seats has made, and how many their hall's journal has.
+fn expect_seats<P: Probe>(made: SetUpHall<P>) -> Result<(), Fail>
+    requires { All (IsOf made.hall) made.seats.items }
+{
+    let SetUpHall {
+        hall,
+        seats,
+        results: _,
+    } = made;
+    let changes: [u64; 3] = [4, 0, 0];
+    same(&seats.len(), &3, &"seats")?;
+    for (seat, made) in seats.iter().zip(changes) {
+        same(&seat.made(), &made, &"changes")?;
+    }
+    let Ok(closed) = hall.close(seats) else {
+        return Err(Fail::new("a seat is missing"));
+    };
+    same(&closed.desk.journal().len(), &4, &"entries")
 }
 
-fn boxed<P: Probe>(rt: &(impl Abort + AllocGlobal), probe: P) -> Box<P> {
-    Box::new(rt.alloc(), probe).ok().expect(rt, "a box")
+/// Sets a hall of one seat up.
+fn expect_setup<R: Wait, P: Probe, F: Fn(Rule) -> Result<P, AllocError>>(
+    rt: &R,
+    alloc: Global,
+    script: &Script,
+    make: &F,
+) -> Result<(), Fail>
+    requires callable { F.IsAlwaysCallable make.now }
+    requires asked { MakesAsked P.rule P.memory (F.post make.now) }
+{
+    let (hall, mut seat) = one_seat(alloc)?;
+    let results = run_setup(rt, alloc, &hall, &mut seat, script, make)?;
+    expect_results(&results, &LINES)?;
+    same(&seat.made(), &4, &"changes")
+}
+
+/// Makes a hall of three seats that is set up.
+fn expect_hall<R: Wait, P: Probe, F: Fn(Rule) -> Result<P, AllocError>>(
+    rt: &R,
+    alloc: Global,
+    script: &Script,
+    make: &F,
+) -> Result<(), Fail>
+    requires callable { F.IsAlwaysCallable make.now }
+    requires asked { MakesAsked P.rule P.memory (F.post make.now) }
+{
+    let made = hall_of(rt, alloc, script, make, 3)?;
+    expect_results(&made.results, &LINES)?;
+    expect_seats(made)
 }
 
 #[test]
-fn makes_the_change_of_each_line(rt: HostRuntime) {
-    let mut probes: Vec<Box<dyn Probe + Send>> = Vec::new(rt.alloc());
-    let first: Box<dyn Probe + Send> = boxed(&rt, Threshold::new(2));
-    assert!(&rt; probes.push(first).is_ok());
-    for _ in 0..2u8 {
-        let unlawful: Box<dyn Probe + Send> = boxed(&rt, Depends::new(2));
-        assert!(&rt; probes.push(unlawful).is_ok());
-    }
-    expect_setup(&rt, probes);
+fn makes_the_change_of_each_line(rt: HostRuntime) -> Result<(), Fail> {
+    let alloc = rt.alloc();
+    let make = |rule: Rule| -> Result<Box<dyn Probe + Send>, AllocError>
+        ensures { IsAsked (λ probe. (Probe-box probe).rule probe.value) (λ probe. (Probe-box probe).memory probe.value) rule result }
+    {
+        let probe: Box<dyn Probe + Send> = match rule {
+            Rule::Threshold(fall) => Box::new(alloc, Threshold::new(fall))?,
+            Rule::Manual => Box::new(alloc, Manual::new())?,
+            Rule::Depends(mask) => Box::new(alloc, Depends::new(mask))?,
+        };
+        Ok(probe)
+    };
+    let script = script_of(alloc, &LINES)?;
+    expect_setup(&rt, alloc, &script, &make)?;
+    expect_hall(&rt, alloc, &script, &make)
 }
 
-/// Lines that take one probe, whose rule is `manual`.
+/// Lines that register one service, by hand.
 const LINES_OF_A: [(&str, Taken); 3] = [
     ("register a manual", Some(Ok(Reply::Done))),
     ("shutdown", Some(Ok(Reply::Done))),
     ("retire a", Some(Ok(Reply::Done))),
 ];
 
-fn probes(rt: &(impl Abort + AllocGlobal)) -> Vec<Manual> {
-    let mut probes = Vec::new(rt.alloc());
-    assert!(rt; probes.push(Manual::new()).is_ok());
-    probes
-}
-
-/// What came of the lines, if there was room for that, and how many changes their seat has made.
-type Made = (Option<Vec<Result<Reply, Refusal>>>, u64);
-
-fn run_lines(
-    rt: &(impl Abort + AllocGlobal + Wait),
-    hall: &Hall<Manual>,
-    seat: &mut Seat<Manual>,
-    script: &Script,
-    probes: Vec<Manual>,
-) -> Made
-    requires { IsOf hall.now seat.old }
+/// Makes the probes of `LINES_OF_A`, and no others.
+fn manual(rule: Rule) -> Result<Manual, AllocError>
+    ensures { IsAsked ⟦<Manual as Probe>⟧.rule ⟦<Manual as Probe>⟧.memory rule result }
 {
-    assert!(rt; probes.len() == registers(script.lines()));
-    let answered = run_setup(rt, rt.alloc(), hall, seat, script, probes);
-    (answered.ok(), seat.made())
+    match rule {
+        Rule::Manual => Ok(Manual::new()),
+        Rule::Threshold(_) | Rule::Depends(_) => Err(AllocError),
+    }
 }
 
 /// How many of the lines got a reply, if there was room for their results. The others were refused for want of memory, and the seat
 /// has made the changes of those with a reply.
-fn replies_of(rt: &impl Abort, (results, made): &Made) -> Option<u64> {
+fn replies_of(results: Option<&[Result<Reply, Refusal>]>, made: u64) -> Result<Option<u64>, Fail> {
     let Some(results) = results else {
-        same(rt, made, &0, &"no results");
-        return None;
+        same(&made, &0, &"no results")?;
+        return Ok(None);
     };
     let mut replies = 0u64;
     for result in results {
         match result {
             Ok(_) => replies = replies.wrapping_add(1),
-            Err(refusal) => same(rt, refusal, &Refusal::NoMemory, made),
+            Err(refusal) => same(refusal, &Refusal::NoMemory, &made)?,
         }
     }
-    same(rt, &results.len(), &3, &"results");
-    same(rt, made, &replies, &"replies");
-    Some(replies)
+    same(&results.len(), &3, &"results")?;
+    same(&made, &replies, &"replies")?;
+    Ok(Some(replies))
 }
 
-/// What comes of the lines with so many steps of 16 bytes left, in a hall that was made before.
-fn replies_in(rt: &(impl Abort + AllocGlobal + Wait), script: &Script, step: usize) -> Option<u64> {
-    let (hall, mut seat) = one_seat::<_, Manual>(rt);
-    let probes = probes(rt);
-    let scarcity = scarcity(rt);
-    let filler = filler(rt, &scarcity, step);
-    let made = run_lines(rt, &hall, &mut seat, script, probes);
+/// How often memory did not suffice for a list of results, did for some of the changes alone, and did for all.
+#[derive(Debug, PartialEq, Eq, Drop)]
+struct Tally {
+    unmet: u32,
+    fewer: u32,
+    all: u32,
+}
+
+impl Tally {
+    fn new() -> Tally {
+        Tally {
+            unmet: 0,
+            fewer: 0,
+            all: 0,
+        }
+    }
+
+    fn count(&mut self, replies: Option<u64>) {
+        match replies {
+            None => self.unmet = self.unmet.wrapping_add(1),
+            Some(3) => self.all = self.all.wrapping_add(1),
+            Some(_) => self.fewer = self.fewer.wrapping_add(1),
+        }
+    }
+}
+
+/// What comes of the lines with so many steps of memory left, in a hall that was made before.
+fn replies_in<R: Wait>(
+    rt: &R,
+    alloc: Global,
+    script: &Script,
+    steps: usize,
+) -> Result<Option<u64>, Fail> {
+    let (hall, mut seat) = one_seat::<Manual>(alloc)?;
+    let scarcity = Scarcity::with_small_room(alloc)?;
+    let filler = scarcity.leave_steps(steps)?;
+    let results = run_setup(rt, alloc, &hall, &mut seat, script, &|rule| manual(rule)).ok();
     drop(filler);
     drop(scarcity);
-    replies_of(rt, &made)
+    replies_of(results.as_ref().map(|all| all.as_slice()), seat.made())
 }
 
 #[test]
-fn goes_on_behind_each_growth_that_is_refused(rt: HostRuntime) {
-    let script = script_of(&rt, &LINES_OF_A);
-    let (mut unmet, mut fewer, mut all) = (0u32, 0u32, 0u32);
-    for step in 0..128usize {
-        match replies_in(&rt, &script, step) {
-            None => unmet = unmet.wrapping_add(1),
-            Some(3) => all = all.wrapping_add(1),
-            Some(_) => fewer = fewer.wrapping_add(1),
-        }
+fn goes_on_behind_each_growth_that_is_refused(rt: HostRuntime) -> Result<(), Fail> {
+    let script = script_of(rt.alloc(), &LINES_OF_A)?;
+    let mut tally = Tally::new();
+    for steps in 0..128usize {
+        tally.count(replies_in(&rt, rt.alloc(), &script, steps)?);
     }
-    assert!(rt; unmet > 0);
-    assert!(rt; fewer > 0);
-    assert!(rt; all > 0);
+    assert!(rt;
+        tally.unmet > 1 && tally.fewer > 0 && tally.all > 0,
+        "{tally:?}"
+    );
+    Ok(())
 }
 
-/// Whether there was memory for a hall of three seats. Its first seat alone has made changes, those that found memory.
-fn has_hall(rt: &(impl Abort + AllocGlobal + Wait), script: &Script, probes: Vec<Manual>) -> bool {
-    assert!(rt; probes.len() == registers(script.lines()));
-    let Ok((_, seats)) = hall_of(rt, rt.alloc(), script, probes, 3) else {
-        return false;
+/// What comes of the lines in a hall that is made with so many steps of memory left. Its first seat alone has made changes.
+fn hall_in<R: Wait>(
+    rt: &R,
+    alloc: Global,
+    script: &Script,
+    steps: usize,
+) -> Result<Option<u64>, Fail> {
+    let scarcity = Scarcity::with_small_room(alloc)?;
+    let filler = scarcity.leave_steps(steps)?;
+    let made = hall_of(rt, alloc, script, &|rule| manual(rule), 3);
+    drop(filler);
+    drop(scarcity);
+    let Ok(made) = made else {
+        return Ok(None);
     };
-    same(rt, &seats.len(), &3, &"seats");
-    for (place, seat) in seats.iter().enumerate() {
-        assert!(rt; seat.made() <= 3 && (place == 0 || seat.made() == 0));
-    }
-    true
+    let SetUpHall { seats, results, .. } = &made;
+    let mut changes = seats.iter().map(|seat| seat.made());
+    let first = changes.next().unwrap_or(0);
+    same(&changes.next(), &Some(0), &"second seat")?;
+    same(&changes.next(), &Some(0), &"third seat")?;
+    replies_of(Some(results), first)
 }
 
 #[test]
-fn refuses_each_growth_of_a_hall(rt: HostRuntime) {
-    let script = script_of(&rt, &LINES_OF_A);
-    let mut refused = 0u32;
-    let mut whole = 0u32;
-    for step in 0..256usize {
-        let probes = probes(&rt);
-        let scarcity = scarcity(&rt);
-        let filler = filler(&rt, &scarcity, step);
-        let has_hall = has_hall(&rt, &script, probes);
-        drop(filler);
-        drop(scarcity);
-        if has_hall {
-            whole = whole.wrapping_add(1);
-        } else {
-            refused = refused.wrapping_add(1);
-        }
+fn refuses_each_growth_of_a_hall(rt: HostRuntime) -> Result<(), Fail> {
+    let script = script_of(rt.alloc(), &LINES_OF_A)?;
+    let mut tally = Tally::new();
+    for steps in 0..256usize {
+        tally.count(hall_in(&rt, rt.alloc(), &script, steps)?);
     }
-    assert!(rt; refused > 1);
-    assert!(rt; whole > 0);
+    assert!(rt; tally.unmet > 1 && tally.all > 0, "{tally:?}");
+    Ok(())
 }

@@ -1,7 +1,21 @@
 use super::*;
-use crate::tests::room::{filler, scarcity};
+use test_support::Scarcity;
 
-const LINES: [(&str, &str); 4] = [
+/// How many runs there are, each with 16 bytes more room than the last.
+const STEPS: usize = 512;
+
+const OPENING: &str = "catalogue a b -\nmax 100\n";
+
+/// The script so many times, since a run takes its own.
+fn copies(alloc: Global, lines: &[(&str, &str)]) -> Result<Vec<Script>, Fail> {
+    let mut scripts = Vec::with_capacity(alloc, STEPS)?;
+    for _ in 0..STEPS {
+        scripts.push(script_of(alloc, OPENING, lines)?)?;
+    }
+    Ok(scripts)
+}
+
+const CHANGES: [(&str, &str); 4] = [
     ("register a manual", "done"),
     ("register b manual", "done"),
     ("check a", "serving"),
@@ -15,81 +29,70 @@ fn line_at(output: &[u8], index: usize) -> &[u8] {
         .unwrap_or(&[])
 }
 
-/// Whether the registration was taken, where its check agrees. Refused for want of memory, it leaves nothing.
-fn is_taken(rt: &impl Abort, output: &[u8], index: usize) -> bool {
-    let is_taken = line_at(output, index) == b"done".as_slice();
-    assert!(rt; is_taken || line_at(output, index) == b"refused no memory".as_slice());
-    let checked: &[u8] = if is_taken { b"serving" } else { b"not found" };
-    assert!(rt; line_at(output, index.wrapping_add(2)) == checked);
-    is_taken
-}
-
-type Ready = (Script, Vec<Manual>);
-
-fn run_of(rt: &(impl Abort + AllocGlobal)) -> Ready {
-    let script = script_of(rt, "catalogue a b -\nmax 100\n", &LINES);
-    let mut probes = Vec::new(rt.alloc());
-    push(rt, &mut probes, Manual::new());
-    push(rt, &mut probes, Manual::new());
-    (script, probes)
-}
-
-fn runs(rt: &(impl Abort + AllocGlobal), count: usize) -> Vec<Ready> {
-    let mut runs = Vec::with_capacity(rt.alloc(), count)
-        .ok()
-        .expect(rt, "runs");
-    for _ in 0..count {
-        push(rt, &mut runs, run_of(rt));
+/// Whether a registration was taken. One that was refused for want of memory left nothing, and the run went on to its check.
+fn is_taken(output: &[u8], change: usize, check: usize) -> Result<bool, Fail> {
+    if line_at(output, change) == b"done".as_slice() {
+        same(&line_at(output, check), &b"serving".as_slice(), &check)?;
+        return Ok(true);
     }
-    runs
-}
-
-/// What want of memory left of a run: no output, one in which a registration is refused, or the whole.
-#[derive(Clone, Copy, PartialEq, Eq)]
-enum Left {
-    Nothing,
-    Part,
-    Whole,
-}
-
-fn left_in(rt: &impl Abort, output: &[u8]) -> Left {
-    let first = is_taken(rt, output, 0);
-    let second = is_taken(rt, output, 1);
-    assert!(rt; line_at(output, 4).is_empty());
-    if first && second {
-        Left::Whole
-    } else {
-        Left::Part
-    }
-}
-
-fn left_of(rt: &(impl Abort + AllocGlobal), run: Ready) -> Left {
-    let (script, probes) = run;
-    assert!(rt; probes.len() == registers(script.lines()));
-    match run_script(rt.alloc(), script, probes) {
-        Ok(output) => left_in(rt, output.as_slice()),
-        Err(_) => Left::Nothing,
-    }
+    let refused = b"refused no memory".as_slice();
+    same(&line_at(output, change), &refused, &change)?;
+    same(&line_at(output, check), &b"not found".as_slice(), &check)?;
+    Ok(false)
 }
 
 #[test]
-fn goes_on_after_each_refused_growth(rt: HostRuntime) {
-    let mut runs = runs(&rt, 512);
-    let scarcity = scarcity(&rt);
-    let mut absent = 0u32;
-    let mut refused = 0u32;
-    let mut whole = 0u32;
-    for step in 0..512usize {
-        let run = runs.pop().expect(&rt, "a run");
-        let filler = filler(&rt, &scarcity, step);
-        match left_of(&rt, run) {
-            Left::Nothing => absent = absent.wrapping_add(1),
-            Left::Part => refused = refused.wrapping_add(1),
-            Left::Whole => whole = whole.wrapping_add(1),
+fn goes_on_after_each_refused_change(rt: HostRuntime) -> Result<(), Fail> {
+    let alloc = rt.alloc();
+    let scripts = copies(alloc, &CHANGES)?;
+    let scarcity = Scarcity::with_small_room(alloc)?;
+    let (mut nothing, mut part, mut whole) = (false, false, false);
+    for (step, script) in scripts.into_iter().enumerate() {
+        let filler = scarcity.leave_steps(step)?;
+        match printed(alloc, script) {
+            Ok(output) => {
+                let first = is_taken(&output, 0, 2)?;
+                let second = is_taken(&output, 1, 3)?;
+                whole = whole || first && second;
+                part = part || !first || !second;
+            }
+            Err(AllocError) => nothing = true,
         }
         drop(filler);
     }
-    assert!(rt; absent > 0);
-    assert!(rt; refused > 0);
-    assert!(rt; whole > 0);
+    drop(scarcity);
+    let seen = (nothing, part, whole);
+    same(&seen, &(true, true, true), &"nothing, part, whole")
+}
+
+/// The fifth watch needs room that the first four don't.
+const OPENS: [(&str, &str); 6] = [
+    ("open a", "watch 0 service unknown"),
+    ("open b", "watch 1 service unknown"),
+    ("open -", "watch 2 service unknown"),
+    ("open zz", "watch 3 service unknown"),
+    ("open a", "watch 4 service unknown"),
+    ("step 4", "none"),
+];
+
+#[test]
+fn ends_where_a_watch_finds_no_memory(rt: HostRuntime) -> Result<(), Fail> {
+    let alloc = rt.alloc();
+    let scripts = copies(alloc, &OPENS)?;
+    let expected = text_of(alloc, &OPENS)?;
+    let scarcity = Scarcity::with_small_room(alloc)?;
+    let (mut nothing, mut whole) = (false, false);
+    for (step, script) in scripts.into_iter().enumerate() {
+        let filler = scarcity.leave_steps(step)?;
+        match printed(alloc, script) {
+            Ok(output) => {
+                same(&output.as_slice(), &expected.as_bytes(), &step)?;
+                whole = true;
+            }
+            Err(AllocError) => nothing = true,
+        }
+        drop(filler);
+    }
+    drop(scarcity);
+    same(&(nothing, whole), &(true, true), &"nothing, whole")
 }

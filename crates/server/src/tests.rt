@@ -1,2 +1,0 @@
-pub(crate) mod room;
-pub(crate) mod same;
