@@ -2,11 +2,21 @@ use super::*;
 use std::test::Fail;
 use test_support::same;
 
+/// A method and a body, and what they ask.
+const ASKS: [(Method, &[u8], Ask<'static>); 3] = [
+    (Method::Check, b"\0\0\0\0\x03\x0a\x01a", Ask::Check("a")),
+    (Method::Watch, b"\0\0\0\0\x03\x0a\x01a", Ask::Watch("a")),
+    (
+        Method::Watch,
+        b"\x01",
+        Ask::Status(Code::Unimplemented, "compressed message"),
+    ),
+];
+
 #[test]
 fn asks_by_the_method(_rt: HostRuntime) -> Result<(), Fail> {
-    let body = b"\0\0\0\0\x03\x0a\x01a";
-    let asked = (ask_of(Method::Check, body), ask_of(Method::Watch, body));
-    same(&asked, &(Ask::Check("a"), Ask::Watch("a")), &"a name")?;
-    let refused = Ask::Status(Code::Unimplemented, "compressed message");
-    same(&ask_of(Method::Watch, b"\x01"), &refused, &"a flag")
+    for &(method, body, expected) in &ASKS {
+        same(&ask_of(method, body), &expected, &body)?;
+    }
+    Ok(())
 }

@@ -64,7 +64,7 @@ const OTHER_VERSION: Expected = Expected::Http(505);
 
 /// A head of this start line and these header lines has to be answered so.
 fn expect(alloc: Global, start: &str, lines: &[&str], expected: Expected) -> Result<(), Fail> {
-    let head = request(alloc, start, lines, b"")?;
+    let head = request(alloc, start, lines, b"", b"")?;
     same(&head_of(&head), &expected.headed(), &(start, lines))
 }
 
@@ -100,7 +100,7 @@ const START_LINES: [(&str, Expected); 18] = [
 
 #[test]
 fn answers_each_start_line(rt: HostRuntime) -> Result<(), Fail> {
-    for (start, expected) in START_LINES {
+    for &(start, expected) in &START_LINES {
         expect(rt.alloc(), start, &[TYPE], expected)?;
     }
     Ok(())
@@ -128,7 +128,7 @@ const CONTENT_TYPES: [(&[&str], Expected); 17] = [
 
 #[test]
 fn answers_each_content_type(rt: HostRuntime) -> Result<(), Fail> {
-    for (lines, expected) in CONTENT_TYPES {
+    for &(lines, expected) in &CONTENT_TYPES {
         expect(rt.alloc(), CHECK, lines, expected)?;
     }
     Ok(())
@@ -155,7 +155,7 @@ const LENGTHS: [(&str, Expected); 16] = [
 
 #[test]
 fn takes_a_content_length_up_to_8192_and_refuses_others(rt: HostRuntime) -> Result<(), Fail> {
-    for (line, expected) in LENGTHS {
+    for &(line, expected) in &LENGTHS {
         expect(rt.alloc(), CHECK, &[TYPE, line], expected)?;
     }
     Ok(())
@@ -195,7 +195,7 @@ const FAULTS: [(&str, &[&str], Expected); 12] = [
 
 #[test]
 fn looks_for_faults_in_their_order(rt: HostRuntime) -> Result<(), Fail> {
-    for (start, lines, expected) in FAULTS {
+    for &(start, lines, expected) in &FAULTS {
         expect(rt.alloc(), start, lines, expected)?;
     }
     Ok(())
@@ -214,7 +214,7 @@ const ENDS: [(&[u8], Expected); 7] = [
 
 #[test]
 fn takes_a_head_that_is_all_of_the_bytes(_rt: HostRuntime) -> Result<(), Fail> {
-    for (head, expected) in ENDS {
+    for &(head, expected) in &ENDS {
         same(&head_of(head), &expected.headed(), &head)?;
     }
     Ok(())
@@ -240,7 +240,7 @@ fn expect_of_size(alloc: Global, size: usize, end: &[u8], expected: Expected) ->
 
 #[test]
 fn takes_heads_up_to_8192_bytes(rt: HostRuntime) -> Result<(), Fail> {
-    for (size, end, expected) in SIZES {
+    for &(size, end, expected) in &SIZES {
         expect_of_size(rt.alloc(), size, end, expected)?;
     }
     Ok(())
@@ -258,7 +258,7 @@ const LINES: [(&str, usize, Expected); 6] = [
 
 #[test]
 fn takes_up_to_32_header_lines(rt: HostRuntime) -> Result<(), Fail> {
-    for (start, count, expected) in LINES {
+    for &(start, count, expected) in &LINES {
         let lines = lines(rt.alloc(), &[], count, &[TYPE])?;
         expect(rt.alloc(), start, &lines, expected)?;
     }

@@ -1,28 +1,45 @@
-use crate::Door;
+use crate::{DeskDoor, Door};
 use desk_core::{Catalogue, Desk, Setting, Slot, Watch};
 use health_wire::Serving;
 use probe_core::Manual;
 use std::alloc::Global;
 use std::test::Fail;
-use test_support::same;
 
-/// A catalogue of `a` and the empty name.
-pub(super) fn catalogue(alloc: Global) -> Result<Catalogue, Fail> {
+fn names(alloc: Global) -> Result<Vec<String>, Fail> {
     let mut names = Vec::new(alloc);
-    for text in ["a", ""] {
-        names.push(String::from_str(alloc, text)?)?;
-    }
-    Ok(Catalogue::new(alloc, names)?)
+    names.push(String::from_str(alloc, "a")?)?;
+    names.push(String::new(alloc))?;
+    Ok(names)
 }
 
-/// A desk on which the empty name alone was registered, and then set.
-pub(super) fn desk(alloc: Global, setting: Setting) -> Result<Desk<Manual>, Fail> {
-    let slot = Slot::new(1).ok_or("a slot")?;
-    let mut desk = Desk::new(alloc, 100);
-    let is_registered = desk.register(0, slot, Manual::new()).is_ok();
-    let is_set = desk.set(0, slot, setting).is_ok();
-    same(&(is_registered, is_set), &(true, true), &setting)?;
-    Ok(desk)
+/// A catalogue of `a` and the empty name, and a desk on which the empty name alone was registered, and then set.
+#[derive(Drop)]
+pub(super) struct Stage {
+    pub(super) catalogue: Catalogue,
+    pub(super) desk: Desk<Manual>,
+}
+
+impl Stage {
+    pub(super) fn new(alloc: Global, setting: Setting) -> Result<Stage, Fail> {
+        let catalogue = Catalogue::new(alloc, names(alloc)?)?;
+        let mut desk = Desk::new(alloc, 100);
+        let is_set = match Slot::new(1) {
+            Some(slot) => {
+                desk.register(0, slot, Manual::new()).is_ok() && desk.set(0, slot, setting).is_ok()
+            }
+            None => false,
+        };
+        if is_set {
+            Ok(Stage { catalogue, desk })
+        } else {
+            Err(Fail::new("the empty name was not set"))
+        }
+    }
+
+    /// A door over the desk as it stands.
+    pub(super) fn door(&self) -> DeskDoor<'_, Manual> {
+        DeskDoor::new(&self.desk, &self.catalogue)
+    }
 }
 
 /// A door that counts how often it was asked.

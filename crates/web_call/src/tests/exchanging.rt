@@ -20,8 +20,7 @@ fn expect_call(
     body: &[u8],
     expected: &Expected,
 ) -> Result<(), Fail> {
-    let mut input = request(alloc, start, lines, body)?;
-    input.extend_from_slice(expected.rest)?;
+    let input = request(alloc, start, lines, body, expected.rest)?;
     let at = (start, lines, body);
     expect_answer(alloc, &input, setting, &TURNS, 10, expected, &at)
 }
@@ -87,7 +86,7 @@ const CHECKS: [(Setting, &[&str], &[u8], &[u8], Code, &[u8]); 5] = [
 
 #[test]
 fn answers_a_check_by_one_question_to_the_door(rt: HostRuntime) -> Result<(), Fail> {
-    for (setting, lines, body, rest, code, response) in CHECKS {
+    for &(setting, lines, body, rest, code, response) in &CHECKS {
         let expected = answered(code, response, rest);
         expect_call(rt.alloc(), setting, CHECK, lines, body, &expected)?;
     }
@@ -130,7 +129,7 @@ const REFUSED_BODIES: [(&str, &[u8], Code, &[u8]); 6] = [
 ];
 
 fn expect_refused_bodies(alloc: Global, start: &str) -> Result<(), Fail> {
-    for (length, body, code, written) in REFUSED_BODIES {
+    for &(length, body, code, written) in &REFUSED_BODIES {
         let expected = Expected {
             run: Run::asking(Outcome::Status(code), 0),
             written,
@@ -244,7 +243,7 @@ const REFUSED_HEADS: [(&str, &[&str], Outcome, &[u8]); 14] = [
 
 #[test]
 fn answers_a_faulty_head_and_asks_nobody(rt: HostRuntime) -> Result<(), Fail> {
-    for (start, lines, outcome, written) in REFUSED_HEADS {
+    for &(start, lines, outcome, written) in &REFUSED_HEADS {
         let expected = Expected {
             run: Run::asking(outcome, 0),
             written,

@@ -1,15 +1,17 @@
-use crate::tests::kinds::{KINDS, Kind};
+use crate::tests::doors::Stage;
+use crate::tests::kinds::{Kind, kinds};
+use desk_core::Setting;
 use std::alloc::Global;
 use std::test::Fail;
 use test_support::{Fault, FaultyWriter, same};
 
 fn expect_calls(alloc: Global, kind: &Kind) -> Result<(), Fail> {
+    let stage = Stage::new(alloc, Setting::Up)?;
     let mut writer = FaultyWriter::new(alloc, 1, 0, Fault::Nothing);
-    let run = kind.answer(alloc, &mut writer)?;
-    same(&run, &kind.whole(), &kind.outcome)?;
-    same(&writer.written(), &kind.response, &kind.outcome)?;
-    let calls = (writer.flushes(), writer.calls());
-    same(&calls, &(kind.flushes, kind.calls), &kind.outcome)
+    let run = kind.answer(alloc, stage, &mut writer);
+    let found = (run, writer.written(), writer.flushes(), writer.calls());
+    let expected = (kind.whole(), kind.response, kind.flushes, kind.calls);
+    same(&found, &expected, &kind.outcome)
 }
 
 /// No contract speaks of flushes, nor of writes of no bytes. A message, a refusal or an end that is not flushed, a flush
@@ -18,7 +20,7 @@ fn expect_calls(alloc: Global, kind: &Kind) -> Result<(), Fail> {
 fn flushes_each_response_where_its_reader_waits_and_writes_no_empty_text(
     rt: HostRuntime,
 ) -> Result<(), Fail> {
-    for kind in &KINDS {
+    for kind in kinds() {
         expect_calls(rt.alloc(), kind)?;
     }
     Ok(())

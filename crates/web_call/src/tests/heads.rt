@@ -61,7 +61,7 @@ const ENDS: [(&[u8], &[u8], bool, &[u8]); 5] = [
 
 #[test]
 fn reads_a_head_of_at_most_8192_bytes(rt: HostRuntime) -> Result<(), Fail> {
-    for (end, behind, is_taken, rest) in ENDS {
+    for &(end, behind, is_taken, rest) in &ENDS {
         expect_of_size(rt.alloc(), end, behind, is_taken, rest)?;
     }
     Ok(())
@@ -70,7 +70,7 @@ fn reads_a_head_of_at_most_8192_bytes(rt: HostRuntime) -> Result<(), Fail> {
 /// A Check of the empty name with so many header lines.
 fn expect_of_lines(alloc: Global, count: usize, is_taken: bool, rest: &[u8]) -> Result<(), Fail> {
     let lines = lines(alloc, &[TYPE, "content-length: 5"], count, &[])?;
-    let input = request(alloc, CHECK, &lines, b"\0\0\0\0\0")?;
+    let input = request(alloc, CHECK, &lines, b"\0\0\0\0\0", b"")?;
     expect_taken(alloc, &input, is_taken, rest)
 }
 

@@ -1,12 +1,12 @@
 //! Each kind of response, and the calls that write it.
 
 use crate::tests::answers::*;
+use crate::tests::doors::Stage;
 use crate::tests::runs::{Run, Scene, answer_changing};
 use crate::{ExchangeFault, Outcome, Turn, Why};
 use desk_core::Setting;
 use grpc_frame::Code;
 use std::alloc::Global;
-use std::test::Fail;
 use test_support::FaultyWriter;
 use test_support::requests::{
     CHECK_OF_EMPTY, CHECK_OF_ZZ, CHECK_WITHOUT_TYPE, LIST, WATCH_OF_EMPTY, WATCH_OF_ZZ,
@@ -33,9 +33,9 @@ pub(super) struct Kind {
 }
 
 impl Kind {
-    /// Answers the request.
-    pub(super) fn answer(&self, alloc: Global, writer: &mut FaultyWriter) -> Result<Run, Fail> {
-        answer_changing(alloc, self.input, &self.scene, writer)
+    /// Answers the request on a stage of its own, where the empty name is serving at first.
+    pub(super) fn answer(&self, alloc: Global, stage: Stage, writer: &mut FaultyWriter) -> Run {
+        answer_changing(alloc, stage, self.input, &self.scene, writer)
     }
 
     /// How many flushes come before the call of this number, counted from 1.
@@ -154,7 +154,7 @@ const COMPRESSED_CHECK: &[u8] = b"POST /grpc.health.v1.Health/Check HTTP/1.1\r\n
 /// A refusal of HTTP and a status that is decided before a Watch begins ask nobody, and a Check asks its door once. Each
 /// is flushed once, behind its last byte. A Watch is flushed behind its first message, which follows its head of 108
 /// bytes, behind each later message's chunk of 12 bytes, and behind its end of 58 bytes.
-pub(super) const KINDS: [Kind; 16] = [
+static KINDS: [Kind; 16] = [
     Kind {
         input: b"\r\n\r\n",
         scene: IDLE,
@@ -316,3 +316,8 @@ pub(super) const KINDS: [Kind; 16] = [
         calls: 206,
     },
 ];
+
+/// Each kind of response.
+pub(super) fn kinds() -> &'static [Kind] {
+    &KINDS
+}

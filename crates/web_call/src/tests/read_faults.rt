@@ -1,7 +1,7 @@
 use crate::tests::answers::{SERVING, WATCH_OF_UNKNOWN};
-use crate::tests::doors::{catalogue, desk};
+use crate::tests::doors::Stage;
 use crate::tests::runs::{Run, exchange_over};
-use crate::{DeskDoor, ExchangeFault, Turn, Why};
+use crate::{ExchangeFault, Turn, Why};
 use desk_core::Setting;
 use std::alloc::Global;
 use std::io::{ErrorKind, Read};
@@ -39,15 +39,13 @@ fn cut(read_failed: bool) -> Run {
 }
 
 /// An exchange over a reader that may be faulty.
-fn exchange_from<R: Read + Drop>(
+fn exchange_from<R: Read>(
     alloc: Global,
-    reader: R,
+    stage: &Stage,
+    reader: &mut R,
     writer: &mut FaultyWriter,
-) -> Result<Run, Fail> {
-    let catalogue = catalogue(alloc)?;
-    let desk = desk(alloc, Setting::Up)?;
-    let door = DeskDoor::new(&desk, &catalogue);
-    Ok(exchange_over(alloc, reader, writer, door, &TURNS, 10))
+) -> Run {
+    exchange_over(alloc, reader, writer, stage.door(), &TURNS, 10)
 }
 
 /// The read behind so many bytes of the input is faulty, and the last one. Nothing is written.
@@ -58,16 +56,15 @@ fn expect_cut(
     fault: Fault,
     read_failed: bool,
 ) -> Result<(), Fail> {
+    let stage = Stage::new(alloc, Setting::Up)?;
     let front = input.get(..len).unwrap_or(b"");
     let rest = input.get(len..).unwrap_or(b"");
     let mut reader = front.chain(FaultyReader::new(rest, 1, fault));
     let mut writer = FaultyWriter::new(alloc, 1, 0, Fault::Nothing);
-    let run = exchange_from(alloc, &mut reader, &mut writer)?;
-    let at = (len, fault);
-    same(&run, &cut(read_failed), &at)?;
+    let run = exchange_from(alloc, &stage, &mut reader, &mut writer);
     let last = &reader.get_ref().1;
-    let calls = (last.calls(), last.rest(), writer.calls());
-    same(&calls, &(1, rest, 0), &at)
+    let found = (run, last.calls(), last.rest(), writer.calls());
+    same(&found, &(cut(read_failed), 1, rest, 0), &(len, fault))
 }
 
 fn expect_cuts(alloc: Global, input: &[u8], fault: Fault, read_failed: bool) -> Result<(), Fail> {
@@ -79,7 +76,7 @@ fn expect_cuts(alloc: Global, input: &[u8], fault: Fault, read_failed: bool) -> 
 
 #[test]
 fn a_fault_before_any_byte_is_a_read_fault_and_writes_nothing(rt: HostRuntime) -> Result<(), Fail> {
-    for (fault, read_failed) in FAULTS {
+    for &(fault, read_failed) in &FAULTS {
         expect_cuts(rt.alloc(), CHECK_OF_EMPTY, fault, read_failed)?;
         expect_cuts(rt.alloc(), WATCH_OF_ZZ, fault, read_failed)?;
     }
@@ -87,17 +84,21 @@ fn a_fault_before_any_byte_is_a_read_fault_and_writes_nothing(rt: HostRuntime) -
 }
 
 /// A reader from which a whole request comes is answered, and no read or write has failed.
-fn expect_whole<R: Read + Drop>(
+fn expect_whole<R: Read>(
     alloc: Global,
-    reader: R,
+    reader: &mut R,
     response: &[u8],
     at: usize,
 ) -> Result<(), Fail> {
+    let stage = Stage::new(alloc, Setting::Up)?;
     let mut writer = FaultyWriter::new(alloc, 1_000, 0, Fault::Nothing);
-    let run = exchange_from(alloc, reader, &mut writer)?;
+    let run = exchange_from(alloc, &stage, reader, &mut writer);
     let went = (run.result.is_ok(), run.read_failed, run.write_failed);
-    same(&went, &(true, false, false), &at)?;
-    same(&writer.written(), &response, &at)
+    same(
+        &(went, writer.written()),
+        &((true, false, false), response),
+        &at,
+    )
 }
 
 fn expect_whole_in_two_parts(alloc: Global, input: &[u8], response: &[u8]) -> Result<(), Fail> {

@@ -18,20 +18,17 @@ const HEADS: [(&[u8], usize); 7] = [
 fn expect_head(alloc: Global, input: &[u8], len: usize) -> Result<(), Fail> {
     let mut rest = input;
     let mut tap = Tap::new(&mut rest);
-    let head = read_head(alloc, &mut tap)?;
+    let read = read_head(alloc, &mut tap);
     let failed = tap.failed();
     drop(tap);
-    same(
-        &(input.get(..len), failed),
-        &(Some(head.as_slice()), false),
-        &input,
-    )?;
-    same(&Some(rest), &input.get(len..), &input)
+    let head = read?;
+    let found = (Some(head.as_slice()), Some(rest), failed);
+    same(&found, &(input.get(..len), input.get(len..), false), &input)
 }
 
 #[test]
 fn reads_a_head_and_no_byte_more(rt: HostRuntime) -> Result<(), Fail> {
-    for (input, len) in HEADS {
+    for &(input, len) in &HEADS {
         expect_head(rt.alloc(), input, len)?;
     }
     Ok(())

@@ -6,21 +6,28 @@ pub(super) const WATCH: &str = "POST /grpc.health.v1.Health/Watch HTTP/1.1";
 
 pub(super) const TYPE: &str = "content-type: application/grpc-web+proto";
 
-/// A request of this start line, these header lines and this body.
+/// A request of this start line, these header lines and this body, and what comes behind it.
 pub(crate) fn request(
     alloc: Global,
     start: &str,
     lines: &[&str],
     body: &[u8],
+    behind: &[u8],
 ) -> Result<Vec<u8>, AllocError> {
-    let mut bytes = start.as_bytes().to_vec(alloc)?;
+    let mut bytes = Vec::new(alloc);
+    push_head(&mut bytes, start, lines)?;
+    bytes.extend_from_slice(body)?;
+    bytes.extend_from_slice(behind)?;
+    Ok(bytes)
+}
+
+fn push_head(bytes: &mut Vec<u8>, start: &str, lines: &[&str]) -> Result<(), AllocError> {
+    bytes.extend_from_slice(start.as_bytes())?;
     for line in lines {
         bytes.extend_from_slice(b"\r\n")?;
         bytes.extend_from_slice(line.as_bytes())?;
     }
-    bytes.extend_from_slice(b"\r\n\r\n")?;
-    bytes.extend_from_slice(body)?;
-    Ok(bytes)
+    bytes.extend_from_slice(b"\r\n\r\n")
 }
 
 /// These bytes, so many of `a` that with the last ones there are so many in all, and the last ones.
@@ -31,9 +38,7 @@ pub(crate) fn padded(
     end: &[u8],
 ) -> Result<Vec<u8>, AllocError> {
     let mut bytes = front.to_vec(alloc)?;
-    for _ in front.len()..size.saturating_sub(end.len()) {
-        bytes.push(b'a')?;
-    }
+    bytes.resize(size.saturating_sub(end.len()), b'a')?;
     bytes.extend_from_slice(end)?;
     Ok(bytes)
 }
@@ -46,9 +51,7 @@ pub(crate) fn lines(
     last: &[&'static str],
 ) -> Result<Vec<&'static str>, AllocError> {
     let mut lines = first.to_vec(alloc)?;
-    for _ in first.len()..count.saturating_sub(last.len()) {
-        lines.push("x: y")?;
-    }
+    lines.resize(count.saturating_sub(last.len()), "x: y")?;
     lines.extend_from_slice(last)?;
     Ok(lines)
 }

@@ -1,6 +1,6 @@
 use crate::tests::bells::Turns;
-use crate::tests::doors::{Changing, Counted, catalogue, desk};
-use crate::{DeskDoor, Door, ExchangeFault, Limits, Outcome, Tap, Turn, exchange};
+use crate::tests::doors::{Changing, Counted, Stage};
+use crate::{Door, ExchangeFault, Limits, Outcome, Tap, Turn, exchange};
 use desk_core::Setting;
 use std::alloc::Global;
 use std::fmt::Debug;
@@ -37,10 +37,10 @@ impl Run {
 }
 
 /// Makes one exchange through new taps, with a bell of these turns.
-pub(super) fn exchange_over<R: Read + Drop, W: Write + Drop, D: Door + Drop>(
+pub(super) fn exchange_over<R: Read, W: Write, D: Door + Drop>(
     alloc: Global,
-    reader: R,
-    writer: W,
+    reader: &mut R,
+    writer: &mut W,
     door: D,
     turns: &[Turn],
     looks: u32,
@@ -86,15 +86,12 @@ pub(super) fn expect_answer<A: Debug>(
     expected: &Expected,
     at: &A,
 ) -> Result<(), Fail> {
-    let catalogue = catalogue(alloc)?;
-    let desk = desk(alloc, setting)?;
+    let stage = Stage::new(alloc, setting)?;
     let mut rest = input;
     let mut written = Vec::new(alloc);
-    let door = DeskDoor::new(&desk, &catalogue);
-    let run = exchange_over(alloc, &mut rest, &mut written, door, turns, looks);
-    same(&run, &expected.run, at)?;
-    same(&written.as_slice(), &expected.written, at)?;
-    same(&rest, &expected.rest, at)
+    let run = exchange_over(alloc, &mut rest, &mut written, stage.door(), turns, looks);
+    let found = (run, written.as_slice(), rest);
+    same(&found, &(expected.run, expected.written, expected.rest), at)
 }
 
 /// What a Watch meets: what the empty name is set to before each step, the turns of the bell, and the most Looks.
@@ -105,15 +102,16 @@ pub(super) struct Scene<'a> {
     pub(super) looks: u32,
 }
 
-/// Answers a request whose empty name is serving at first.
+/// Answers a request on a stage of its own.
 pub(super) fn answer_changing(
     alloc: Global,
+    stage: Stage,
     input: &[u8],
     scene: &Scene,
     writer: &mut FaultyWriter,
-) -> Result<Run, Fail> {
-    let catalogue = catalogue(alloc)?;
-    let desk = desk(alloc, Setting::Up)?;
+) -> Run {
+    let Stage { catalogue, desk } = stage;
     let door = Changing::new(desk, &catalogue, scene.settings);
-    Ok(exchange_over(alloc, input, writer, door, scene.turns, scene.looks))
+    let mut rest = input;
+    exchange_over(alloc, &mut rest, writer, door, scene.turns, scene.looks)
 }

@@ -2,11 +2,10 @@ use crate::tests::answers::{
     MALFORMED_REQUEST, SERVING, UNKNOWN_METHOD, UNKNOWN_SERVICE, UNSUPPORTED_MEDIA_TYPE,
     WATCH_OF_UNKNOWN,
 };
-use crate::tests::doors::{catalogue, desk};
+use crate::tests::doors::Stage;
 use crate::tests::runs::{Run, exchange_over};
-use crate::{DeskDoor, ExchangeFault, Turn, Why};
-use desk_core::{Catalogue, Desk, Setting};
-use probe_core::Manual;
+use crate::{ExchangeFault, Turn, Why};
+use desk_core::Setting;
 use std::alloc::Global;
 use std::test::Fail;
 use test_support::requests::{CHECK_OF_EMPTY, CHECK_OF_ZZ, CHECK_WITHOUT_TYPE, LIST, WATCH_OF_ZZ};
@@ -30,84 +29,79 @@ fn starved(asked: u32) -> Run {
 /// Where memory is wanting: how many bytes of the request are not read then, and how often the door was asked.
 type Want = (usize, u32);
 
-/// A request and its response, over a desk and its catalogue.
-#[derive(Clone, Copy)]
-struct Case<'a> {
-    desk: &'a Desk<Manual>,
-    catalogue: &'a Catalogue,
-    input: &'a [u8],
-    response: &'a [u8],
+/// A stage, room for a response, and where memory was wanting.
+#[derive(Drop)]
+struct Trial {
+    stage: Stage,
+    written: Vec<u8>,
+    wants: Vec<Want>,
 }
 
-impl Case<'_> {
-    /// Answers the request, and tells where memory was wanting.
-    fn answer(self, alloc: Global, written: &mut Vec<u8>) -> Result<Option<Want>, Fail> {
-        written.clear();
-        let mut rest = self.input;
-        let door = DeskDoor::new(self.desk, self.catalogue);
-        let turns = [Turn::Look, Turn::End];
-        let run = exchange_over(alloc, &mut rest, &mut *written, door, &turns, 10);
-        if run.result.is_ok() {
-            same(&written.as_slice(), &self.response, &"a response")?;
-            return Ok(None);
-        }
-        same(&run, &starved(run.asked), &rest.len())?;
-        same(&written.len(), &0, &rest.len())?;
-        Ok(Some((rest.len(), run.asked)))
+impl Trial {
+    fn new(alloc: Global) -> Result<Trial, Fail> {
+        Ok(Trial {
+            stage: Stage::new(alloc, Setting::Up)?,
+            written: Vec::with_capacity(alloc, 1_024)?,
+            wants: Vec::with_capacity(alloc, 1_024)?,
+        })
     }
 
-    /// Answers the request with more and more memory left, and gathers where it was wanting. It has to suffice at last.
-    fn refuse(
-        self,
+    /// Answers a request, and tells where memory was wanting. Nothing is written then.
+    fn answer(
+        &mut self,
         alloc: Global,
-        written: &mut Vec<u8>,
-        wants: &mut Vec<Want>,
-    ) -> Result<(), Fail> {
+        input: &[u8],
+        response: &[u8],
+    ) -> Result<Option<Want>, Fail> {
+        self.written.clear();
+        let mut rest = input;
+        let door = self.stage.door();
+        let turns = [Turn::Look, Turn::End];
+        let run = exchange_over(alloc, &mut rest, &mut self.written, door, &turns, 10);
+        let is_whole = run.result.is_ok();
+        let (expected, text) = if is_whole {
+            (run, response)
+        } else {
+            (starved(run.asked), b"".as_slice())
+        };
+        let found = (run, self.written.as_slice());
+        same(&found, &(expected, text), &rest.len())?;
+        Ok((!is_whole).then_some((rest.len(), run.asked)))
+    }
+
+    /// Answers a request with more and more memory left, and gathers where it was wanting. It has to suffice at last.
+    fn refuse(&mut self, alloc: Global, input: &[u8], response: &[u8]) -> Result<(), Fail> {
         let scarcity = Scarcity::with_small_room(alloc)?;
         let mut is_whole = false;
-        for step in 0..900usize {
-            let filler = scarcity.leave_steps(step)?;
-            match self.answer(alloc, written)? {
-                Some(want) => wants.push(want)?,
+        for steps in 0..900usize {
+            let filler = scarcity.leave_steps(steps)?;
+            let want = self.answer(alloc, input, response);
+            drop(filler);
+            match want? {
+                Some(want) => self.wants.push(want)?,
                 None => is_whole = true,
             }
-            drop(filler);
         }
-        drop(scarcity);
         same(&is_whole, &true, &"the most memory")
     }
-}
 
-/// Memory has to be wanting here, at each of these places and nowhere else.
-fn expect_wants(wants: &[Want], expected: &[Want]) -> Result<(), Fail> {
-    for want in expected {
-        same(&wants.contains(want), &true, want)?;
+    /// Memory has to be wanting here, at each of these places and nowhere else.
+    fn expect_wants(
+        &mut self,
+        alloc: Global,
+        input: &[u8],
+        response: &[u8],
+        expected: &[Want],
+    ) -> Result<(), Fail> {
+        self.refuse(alloc, input, response)?;
+        for want in expected {
+            same(&self.wants.contains(want), &true, want)?;
+        }
+        for want in &self.wants {
+            same(&expected.contains(want), &true, want)?;
+        }
+        Ok(())
     }
-    for want in wants {
-        same(&expected.contains(want), &true, want)?;
-    }
-    Ok(())
-}
-
-/// Answers a request with more and more memory left.
-fn refuse_each_growth(
-    alloc: Global,
-    input: &[u8],
-    response: &[u8],
-    expected: &[Want],
-) -> Result<(), Fail> {
-    let catalogue = catalogue(alloc)?;
-    let desk = desk(alloc, Setting::Up)?;
-    let mut written = Vec::with_capacity(alloc, 1_024)?;
-    let mut wants = Vec::with_capacity(alloc, 1_024)?;
-    let case = Case {
-        desk: &desk,
-        catalogue: &catalogue,
-        input,
-        response,
-    };
-    case.refuse(alloc, &mut written, &mut wants)?;
-    expect_wants(&wants, expected)
 }
 
 /// A Check of a body of one byte.
@@ -138,8 +132,9 @@ const CASES: [(&[u8], &[u8], &[Want]); 6] = [
 
 #[test]
 fn refuses_each_growth_of_an_exchange(rt: HostRuntime) -> Result<(), Fail> {
-    for (input, response, expected) in CASES {
-        refuse_each_growth(rt.alloc(), input, response, expected)?;
+    for &(input, response, expected) in &CASES {
+        let mut trial = Trial::new(rt.alloc())?;
+        trial.expect_wants(rt.alloc(), input, response, expected)?;
     }
     Ok(())
 }

@@ -1,4 +1,5 @@
 use crate::tests::answers::{WATCH_OF_CHANGES, WATCH_OF_UNKNOWN};
+use crate::tests::doors::Stage;
 use crate::tests::runs::{Expected, Run, Scene, answer_changing, expect_answer};
 use crate::{Outcome, Turn};
 use desk_core::Setting;
@@ -55,7 +56,7 @@ fn expect_watch(
 
 #[test]
 fn a_watch_ends_with_its_bell_or_at_its_limit(rt: HostRuntime) -> Result<(), Fail> {
-    for (turns, limit, waits, looks) in ENDS {
+    for &(turns, limit, waits, looks) in &ENDS {
         let run = watched(1, waits, looks);
         expect_watch(rt.alloc(), WATCH_OF_ZZ, turns, limit, run, b"")?;
     }
@@ -84,20 +85,24 @@ fn expect_changes(
     turns: &[Turn],
     expected: Run,
 ) -> Result<(), Fail> {
+    let stage = Stage::new(alloc, Setting::Up)?;
     let mut writer = FaultyWriter::new(alloc, 1_000, 0, Fault::Nothing);
     let scene = Scene {
         settings,
         turns,
         looks: 10,
     };
-    let run = answer_changing(alloc, WATCH_OF_EMPTY, &scene, &mut writer)?;
-    same(&run, &expected, &settings)?;
-    same(&writer.written(), &WATCH_OF_CHANGES, &settings)
+    let run = answer_changing(alloc, stage, WATCH_OF_EMPTY, &scene, &mut writer);
+    same(
+        &(run, writer.written()),
+        &(expected, WATCH_OF_CHANGES),
+        &settings,
+    )
 }
 
 #[test]
 fn a_watch_tells_each_change_once_and_in_order(rt: HostRuntime) -> Result<(), Fail> {
-    for (settings, turns, waits, looks) in CHANGES {
+    for &(settings, turns, waits, looks) in &CHANGES {
         expect_changes(rt.alloc(), settings, turns, watched(3, waits, looks))?;
     }
     Ok(())

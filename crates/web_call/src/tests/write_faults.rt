@@ -1,4 +1,6 @@
-use crate::tests::kinds::{KINDS, Kind};
+use crate::tests::doors::Stage;
+use crate::tests::kinds::{Kind, kinds};
+use desk_core::Setting;
 use std::alloc::Global;
 use std::io::ErrorKind;
 use std::test::Fail;
@@ -6,16 +8,16 @@ use test_support::{Fault, FaultyWriter, same};
 
 /// A fault at this call leaves what the calls before it wrote and flushed, and is the exchange's last call.
 fn expect_cut(alloc: Global, kind: &Kind, fault: Fault, call: usize) -> Result<(), Fail> {
+    let stage = Stage::new(alloc, Setting::Up)?;
     let mut writer = FaultyWriter::new(alloc, 1, call, fault);
-    let run = kind.answer(alloc, &mut writer)?;
+    let run = kind.answer(alloc, stage, &mut writer);
     let flushed = kind.flushes_before(call);
     let taken = call.saturating_sub(1).saturating_sub(flushed);
-    let at = (call, fault, kind.outcome);
-    same(&run, &kind.cut(taken, flushed), &at)?;
     let front = kind.response.get(..taken).unwrap_or(b"");
     let flushes = kind.flushes.get(..flushed).unwrap_or(&[]);
-    let calls = (writer.written(), writer.flushes(), writer.calls());
-    same(&calls, &(front, flushes, call), &at)
+    let found = (run, writer.written(), writer.flushes(), writer.calls());
+    let expected = (kind.cut(taken, flushed), front, flushes, call);
+    same(&found, &expected, &(call, fault, kind.outcome))
 }
 
 fn expect_cuts(alloc: Global, kind: &Kind, fault: Fault) -> Result<(), Fail> {
@@ -26,7 +28,7 @@ fn expect_cuts(alloc: Global, kind: &Kind, fault: Fault) -> Result<(), Fail> {
 }
 
 fn expect_cuts_of_all(alloc: Global, fault: Fault) -> Result<(), Fail> {
-    for kind in &KINDS {
+    for kind in kinds() {
         expect_cuts(alloc, kind, fault)?;
     }
     Ok(())
@@ -50,7 +52,7 @@ fn expect_cuts_of_writes(alloc: Global, kind: &Kind) -> Result<(), Fail> {
 
 #[test]
 fn a_write_that_takes_no_byte_is_a_write_fault_at_once(rt: HostRuntime) -> Result<(), Fail> {
-    for kind in &KINDS {
+    for kind in kinds() {
         expect_cuts_of_writes(rt.alloc(), kind)?;
     }
     Ok(())

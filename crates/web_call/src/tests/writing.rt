@@ -40,17 +40,16 @@ fn expect_put(
     let mut tap = Tap::new(&mut writer);
     let is_cut = taken < TEXT.len();
     let result = if is_cut { Err(taken) } else { Ok(()) };
-    let found = (put(&mut tap, TEXT), tap.failed());
+    let (put, failed) = (put(&mut tap, TEXT), tap.failed());
     drop(tap);
-    let at = (most, faulty, fault);
-    same(&found, &(result, is_cut), &at)?;
-    let left = (Some(writer.written()), writer.calls());
-    same(&left, &(TEXT.get(..taken), calls), &at)
+    let found = (put, failed, Some(writer.written()), writer.calls());
+    let expected = (result, is_cut, TEXT.get(..taken), calls);
+    same(&found, &expected, &(most, faulty, fault))
 }
 
 #[test]
 fn puts_a_text_in_pieces_and_stops_at_the_first_faulty_write(rt: HostRuntime) -> Result<(), Fail> {
-    for (most, faulty, fault, taken, calls) in PUTS {
+    for &(most, faulty, fault, taken, calls) in &PUTS {
         expect_put(rt.alloc(), most, faulty, fault, taken, calls)?;
     }
     Ok(())
@@ -65,10 +64,14 @@ fn a_tap_stays_failed(rt: HostRuntime) -> Result<(), Fail> {
 
 #[test]
 fn a_write_of_no_byte_and_a_failed_flush_are_seen(rt: HostRuntime) -> Result<(), Fail> {
-    let mut tap = Tap::new(FaultyWriter::new(rt.alloc(), 100, 1, Fault::Nothing));
-    let taken = tap.write(TEXT).ok();
-    same(&(taken, tap.failed()), &(Some(0), true), &"a write")?;
-    let mut tap = Tap::new(FaultyWriter::new(rt.alloc(), 100, 1, BROKEN));
-    let is_flushed = tap.flush().is_ok();
-    same(&(is_flushed, tap.failed()), &(false, true), &"a flush")
+    let mut writes = Tap::new(FaultyWriter::new(rt.alloc(), 100, 1, Fault::Nothing));
+    let taken = writes.write(TEXT).ok();
+    let mut flushes = Tap::new(FaultyWriter::new(rt.alloc(), 100, 1, BROKEN));
+    let is_flushed = flushes.flush().is_ok();
+    let found = (taken, writes.failed(), is_flushed, flushes.failed());
+    same(
+        &found,
+        &(Some(0), true, false, true),
+        &"a write and a flush",
+    )
 }

@@ -1,9 +1,20 @@
 use super::*;
 use crate::tests::answers::*;
+use std::alloc::AllocError;
+use std::fmt::Debug;
 use std::test::Fail;
 use test_support::same;
 
 mod memory;
+
+fn expect_text<A: Debug>(
+    made: Result<Vec<u8>, AllocError>,
+    expected: &[u8],
+    at: &A,
+) -> Result<(), Fail> {
+    let text = made?;
+    same(&text.as_slice(), &expected, at)
+}
 
 const REFUSALS: [(u16, &[u8]); 6] = [
     (400, BAD_REQUEST),
@@ -16,8 +27,8 @@ const REFUSALS: [(u16, &[u8]); 6] = [
 
 #[test]
 fn writes_each_refusal(rt: HostRuntime) -> Result<(), Fail> {
-    for (http, expected) in REFUSALS {
-        same(&refuse_text(rt.alloc(), http)?.as_slice(), &expected, &http)?;
+    for &(http, expected) in &REFUSALS {
+        expect_text(refuse_text(rt.alloc(), http), expected, &http)?;
     }
     Ok(())
 }
@@ -41,12 +52,8 @@ const STATUSES: [(Code, &str, &[u8]); 5] = [
 
 #[test]
 fn writes_each_status(rt: HostRuntime) -> Result<(), Fail> {
-    for (code, text, expected) in STATUSES {
-        same(
-            &status_text(rt.alloc(), code, text)?.as_slice(),
-            &expected,
-            &text,
-        )?;
+    for &(code, text, expected) in &STATUSES {
+        expect_text(status_text(rt.alloc(), code, text), expected, &text)?;
     }
     Ok(())
 }
@@ -60,12 +67,8 @@ const CHECKS: [(Option<Serving>, &[u8]); 4] = [
 
 #[test]
 fn writes_each_answer_to_a_check(rt: HostRuntime) -> Result<(), Fail> {
-    for (status, expected) in CHECKS {
-        same(
-            &check_text(rt.alloc(), status)?.as_slice(),
-            &expected,
-            &status,
-        )?;
+    for &(status, expected) in &CHECKS {
+        expect_text(check_text(rt.alloc(), status), expected, &status)?;
     }
     Ok(())
 }
@@ -98,7 +101,7 @@ const END_CHUNK: &[u8] = b"2f\r\n\
 
 #[test]
 fn writes_the_parts_of_a_watch(_rt: HostRuntime) -> Result<(), Fail> {
-    for (status, expected) in CHUNKS {
+    for &(status, expected) in &CHUNKS {
         same(&message_chunk(status), &expected, &status)?;
     }
     same(

@@ -1,6 +1,6 @@
 use super::*;
 use crate::{check_body, status_body};
-use std::alloc::{AllocError, Global};
+use std::alloc::Global;
 use test_support::Scarcity;
 
 #[derive(Clone, Copy, Debug)]
@@ -31,16 +31,24 @@ const STEPS: usize = 128;
 fn expect_refused(alloc: Global, call: Call, growths: usize, expected: &[u8]) -> Result<(), Fail> {
     let scarcity = Scarcity::with_small_room(alloc)?;
     let mut refused = 0usize;
+    let mut whole = 0usize;
     for step in 0..STEPS {
         let filler = scarcity.leave_steps(step)?;
-        match call.make(alloc) {
-            Ok(text) => same(&text.as_slice(), &expected, &call)?,
+        let made = call.make(alloc);
+        drop(filler);
+        match made {
+            Ok(text) if text.as_slice() == expected => whole = whole.saturating_add(1),
+            Ok(_) => {}
             Err(_) => refused = refused.saturating_add(1),
         }
-        drop(filler);
     }
     let is_each_refused = growths <= refused && refused < STEPS;
-    same(&is_each_refused, &true, &(call, refused))
+    let found = (is_each_refused, whole);
+    same(
+        &found,
+        &(true, STEPS.saturating_sub(refused)),
+        &(call, refused),
+    )
 }
 
 #[test]
