@@ -1,5 +1,4 @@
 use super::*;
-use std::fmt::Debug;
 use std::test::Fail;
 use test_support::same;
 
@@ -11,7 +10,9 @@ mod heads;
 mod memory;
 mod responses;
 
-use responses::{CHECK_OF_EMPTY, SERVING, UNKNOWN_SERVICE, WATCH_OF_UNKNOWN, WATCH_OF_ZZ};
+use responses::{
+    CHECK_OF_EMPTY, SERVING, UNKNOWN_SERVICE, WATCH_OF_UNKNOWN, WATCH_OF_ZZ, bytes_of, of_length,
+};
 
 /// What a client is told: the statuses, and the code and the text of the end.
 type Seen<'a> = (&'a [u64], Option<(u32, &'a [u8])>);
@@ -24,14 +25,10 @@ fn seen(told: &Told) -> Seen<'_> {
     (told.statuses.as_slice(), end)
 }
 
-fn expect_told<A: Debug>(
-    found: &Result<Told, AskFault>,
-    expected: &Result<Seen<'_>, AskFault>,
-    at: &A,
-) -> Result<(), Fail> {
-    match found {
-        Ok(told) => same(&Ok(seen(told)), expected, at),
-        Err(fault) => same(&Err(*fault), expected, at),
+fn told_of(answer: &Result<Told, AskFault>) -> Result<Seen<'_>, AskFault> {
+    match answer {
+        Ok(told) => Ok(seen(told)),
+        Err(fault) => Err(*fault),
     }
 }
 
@@ -50,9 +47,34 @@ fn expect(
     let mut rest = input;
     let mut written = Vec::new(alloc);
     let result = ask(alloc, &mut rest, &mut written, method, "", most);
-    let at = (input.len(), method, most);
-    expect_told(&result, expected, &at)?;
-    same(&rest.len(), &unread, &at)
+    let found = (told_of(&result), rest.len());
+    same(&found, &(*expected, unread), &(input.len(), method, most))
+}
+
+/// The same over these parts, one behind the other.
+fn expect_over(
+    alloc: Global,
+    parts: &[&[u8]],
+    method: Method,
+    most: u32,
+    expected: &Result<Seen<'_>, AskFault>,
+    unread: usize,
+) -> Result<(), Fail> {
+    let input = bytes_of(alloc, parts)?;
+    expect(alloc, &input, method, most, expected, unread)
+}
+
+/// The same over a response with this body, whose length its head tells.
+fn expect_of_body(
+    alloc: Global,
+    body: &[u8],
+    method: Method,
+    most: u32,
+    expected: &Result<Seen<'_>, AskFault>,
+    unread: usize,
+) -> Result<(), Fail> {
+    let input = of_length(alloc, body)?;
+    expect(alloc, &input, method, most, expected, unread)
 }
 
 /// A call that needs the first bytes of the input, up to `needed`, has to answer `Read` over fewer, and the same over more.
@@ -116,8 +138,8 @@ const ANSWERS: [(&[u8], Method, u32, Seen<'static>, usize); 6] = [
 
 #[test]
 fn tells_what_the_response_says_over_each_front_of_it(rt: HostRuntime) -> Result<(), Fail> {
-    for (input, method, most, told, needed) in &ANSWERS {
-        expect_at_each_cut(rt.alloc(), *input, *method, *most, &Ok(*told), *needed)?;
+    for &(input, method, most, told, needed) in &ANSWERS {
+        expect_at_each_cut(rt.alloc(), input, method, most, &Ok(told), needed)?;
     }
     Ok(())
 }
@@ -146,9 +168,9 @@ fn writes_the_request_whatever_is_answered(rt: HostRuntime) -> Result<(), Fail> 
         b"HTTP/1.1 404 Not Found\r\n\r\n",
         b"SSH-2.0-OpenSSH_9.6\r\n\r\n",
     ];
-    for input in &inputs {
-        expect_written(rt.alloc(), *input, Method::Check, "", CHECK_OF_EMPTY)?;
-        expect_written(rt.alloc(), *input, Method::Watch, "zz", WATCH_OF_ZZ)?;
+    for &input in &inputs {
+        expect_written(rt.alloc(), input, Method::Check, "", CHECK_OF_EMPTY)?;
+        expect_written(rt.alloc(), input, Method::Watch, "zz", WATCH_OF_ZZ)?;
     }
     Ok(())
 }

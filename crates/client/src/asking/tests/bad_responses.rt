@@ -1,4 +1,4 @@
-use super::responses::{CHUNKED, bytes_of, of_length};
+use super::responses::CHUNKED;
 use super::*;
 
 const BAD: Result<Seen<'static>, AskFault> = Err(AskFault::BadResponse);
@@ -39,17 +39,11 @@ const BODIES: [(&[u8], usize); 21] = [
     ),
 ];
 
-/// A response with this body, whose length its head tells, has to be refused, and leaves so many bytes unread.
-fn expect_bad(alloc: Global, body: &[u8], method: Method, unread: usize) -> Result<(), Fail> {
-    let input = of_length(alloc, body)?;
-    expect(alloc, &input, method, 1_000, &BAD, unread)
-}
-
 #[test]
 fn refuses_a_bad_body(rt: HostRuntime) -> Result<(), Fail> {
-    for (body, unread) in &BODIES {
-        expect_bad(rt.alloc(), *body, Method::Check, *unread)?;
-        expect_bad(rt.alloc(), *body, Method::Watch, *unread)?;
+    for &(body, unread) in &BODIES {
+        expect_of_body(rt.alloc(), body, Method::Check, 1_000, &BAD, unread)?;
+        expect_of_body(rt.alloc(), body, Method::Watch, 1_000, &BAD, unread)?;
     }
     Ok(())
 }
@@ -59,12 +53,11 @@ const WITHOUT_TRAILERS: [&[u8]; 3] = [b"", b"\0\0\0\0\x02\x08\x01", b"\0\0\0\0\0
 
 #[test]
 fn refuses_a_check_without_trailers(rt: HostRuntime) -> Result<(), Fail> {
-    for body in &WITHOUT_TRAILERS {
-        expect_bad(rt.alloc(), *body, Method::Check, 0)?;
+    for &body in &WITHOUT_TRAILERS {
+        expect_of_body(rt.alloc(), body, Method::Check, 1_000, &BAD, 0)?;
     }
-    for chunks in &CHUNKS_WITHOUT_TRAILERS {
-        let input = bytes_of(rt.alloc(), &[CHUNKED, *chunks])?;
-        expect(rt.alloc(), &input, Method::Check, 1, &BAD, 2)?;
+    for &chunks in &CHUNKS_WITHOUT_TRAILERS {
+        expect_over(rt.alloc(), &[CHUNKED, chunks], Method::Check, 1, &BAD, 2)?;
     }
     Ok(())
 }
@@ -110,10 +103,10 @@ const CHUNKS: [(&[u8], usize); 22] = [
 
 #[test]
 fn refuses_bad_chunks(rt: HostRuntime) -> Result<(), Fail> {
-    for (chunks, unread) in &CHUNKS {
-        let input = bytes_of(rt.alloc(), &[CHUNKED, *chunks])?;
-        expect(rt.alloc(), &input, Method::Check, 1, &BAD, *unread)?;
-        expect(rt.alloc(), &input, Method::Watch, 1_000, &BAD, *unread)?;
+    for &(chunks, unread) in &CHUNKS {
+        let parts = [CHUNKED, chunks];
+        expect_over(rt.alloc(), &parts, Method::Check, 1, &BAD, unread)?;
+        expect_over(rt.alloc(), &parts, Method::Watch, 1_000, &BAD, unread)?;
     }
     Ok(())
 }

@@ -1,4 +1,3 @@
-use super::responses::of_length;
 use super::*;
 use crate::tests::texts::padded;
 
@@ -26,9 +25,8 @@ const WATCHES: [(&[u8], u32, Seen<'static>, usize); 9] = [
 
 #[test]
 fn a_watch_tells_so_many_statuses_or_its_end(rt: HostRuntime) -> Result<(), Fail> {
-    for (body, most, told, left) in &WATCHES {
-        let input = of_length(rt.alloc(), *body)?;
-        expect(rt.alloc(), &input, Method::Watch, *most, &Ok(*told), *left)?;
+    for &(body, most, told, left) in &WATCHES {
+        expect_of_body(rt.alloc(), body, Method::Watch, most, &Ok(told), left)?;
     }
     Ok(())
 }
@@ -68,9 +66,8 @@ const CHECKS: [(&[u8], Seen<'static>); 8] = [
 
 #[test]
 fn a_check_tells_each_message_and_the_trailers(rt: HostRuntime) -> Result<(), Fail> {
-    for (body, told) in &CHECKS {
-        let input = of_length(rt.alloc(), *body)?;
-        expect(rt.alloc(), &input, Method::Check, 1, &Ok(*told), 0)?;
+    for &(body, told) in &CHECKS {
+        expect_of_body(rt.alloc(), body, Method::Check, 1, &Ok(told), 0)?;
     }
     Ok(())
 }
@@ -81,11 +78,9 @@ fn reads_a_body_of_1_048_576_bytes(rt: HostRuntime) -> Result<(), Fail> {
     let front = b"\0\0\x0f\xff\xe7\x12\xe3\xff\x3f";
     let mut body = padded(rt.alloc(), front, 1_048_556, 0)?;
     body.extend_from_slice(b"\x80\0\0\0\x0fgrpc-status:0\r\n")?;
-    let input = of_length(rt.alloc(), &body)?;
-    expect(rt.alloc(), &input, Method::Check, 1, &Ok((&[0], OK)), 0)?;
+    expect_of_body(rt.alloc(), &body, Method::Check, 1, &Ok((&[0], OK)), 0)?;
     body.push(0)?;
-    let longer = of_length(rt.alloc(), &body)?;
     let bad = Err(AskFault::BadResponse);
-    expect(rt.alloc(), &longer, Method::Check, 1, &bad, 1_048_577)?;
-    expect(rt.alloc(), &longer, Method::Watch, 1, &bad, 1_048_577)
+    expect_of_body(rt.alloc(), &body, Method::Check, 1, &bad, 1_048_577)?;
+    expect_of_body(rt.alloc(), &body, Method::Watch, 1, &bad, 1_048_577)
 }

@@ -1,4 +1,4 @@
-use super::responses::{CHUNKED, SERVING_BODY, bytes_of};
+use super::responses::{CHUNKED, SERVING_BODY};
 use super::*;
 
 const TOLD: Result<Seen<'static>, AskFault> = Ok((&[1], Some((0, b""))));
@@ -20,15 +20,26 @@ fn push_chunk(alloc: Global, input: &mut Vec<u8>, bytes: &[u8]) -> Result<(), Fa
     Ok(())
 }
 
+/// A response in these chunks.
+fn in_chunks(alloc: Global, chunks: &[&[u8]]) -> Result<Vec<u8>, Fail> {
+    let mut input = CHUNKED.to_vec(alloc)?;
+    for &chunk in chunks {
+        push_chunk(alloc, &mut input, chunk)?;
+    }
+    input.extend_from_slice(END)?;
+    Ok(input)
+}
+
 #[test]
 fn reads_frames_from_three_chunks_cut_anywhere(rt: HostRuntime) -> Result<(), Fail> {
     for first in 0..28usize {
         for second in first..28 {
-            let mut input = CHUNKED.to_vec(rt.alloc())?;
-            push_chunk(rt.alloc(), &mut input, &SERVING_BODY[..first])?;
-            push_chunk(rt.alloc(), &mut input, &SERVING_BODY[first..second])?;
-            push_chunk(rt.alloc(), &mut input, &SERVING_BODY[second..])?;
-            input.extend_from_slice(END)?;
+            let chunks = [
+                &SERVING_BODY[..first],
+                &SERVING_BODY[first..second],
+                &SERVING_BODY[second..],
+            ];
+            let input = in_chunks(rt.alloc(), &chunks)?;
             expect(rt.alloc(), &input, Method::Check, 1, &TOLD, END.len())?;
         }
     }
@@ -72,9 +83,9 @@ const LINES: [&[u8]; 8] = [
 
 #[test]
 fn reads_each_spelling_of_a_chunks_line(rt: HostRuntime) -> Result<(), Fail> {
-    for line in &LINES {
-        let input = bytes_of(rt.alloc(), &[CHUNKED, *line, SERVING_BODY, END])?;
-        expect(rt.alloc(), &input, Method::Check, 1, &TOLD, 7)?;
+    for &line in &LINES {
+        let parts = [CHUNKED, line, SERVING_BODY, END];
+        expect_over(rt.alloc(), &parts, Method::Check, 1, &TOLD, 7)?;
     }
     Ok(())
 }
@@ -83,9 +94,9 @@ fn reads_each_spelling_of_a_chunks_line(rt: HostRuntime) -> Result<(), Fail> {
 fn refuses_a_chunks_line_of_65_bytes(rt: HostRuntime) -> Result<(), Fail> {
     let line = b"1b;xxxxxxxxxxxxxxxxxxxxxxxxxxxxxxxxxxxxxxxxxxxxxxxxxxxxxxxxxxxx\r\n";
     same(&line.len(), &65, &"the line")?;
-    let input = bytes_of(rt.alloc(), &[CHUNKED, line, SERVING_BODY, END])?;
+    let parts = [CHUNKED, line, SERVING_BODY, END];
     let bad = Err(AskFault::BadResponse);
-    expect(rt.alloc(), &input, Method::Check, 1, &bad, 35)
+    expect_over(rt.alloc(), &parts, Method::Check, 1, &bad, 35)
 }
 
 /// What comes behind the chunk of the trailers is not read.
@@ -93,9 +104,9 @@ const BEHIND: [&[u8]; 4] = [b"", b"x", b"\r\n1\r\nx", b"\r\n7\r\n\0\0\0\0\x02\x0
 
 #[test]
 fn reads_nothing_behind_the_chunk_of_the_trailers(rt: HostRuntime) -> Result<(), Fail> {
-    for behind in &BEHIND {
-        let input = bytes_of(rt.alloc(), &[CHUNKED, b"1b\r\n", SERVING_BODY, *behind])?;
-        expect(rt.alloc(), &input, Method::Check, 1, &TOLD, behind.len())?;
+    for &behind in &BEHIND {
+        let parts = [CHUNKED, b"1b\r\n", SERVING_BODY, behind];
+        expect_over(rt.alloc(), &parts, Method::Check, 1, &TOLD, behind.len())?;
     }
     Ok(())
 }
@@ -129,16 +140,9 @@ const WATCHES: [(&[u8], u32, Seen<'static>, usize); 5] = [
 
 #[test]
 fn a_watch_in_chunks_reads_no_further_than_its_last_status(rt: HostRuntime) -> Result<(), Fail> {
-    for (chunks, most, told, unread) in &WATCHES {
-        let input = bytes_of(rt.alloc(), &[CHUNKED, *chunks])?;
-        expect(
-            rt.alloc(),
-            &input,
-            Method::Watch,
-            *most,
-            &Ok(*told),
-            *unread,
-        )?;
+    for &(chunks, most, told, unread) in &WATCHES {
+        let parts = [CHUNKED, chunks];
+        expect_over(rt.alloc(), &parts, Method::Watch, most, &Ok(told), unread)?;
     }
     Ok(())
 }

@@ -10,18 +10,18 @@ const FAULTS: [Fault; 3] = [
     Fault::Error(ErrorKind::Interrupted),
 ];
 
-/// Asks over a reader whose read of this number is faulty, and tells how often it was called.
+/// Asks over a reader whose read of this number is faulty, and tells the fault of the call, and how often it was called.
 fn ask_faulty(
     alloc: Global,
     input: &[u8],
     method: Method,
     faulty: usize,
     fault: Fault,
-) -> (Result<Told, AskFault>, usize) {
+) -> (Option<AskFault>, usize) {
     let mut reader = FaultyReader::new(input, faulty, fault);
     let mut written = Vec::new(alloc);
     let result = ask(alloc, &mut reader, &mut written, method, "", 2);
-    (result, reader.calls())
+    (result.err(), reader.calls())
 }
 
 /// Responses that are read whole, each with so many calls: one for each byte of a head, and of a chunk's line, and one for each
@@ -33,14 +33,13 @@ const READS: [(&[u8], Method, usize); 2] = [
 
 #[test]
 fn ends_at_each_faulty_read(rt: HostRuntime) -> Result<(), Fail> {
-    for (input, method, calls) in &READS {
-        let (told, called) = ask_faulty(rt.alloc(), *input, *method, 0, Fault::Nothing);
-        same(&(told.is_ok(), called), &(true, *calls), method)?;
-        for fault in &FAULTS {
-            for faulty in 1..*calls + 1 {
-                let (result, called) = ask_faulty(rt.alloc(), *input, *method, faulty, *fault);
-                expect_told(&result, &Err(AskFault::Read), &(faulty, *fault))?;
-                same(&called, &faulty, fault)?;
+    for &(input, method, calls) in &READS {
+        let whole = ask_faulty(rt.alloc(), input, method, 0, Fault::Nothing);
+        same(&whole, &(None, calls), &method)?;
+        for &fault in &FAULTS {
+            for faulty in 1..=calls {
+                let found = ask_faulty(rt.alloc(), input, method, faulty, fault);
+                same(&found, &(Some(AskFault::Read), faulty), &(faulty, fault))?;
             }
         }
     }
@@ -53,18 +52,17 @@ fn expect_front(alloc: Global, taken: usize, fault: Fault) -> Result<(), Fail> {
     let mut writer = FaultyWriter::new(alloc, 1, faulty, fault);
     let mut rest = SERVING;
     let result = ask(alloc, &mut rest, &mut writer, Method::Check, "", 1);
-    let at = (taken, fault);
-    expect_told(&result, &Err(AskFault::Write), &at)?;
+    let found = (result.err(), writer.written(), writer.calls(), rest.len());
     let front = CHECK_OF_EMPTY.get(..taken).unwrap_or(b"");
-    same(&writer.written(), &front, &at)?;
-    same(&(writer.calls(), rest.len()), &(faulty, 127), &at)
+    let expected = (Some(AskFault::Write), front, faulty, 127);
+    same(&found, &expected, &(taken, fault))
 }
 
 #[test]
 fn a_writer_that_fails_has_a_front_of_the_request(rt: HostRuntime) -> Result<(), Fail> {
-    for fault in &FAULTS {
+    for &fault in &FAULTS {
         for taken in 0..CHECK_OF_EMPTY.len() {
-            expect_front(rt.alloc(), taken, *fault)?;
+            expect_front(rt.alloc(), taken, fault)?;
         }
     }
     // the flush behind the last byte
@@ -77,10 +75,7 @@ fn flushes_once_behind_the_request(rt: HostRuntime) -> Result<(), Fail> {
     let mut writer = FaultyWriter::new(rt.alloc(), 1, 0, Fault::Nothing);
     let mut rest = SERVING;
     let result = ask(rt.alloc(), &mut rest, &mut writer, Method::Check, "", 1);
-    same(&writer.written(), &CHECK_OF_EMPTY, &result)?;
-    same(
-        &writer.flushes(),
-        &[CHECK_OF_EMPTY.len()].as_slice(),
-        &result,
-    )
+    let found = (writer.written(), writer.flushes());
+    let end = [CHECK_OF_EMPTY.len()];
+    same(&found, &(CHECK_OF_EMPTY, end.as_slice()), &result)
 }

@@ -1,4 +1,4 @@
-use super::responses::{SERVING_BODY, bytes_of};
+use super::responses::SERVING_BODY;
 use super::*;
 use crate::tests::texts::padded;
 use std::alloc::AllocError;
@@ -32,16 +32,13 @@ const WITH_CHUNKS: [&[u8]; 6] = [
 
 #[test]
 fn reads_a_body_by_its_length_or_its_chunks(rt: HostRuntime) -> Result<(), Fail> {
-    for head in &WITH_LENGTH {
-        let input = bytes_of(rt.alloc(), &[*head, SERVING_BODY, b"more"])?;
-        expect(rt.alloc(), &input, Method::Check, 1, &TOLD, 4)?;
+    for &head in &WITH_LENGTH {
+        let parts = [head, SERVING_BODY, b"more"];
+        expect_over(rt.alloc(), &parts, Method::Check, 1, &TOLD, 4)?;
     }
-    for head in &WITH_CHUNKS {
-        let input = bytes_of(
-            rt.alloc(),
-            &[*head, b"1b\r\n", SERVING_BODY, b"\r\n0\r\n\r\n"],
-        )?;
-        expect(rt.alloc(), &input, Method::Check, 1, &TOLD, 7)?;
+    for &head in &WITH_CHUNKS {
+        let parts = [head, b"1b\r\n", SERVING_BODY, b"\r\n0\r\n\r\n"];
+        expect_over(rt.alloc(), &parts, Method::Check, 1, &TOLD, 7)?;
     }
     Ok(())
 }
@@ -95,18 +92,18 @@ const BAD: [&[u8]; 23] = [
 ];
 
 fn expect_refused(alloc: Global, head: &[u8], fault: AskFault) -> Result<(), Fail> {
-    let input = bytes_of(alloc, &[head, SERVING_BODY])?;
-    expect(alloc, &input, Method::Check, 1, &Err(fault), 27)?;
-    expect(alloc, &input, Method::Watch, 1, &Err(fault), 27)
+    let parts = [head, SERVING_BODY];
+    expect_over(alloc, &parts, Method::Check, 1, &Err(fault), 27)?;
+    expect_over(alloc, &parts, Method::Watch, 1, &Err(fault), 27)
 }
 
 #[test]
 fn refuses_a_response_by_its_head_alone(rt: HostRuntime) -> Result<(), Fail> {
-    for (head, status) in &OTHER_STATUSES {
-        expect_refused(rt.alloc(), *head, AskFault::Http(*status))?;
+    for &(head, status) in &OTHER_STATUSES {
+        expect_refused(rt.alloc(), head, AskFault::Http(status))?;
     }
-    for head in &BAD {
-        expect_refused(rt.alloc(), *head, AskFault::BadResponse)?;
+    for &head in &BAD {
+        expect_refused(rt.alloc(), head, AskFault::BadResponse)?;
     }
     Ok(())
 }
@@ -133,9 +130,9 @@ const COUNTS: [(usize, usize, Result<Seen<'static>, AskFault>, usize); 4] = [
 
 #[test]
 fn reads_a_head_of_at_most_32_lines_and_34_line_feeds(rt: HostRuntime) -> Result<(), Fail> {
-    for (empty, lines, told, unread) in &COUNTS {
-        let input = of_lines(rt.alloc(), *empty, *lines)?;
-        expect(rt.alloc(), &input, Method::Check, 1, told, *unread)?;
+    for &(empty, lines, told, unread) in &COUNTS {
+        let input = of_lines(rt.alloc(), empty, lines)?;
+        expect(rt.alloc(), &input, Method::Check, 1, &told, unread)?;
     }
     Ok(())
 }
@@ -147,14 +144,23 @@ const ENDS: [(&[u8], &[u8], Result<Seen<'static>, AskFault>, usize); 3] = [
     (b"bbbb", b"more", Err(AskFault::BadResponse), 4),
 ];
 
+fn expect_of_end(
+    alloc: Global,
+    end: &[u8],
+    behind: &[u8],
+    told: &Result<Seen<'_>, AskFault>,
+    unread: usize,
+) -> Result<(), Fail> {
+    let front = b"HTTP/1.1 200 OK\r\ncontent-length: 27\r\na: ";
+    let head = padded(alloc, front, 8_188, b'b')?;
+    let parts = [head.as_slice(), end, behind];
+    expect_over(alloc, &parts, Method::Check, 1, told, unread)
+}
+
 #[test]
 fn reads_a_head_of_at_most_8192_bytes(rt: HostRuntime) -> Result<(), Fail> {
-    let front = b"HTTP/1.1 200 OK\r\ncontent-length: 27\r\na: ";
     for (end, behind, told, unread) in &ENDS {
-        let mut input = padded(rt.alloc(), front, 8_188, b'b')?;
-        input.extend_from_slice(*end)?;
-        input.extend_from_slice(*behind)?;
-        expect(rt.alloc(), &input, Method::Check, 1, told, *unread)?;
+        expect_of_end(rt.alloc(), *end, *behind, told, *unread)?;
     }
     Ok(())
 }
