@@ -153,7 +153,7 @@ has_met old new calls results met = record {
   full = λ refused. full_stays old new calls results met refused.0 refused.1 refused.2;
 }
 
--- the part of an errand that is done: so many of the changes are met, each with its result
+-- the part of a run that is done: so many of the changes are met, each with its result
 pub record IsUnderWay (calls : List (Option Call)) (old now : SeatState) (count : ℕ) (results : List (Result Reply Refusal)) : Type 0 where
   pub met : AreCarriedOut old now (take count calls) results
   pub len : length results ≡ count
@@ -166,7 +166,7 @@ under_way_more calls old now new count call results more result way at met pushe
   len = ap length pushed ∙ omega (arith, length-append results (result ∷ []), way.len);
 }
 
--- an order more of an errand
+-- an order more of a run
 pub order_more : {X : Type 0} (f : X → Option Call) (orders : List X) (old now new : SeatState) (count : ℕ) (order : X) (results more : List (Result Reply Refusal)) (result : Result Reply Refusal)
     → IsUnderWay (map f orders) old now count results → count < length orders → order ≡ get_or orders count order → IsCarriedOut now new (f order) result
     → more ≡ results ++ result ∷ [] → IsUnderWay (map f orders) old new (count + 1) more
@@ -174,16 +174,16 @@ order_more f orders old now new count order results more result way within is me
     let at : slice_get orders count ≡ Some order = slice_get-get_or orders count order within ∙ ap Some (sym is) in
     under_way_more (map f orders) old now new count (f order) results more result way (slice_get-map f orders count ∙ ap (option_map f) at) met pushed
 
--- an errand whose orders are all done
-pub errand_done : {X : Type 0} (f : X → Option Call) (orders : List X) (old new : SeatState) (count : ℕ) (results : List (Result Reply Refusal)) → IsUnderWay (map f orders) old new count results
+-- a run whose orders are all done
+pub run_done : {X : Type 0} (f : X → Option Call) (orders : List X) (old new : SeatState) (count : ℕ) (results : List (Result Reply Refusal)) → IsUnderWay (map f orders) old new count results
     → length orders ≤ count → HasCarriedOut old new (map f orders) results
-errand_done f orders old new count results way all =
+run_done f orders old new count results way all =
     let long : length (map f orders) ≤ count = omega (arith, length-map orders f, all) in
     has_met old new (map f orders) results (subst (λ cs. AreCarriedOut old new cs results) (take_all count (map f orders) long) way.met)
 
--- an errand that begins
-pub errand_begins : (calls : List (Option Call)) (seat : SeatState) (results : List (Result Reply Refusal)) → results ≡ [] → IsUnderWay calls seat seat 0 results
-errand_begins calls seat results none = rw none (record { met = Ends seat; len = refl })
+-- a run that begins
+pub run_begins : (calls : List (Option Call)) (seat : SeatState) (results : List (Result Reply Refusal)) → results ≡ [] → IsUnderWay calls seat seat 0 results
+run_begins calls seat results none = rw none (record { met = Ends seat; len = refl })
 
 -- the seat is the hall's after a change too
 pub met_ours : (hall : HallState) (old new : SeatState) (call : Option Call) (result : Result Reply Refusal) → IsOf hall old → IsCarriedOut old new call result → IsOf hall new

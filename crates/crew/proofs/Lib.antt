@@ -1,5 +1,4 @@
 pub mod CarryingOut
-pub mod Crewing
 pub mod GatherLemmas
 pub mod LookingLemmas
 pub mod NewSeats
@@ -8,5 +7,6 @@ pub mod OneGathering
 pub mod Reasons
 pub mod Reports
 pub mod Soundness
+pub mod StaffLemmas
 pub mod Story
 pub mod WrongReports

@@ -1,17 +1,14 @@
 -- How a seat makes the changes that it is asked for, one after the other. Histories have their newest entry first.
-use Rattle.std.specs.Prelude.{◌≡◌, ℕ, ◌<◌, ◌≤◌, Option, Some, None, List, [], ◌∷◌, ◌++◌, map, length, Contains, vec_len, vec_capacity, Result, Ok, Err}
-use Rattle.std.specs.List.{slice_index_or}
+use Rattle.std.specs.Prelude.{◌≡◌, ℕ, ◌<◌, ◌≤◌, Option, Some, None, List, [], ◌∷◌, ◌++◌, length, Contains, Result, Ok, Err}
 use Rattle.desk_core.specs.declared.call.Call.{Call}
 use Rattle.desk_core.specs.declared.entry.Entry.{Entry}
 use Rattle.desk_core.specs.declared.refusal.Refusal.{Refusal}
 use Rattle.desk_core.specs.declared.refusal.Refusal.TheVariants as refusals
 use Rattle.desk_core.specs.declared.reply.Reply.{Reply}
 use Rattle.desk_core.specs.Legal.{IsLawfulCall}
-use Rattle.desk_core.specs.Order.{ordered}
 use Rattle.desk_core.specs.Past.{past}
 use Rattle.desk_core.specs.Watch.{IsOlder}
-use Rattle.hall.specs.Seats.{HallState, SeatState, IsOf, GoesOn, Makes, entry_of, own_calls, with_seen}
-use Rattle.crew.specs.declared.errand.Errand.{Errand}
+use Rattle.hall.specs.Seats.{SeatState, GoesOn, Makes, entry_of, own_calls, with_seen}
 use Rattle.crew.specs.Looking.{HasLooked}
 
 -- How a change that a seat is asked for comes out; it is none where its name is not listed. Of the seat before and after it, and its
@@ -46,18 +43,3 @@ pub record HasCarriedOut (old new : SeatState) (calls : List (Option Call)) (res
   pub begins : IsOlder old.seen new.seen
   pub own : own_calls new ≡ past (replied old.number calls results) ++ own_calls old
   pub full : Contains results (Err refusals.Full) → new.most ≤ length new.seen
-
--- an errand that may be run: its seat is the hall's, none of its orders has a result, and there is room for those of all
-pub record IsReady {P : Type 0} (hall : HallState) (errand : Errand P) : Type 0 where
-  pub seat : IsOf hall errand.seat
-  pub none : errand.results.items ≡ []
-  pub room : vec_len errand.orders ≤ vec_capacity errand.results
-
--- an errand that was run: its seat was asked for what the orders ask for over a catalogue of these names, with these results
-abbrev pub HasRun : {P : Type 0} → List (List ℕ) → Errand P → Errand P → Type 0
-HasRun names old new = HasCarriedOut old.seat new.seat (map (ordered names) old.orders.items) new.results.items
-
--- all of them were run
-abbrev pub HaveRun : {P : Type 0} → List (List ℕ) → List (Errand P) → List (Errand P) → Type 0
-HaveRun {P} names old new = (place : ℕ) (other : Errand P) → place < length old
-    → HasRun names (slice_index_or old place other) (slice_index_or new place other)

@@ -1,3 +1,4 @@
+pub mod CommandRun
 pub mod CrewWhy
 pub mod Errand
 pub mod Gather
@@ -7,4 +8,4 @@ pub mod Looking
 pub mod Serve
 pub mod Staff
 pub mod HallDoor
-pub mod Work
+pub mod Worker

@@ -1,32 +1,51 @@
--- What a crew is made of before it begins, and what was reported at its posts.
-use Rattle.std.specs.Prelude.{ℕ, ◌≡◌, ◌≤◌, List, [], vec_len, vec_capacity}
-use Rattle.std.specs.List.{flat_map}
+-- What a crew is made of before it begins, and what it has when it is done.
+use Rattle.std.specs.Prelude.{ℕ, ◌≡◌, ◌≤◌, ◌+◌, List, [], ◌++◌, map, vec_len, vec_capacity}
+use Rattle.std.specs.List.{All, flat_map}
+use Rattle.std.specs.Vec.Iter.{into_iter_items, into_iter_len}
+use Rattle.desk_core.specs.declared.order.Order.{Order}
+use Rattle.hall.specs.Seats.{SeatState}
 use Rattle.crew.specs.declared.call_end.CallEnd.{CallEnd}
-use Rattle.crew.specs.declared.errand.Errand.{Errand}
-use Rattle.crew.specs.declared.staff.Task.{Task}
-use Rattle.crew.specs.declared.staff.Room.{Room}
-use Rattle.crew.specs.declared.work.Post.{Post}
+use Rattle.crew.specs.declared.staff.Left.{Left}
+use Rattle.crew.specs.declared.staff.Staff.{Staff}
+use Rattle.crew.specs.declared.worker.Worker.{Worker}
+use Rattle.crew.specs.CommandRun.{IsEquipped}
 
--- no order of the task has a result yet, and there is room for one of each
-pub record IsEquipped (task : Task) : Type 0 where
-  pub none : task.results.items ≡ []
-  pub room : vec_len task.orders ≤ vec_capacity task.results
+-- all seats of a staff: the workers', the command runs', and those that are spare
+abbrev pub seats_of : {P : Type 0} → Staff P → List SeatState
+seats_of staff = map (λ worker. worker.seat) staff.workers.items ++ (map (λ run. run.seat) staff.runs.items ++ into_iter_items staff.spare)
 
--- empty room for so many workers, lists of orders and seats
-pub record IsRoomFor {P : Type 0} (workers lists places : ℕ) (room : Room P) : Type 0 where
-  pub no_posts : room.posts.items ≡ []
-  pub posts : workers ≤ vec_capacity room.posts
-  pub no_errands : room.errands.items ≡ []
-  pub errands : lists ≤ vec_capacity room.errands
-  pub no_seats : room.seats.items ≡ []
-  pub seats : places ≤ vec_capacity room.seats
-  pub no_results : room.results.items ≡ []
-  pub results : lists ≤ vec_capacity room.results
+-- what its command runs are to carry out
+abbrev pub orders_of : {P : Type 0} → Staff P → List (List Order)
+orders_of staff = map (λ run. run.commands.orders.items) staff.runs.items
 
--- what an errand does
-abbrev pub task_of : {P : Type 0} → Errand P → Task
-task_of errand = record { orders = errand.orders; results = errand.results }
+-- all that the workers have reported, one worker's reports behind another's
+abbrev pub reports_of : {P : Type 0} → List (Worker P) → List (ℕ × CallEnd)
+reports_of workers = flat_map (λ worker. worker.ends.items) workers
 
--- all that was reported at the posts, post by post
-abbrev pub reports_of : {P : Type 0} → List (Post P) → List (ℕ × CallEnd)
-reports_of posts = flat_map (λ post. post.ends.items) posts
+-- the buffers are empty, and have room for so many seats and lists of results
+pub record IsEmptyFor {P : Type 0} (places lists : ℕ) (left : Left P) : Type 0 where
+  pub no_seats : left.seats.items ≡ []
+  pub seats : places ≤ vec_capacity left.seats
+  pub no_results : left.results.items ≡ []
+  pub results : lists ≤ vec_capacity left.results
+  pub no_ends : left.ends.items ≡ []
+
+-- nobody, with room for so many workers, lists and seats
+pub record IsVacant {P : Type 0} (count lists places : ℕ) (staff : Staff P) : Type 0 where
+  pub no_workers : staff.workers.items ≡ []
+  pub workers : count ≤ vec_capacity staff.workers
+  pub no_runs : staff.runs.items ≡ []
+  pub runs : lists ≤ vec_capacity staff.runs
+  pub left : IsEmptyFor places lists staff.left
+
+-- a staff has all the memory that it takes: for the result of each order, and to give everything back
+pub record HasMemory {P : Type 0} (staff : Staff P) : Type 0 where
+  pub lists : All (λ run. IsEquipped run.commands) staff.runs.items
+  pub left : IsEmptyFor (vec_len staff.workers + (vec_len staff.runs + into_iter_len staff.spare)) (vec_len staff.runs) staff.left
+
+-- a staff of these seats has so many workers, and its command runs are to carry out these lists
+pub record IsStaffOf {P : Type 0} (count : ℕ) (asked : List (List Order)) (places : List SeatState) (staff : Staff P) : Type 0 where
+  pub seats : seats_of staff ≡ places
+  pub workers : vec_len staff.workers ≡ count
+  pub lists : orders_of staff ≡ asked
+  pub memory : HasMemory staff

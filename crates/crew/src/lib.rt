@@ -2,9 +2,9 @@
 #![tactic(auto)]
 
 mod call_end;
+mod command_run;
 mod crew_why;
 mod door;
-mod errand;
 mod gathering;
 mod job;
 mod laws;
@@ -13,12 +13,12 @@ mod ring;
 mod serve;
 mod staff;
 mod turnstile;
-mod work;
+mod worker;
 
 pub use call_end::CallEnd;
+pub use command_run::carry_out;
 pub use crew_why::CrewWhy;
 pub use door::HallDoor;
-pub use errand::carry_out;
 pub use gathering::gather;
 pub use job::{Job, Unopened};
 pub use laws::{one_gathering, watches_tell_the_story};

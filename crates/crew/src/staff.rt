@@ -1,165 +1,245 @@
-ghost use Rattle.std.specs.Prelude.{◌≡◌, ◌+◌, ◌≤◌, [], ◌++◌, map, length, vec_len, vec_capacity, IfOk};
+ghost use Rattle.std.specs.Prelude.{◌≡◌, ◌≤◌, ◌+◌, [], ◌++◌, map, length, vec_len, vec_capacity, IfOk};
 ghost use Rattle.std.specs.List.{All};
 ghost use Rattle.std.specs.Vec.Iter.{into_iter_items, into_iter_len};
-ghost use Rattle.crew.specs.Staff.{IsEquipped, IsRoomFor, reports_of, task_of};
+ghost use Rattle.hall.specs.Seats.{IsOf};
+ghost use Rattle.crew.specs.CommandRun.{HaveRun, IsReady};
+ghost use Rattle.crew.specs.Staff.{reports_of};
+ghost use Rattle.crew.specs.Worker.{HaveLooked};
 
 use crate::call_end::CallEnd;
-use crate::errand::Errand;
-use crate::work::Post;
+use crate::command_run::{CommandRun, Commands, run_all};
+use crate::job::Job;
+use crate::turnstile::Turnstile;
+use crate::worker::{Worker, Workplace, work_all};
 use desk_core::{Order, Refusal, Reply};
 use hall::Seat;
 use probe_core::Probe;
 use std::alloc::{AllocError, Global};
+use std::sync::Wait;
+use std::thread;
+use std::thread::Threads;
 use std::vec::IntoIter;
 
-/// A list of orders, with room for the result of each.
+/// What a staff gives back when it is done: the seats in their order, the results of each list of orders, and the reports.
 #[derive(Drop)]
-pub struct Task {
-    pub orders: Vec<Order>,
-    pub results: Vec<Result<Reply, Refusal>>,
-}
-
-/// Room for posts, errands, seats, the lists of results and the reports, so that a crew wants no memory for them once it has begun.
-#[derive(Drop)]
-pub struct Room<P: Probe> {
-    pub posts: Vec<Post<P>>,
-    pub errands: Vec<Errand<P>>,
+pub struct Left<P: Probe> {
     pub seats: Vec<Seat<P>>,
     pub results: Vec<Vec<Result<Reply, Refusal>>>,
     pub ends: Vec<(u32, CallEnd)>,
 }
 
-impl<P: Probe> Room<P> {
-    ghost use Rattle.std.specs.Prelude.{◌≡◌, ◌≤◌, [], vec_capacity, IfOk};
-    ghost use Rattle.crew.specs.Staff.{IsRoomFor};
-
-    pub fn new(
-        alloc: Global,
-        workers: u16,
-        lists: usize,
-        seats: usize,
-        jobs: usize,
-    ) -> Result<Room<P>, AllocError>
-        ensures room { IfOk result (IsRoomFor workers lists seats) }
-        ensures ends { IfOk result (λ room. (room.ends.items ≡ []) × (jobs ≤ vec_capacity room.ends)) }
-    {
-        Ok(Room {
-            posts: Vec::with_capacity(alloc, workers as usize)?,
-            errands: Vec::with_capacity(alloc, lists)?,
-            seats: Vec::with_capacity(alloc, seats)?,
-            results: Vec::with_capacity(alloc, lists)?,
-            ends: Vec::with_capacity(alloc, jobs)?,
-        })
-    }
+/// The workers and the command runs of a crew, the seats that neither need, and the empty buffers that all will be given back in.
+#[derive(Drop)]
+pub struct Staff<P: Probe> {
+    pub workers: Vec<Worker<P>>,
+    pub runs: Vec<CommandRun<P>>,
+    pub spare: IntoIter<Seat<P>>,
+    pub left: Left<P>,
 }
 
-/// Takes room for the results of all orders.
-pub fn equip(alloc: Global, orders: Vec<Vec<Order>>) -> Result<Vec<Task>, AllocError>
-    ensures orders { IfOk result (λ tasks. map (λ task. task.orders) tasks.items ≡ orders.items) }
-    ensures equipped { IfOk result (λ tasks. All IsEquipped tasks.items) }
-{
-    let mut tasks = Vec::with_capacity(alloc, orders.len())?;
-    for orders in orders {
-        let results = Vec::with_capacity(alloc, orders.len())?;
-        tasks.push(Task { orders, results })?;
-    }
-    Ok(tasks)
-}
-
-/// Gives so many workers a seat each.
-pub fn man<P: Probe>(
-    alloc: Global,
+/// Gives each list of orders a seat.
+fn assign<P: Probe>(
+    lists: Vec<Commands>,
     seats: &mut IntoIter<Seat<P>>,
-    posts: &mut Vec<Post<P>>,
-    workers: u16,
+    runs: &mut Vec<CommandRun<P>>,
 )
-    requires none { posts.old.items ≡ [] }
-    requires room { workers ≤ vec_capacity posts.old }
-    requires seats { workers ≤ into_iter_len seats.old }
-    ensures seats { into_iter_items seats.old ≡ map (λ post. post.seat) posts.new.items ++ into_iter_items seats.new }
-    ensures len { vec_len posts.new ≡ workers }
-    ensures none { All (λ post. post.ends.items ≡ []) posts.new.items }
+    requires none { runs.old.items ≡ [] }
+    requires room { vec_len lists ≤ vec_capacity runs.old }
+    requires seats { vec_len lists ≤ into_iter_len seats.old }
+    ensures seats { into_iter_items seats.old ≡ map (λ run. run.seat) runs.new.items ++ into_iter_items seats.new }
+    ensures lists { map (λ run. run.commands) runs.new.items ≡ lists.items }
 {
-    for _ in 0..workers {
+    for commands in lists {
         let seat = seats.next().unwrap();
-        let ends = Vec::new(alloc);
-        posts.push(Post { seat, ends }).unwrap();
+        runs.push(CommandRun { seat, commands }).unwrap();
     }
 }
 
-/// Gives each task a seat.
-pub fn send<P: Probe>(seats: &mut IntoIter<Seat<P>>, errands: &mut Vec<Errand<P>>, tasks: Vec<Task>)
-    requires none { errands.old.items ≡ [] }
-    requires room { vec_len tasks ≤ vec_capacity errands.old }
-    requires seats { vec_len tasks ≤ into_iter_len seats.old }
-    ensures seats { into_iter_items seats.old ≡ map (λ errand. errand.seat) errands.new.items ++ into_iter_items seats.new }
-    ensures tasks { map task_of errands.new.items ≡ tasks.items }
-{
-    for task in tasks {
-        let seat = seats.next().unwrap();
-        let Task { orders, results } = task;
-        errands
-            .push(Errand {
-                seat,
-                orders,
-                results,
-            })
-            .unwrap();
-    }
-}
-
-/// Takes the seats of the posts back, in their order, and what was reported there. Where there is no room for the reports of a
-/// post, they are lost.
-pub fn relieve<P: Probe>(
-    posts: Vec<Post<P>>,
+/// Takes the seats of the workers back, in their order, and their reports. Where there is no room for those of a worker, they are
+/// lost.
+fn dismiss<P: Probe>(
+    workers: Vec<Worker<P>>,
     seats: &mut Vec<Seat<P>>,
     ends: &mut Vec<(u32, CallEnd)>,
 )
-    requires { vec_len seats.old + vec_len posts ≤ vec_capacity seats.old }
-    ensures seats { seats.new.items ≡ seats.old.items ++ map (λ post. post.seat) posts.items }
+    requires { vec_len seats.old + vec_len workers ≤ vec_capacity seats.old }
+    ensures seats { seats.new.items ≡ seats.old.items ++ map (λ worker. worker.seat) workers.items }
     ensures capacity { vec_capacity seats.old ≤ vec_capacity seats.new }
-    ensures ends { vec_len ends.old + length (reports_of posts.items) ≤ vec_capacity ends.old
-        → ends.new.items ≡ ends.old.items ++ reports_of posts.items }
+    ensures ends { vec_len ends.old + length (reports_of workers.items) ≤ vec_capacity ends.old
+        → ends.new.items ≡ ends.old.items ++ reports_of workers.items }
 {
-    for post in posts {
-        let Post {
+    for worker in workers {
+        let Worker {
             seat,
             ends: mut more,
-        } = post;
+        } = worker;
         seats.push(seat).unwrap();
         let _ = ends.append(&mut more);
     }
 }
 
-/// Takes the seats of the errands back, in their order, and the results of their orders.
-pub fn call_back<P: Probe>(
-    errands: Vec<Errand<P>>,
-    seats: &mut Vec<Seat<P>>,
-    results: &mut Vec<Vec<Result<Reply, Refusal>>>,
-)
-    requires seats { vec_len seats.old + vec_len errands ≤ vec_capacity seats.old }
-    requires results { vec_len results.old + vec_len errands ≤ vec_capacity results.old }
-    ensures seats { seats.new.items ≡ seats.old.items ++ map (λ errand. errand.seat) errands.items }
-    ensures results { results.new.items ≡ results.old.items ++ map (λ errand. errand.results) errands.items }
-    ensures capacity { vec_capacity seats.old ≤ vec_capacity seats.new }
-{
-    for errand in errands {
-        let Errand {
-            seat,
-            orders: _,
-            results: done,
-        } = errand;
-        seats.push(seat).unwrap();
-        results.push(done).unwrap();
+impl<P: Probe + Send> Staff<P> {
+    ghost use Rattle.std.specs.Prelude.{◌≡◌, ◌+◌, ◌≤◌, map, length, vec_len, vec_capacity, IfOk, IfErr};
+    ghost use Rattle.std.specs.List.{All};
+    ghost use Rattle.std.specs.Vec.Iter.{into_iter_len};
+    ghost use Rattle.hall.specs.Seats.{IsOf};
+    ghost use Rattle.crew.specs.Serve.{HasServed, lists_in};
+    ghost use Rattle.crew.specs.CommandRun.{IsEquipped};
+    ghost use Rattle.crew.specs.Staff.{HasMemory, IsEmptyFor, IsStaffOf, IsVacant, orders_of, reports_of, seats_of};
+
+    /// Takes all memory: for a staff that has nobody yet, and for the results of all orders.
+    fn vacant(
+        alloc: Global,
+        workers: u16,
+        seats: usize,
+        jobs: usize,
+        orders: Vec<Vec<Order>>,
+    ) -> Result<(Staff<P>, Vec<Commands>), AllocError>
+        ensures room { IfOk result (λ taken. IsVacant workers (vec_len orders) seats taken.0) }
+        ensures ends { IfOk result (λ taken. jobs ≤ vec_capacity taken.0.left.ends) }
+        ensures orders { IfOk result (λ taken. map (λ list. list.orders) taken.1.items ≡ orders.items) }
+        ensures equipped { IfOk result (λ taken. All IsEquipped taken.1.items) }
+    {
+        let count = orders.len();
+        let mut lists = Vec::with_capacity(alloc, count)?;
+        for orders in orders {
+            let results = Vec::with_capacity(alloc, orders.len())?;
+            lists.push(Commands { orders, results })?;
+        }
+        let staff = Staff {
+            workers: Vec::with_capacity(alloc, workers as usize)?,
+            runs: Vec::with_capacity(alloc, count)?,
+            spare: Vec::new(alloc).into_iter(),
+            left: Left {
+                seats: Vec::with_capacity(alloc, seats)?,
+                results: Vec::with_capacity(alloc, count)?,
+                ends: Vec::with_capacity(alloc, jobs)?,
+            },
+        };
+        Ok((staff, lists))
+    }
+
+    /// Gives the first seats to so many workers, and those behind them to a run of each list. Where memory is refused, the seats come
+    /// back.
+    pub fn new(
+        alloc: Global,
+        workers: u16,
+        jobs: usize,
+        seats: Vec<Seat<P>>,
+        orders: Vec<Vec<Order>>,
+    ) -> Result<Staff<P>, Vec<Seat<P>>>
+        requires enough { workers + vec_len orders ≤ vec_len seats }
+        ensures made { IfOk result (IsStaffOf workers (lists_in orders) seats.items) }
+        ensures refused { IfErr result (λ left. left ≡ seats) }
+    {
+        let Ok((vacant, lists)) = Staff::vacant(alloc, workers, seats.len(), jobs, orders) else {
+            return Err(seats);
+        };
+        let (mut hired, mut runs) = (vacant.workers, vacant.runs);
+        let mut spare = seats.into_iter();
+        for _ in 0..workers {
+            let seat = spare.next().unwrap();
+            let ends = Vec::new(alloc);
+            hired.push(Worker { seat, ends }).unwrap();
+        }
+        assign(lists, &mut spare, &mut runs);
+        Ok(Staff {
+            workers: hired,
+            runs,
+            spare,
+            left: vacant.left,
+        })
+    }
+
+    /// Lets the workers serve calls beside the command runs, and gives everything back.
+    pub fn run<R: Wait + Threads + Sync, J: Job + Send, T: Turnstile>(
+        self,
+        rt: &R,
+        place: &Workplace<'_, P, J, T>,
+    ) -> Left<P>
+    where
+        J::Input: Send,
+        J::Output: Send,
+        requires seats { All (IsOf place.now.hall.now) (seats_of self) }
+        requires memory { HasMemory self }
+        ensures served { HasServed place.now.hall.now.names (vec_len self.workers) (orders_of self) (lists_in result.results) (seats_of self) result.seats.items }
+        ensures ours { All (IsOf place.now.hall.now) result.seats.items }
+    {
+        let (workers, runs) = run_beside(rt, place, self.workers, self.runs);
+        let done = Staff {
+            workers,
+            runs,
+            spare: self.spare,
+            left: self.left,
+        };
+        done.give_back()
+    }
+
+    /// Puts all seats, results and reports into the buffers.
+    fn give_back(self) -> Left<P>
+        requires { IsEmptyFor (vec_len self.workers + (vec_len self.runs + into_iter_len self.spare)) (vec_len self.runs) self.left }
+        ensures seats { result.seats.items ≡ seats_of self }
+        ensures results { result.results.items ≡ map (λ run. run.commands.results) self.runs.items }
+        ensures ends { length (reports_of self.workers.items) ≤ vec_capacity self.left.ends
+            → result.ends.items ≡ reports_of self.workers.items }
+    {
+        let Left {
+            mut seats,
+            mut results,
+            mut ends,
+        } = self.left;
+        dismiss(self.workers, &mut seats, &mut ends);
+        for run in self.runs {
+            seats.push(run.seat).unwrap();
+            results.push(run.commands.results).unwrap();
+        }
+        for seat in self.spare {
+            seats.push(seat).unwrap();
+        }
+        Left {
+            seats,
+            results,
+            ends,
+        }
     }
 }
 
-/// Puts the seats that were not needed behind the others.
-pub fn hand_back<P: Probe>(spare: IntoIter<Seat<P>>, seats: &mut Vec<Seat<P>>)
-    requires { vec_len seats.old + into_iter_len spare ≤ vec_capacity seats.old }
-    ensures { seats.new.items ≡ seats.old.items ++ into_iter_items spare }
+/// Lets the workers serve calls while the lists are run. The ring ends behind the last of them, so that no watch waits for more.
+///
+/// Where no thread can be made, the lists are run first.
+fn run_beside<R: Wait + Threads + Sync, P: Probe + Send, J: Job + Send, T: Turnstile>(
+    rt: &R,
+    place: &Workplace<'_, P, J, T>,
+    mut workers: Vec<Worker<P>>,
+    mut runs: Vec<CommandRun<P>>,
+) -> (Vec<Worker<P>>, Vec<CommandRun<P>>)
+where
+    J::Input: Send,
+    J::Output: Send,
+    requires workers { All (λ worker. IsOf place.now.hall.now worker.seat) workers.items }
+    requires runs { All (IsReady place.now.hall.now) runs.items }
+    ensures workers { vec_len result.0 ≡ vec_len workers }
+    ensures runs { vec_len result.1 ≡ vec_len runs }
+    ensures looked { HaveLooked workers.items result.0.items }
+    ensures ran { HaveRun place.now.hall.now.names runs.items result.1.items }
 {
-    for seat in spare {
-        seats.push(seat).unwrap();
-    }
+    thread::join(
+        rt,
+        move || -> Vec<Worker<P>>
+            requires { All (λ worker. IsOf place.now.hall.now worker.seat) workers.items }
+            ensures len { vec_len result ≡ vec_len workers }
+            ensures looked { HaveLooked workers.items result.items }
+        {
+            work_all(rt, place, workers.as_mut_slice());
+            workers
+        },
+        move || -> Vec<CommandRun<P>>
+            requires { All (IsReady place.now.hall.now) runs.items }
+            ensures len { vec_len result ≡ vec_len runs }
+            ensures ran { HaveRun place.entry.now.hall.now.names runs.items result.items }
+        {
+            run_all(rt, place.hall, place.ring, runs.as_mut_slice());
+            runs
+        },
+    )
 }

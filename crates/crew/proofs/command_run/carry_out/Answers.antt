@@ -1,7 +1,7 @@
 use Rattle.std.proofs.Common.{sym}
 use Rattle.desk_core.specs.declared.call.Call.TheVariants as calls
 use Rattle.crew.proofs.CarryingOut.{met_at, met_by_all}
-use Rattle.crew.proofs.errand.carry_out.Goals as goal
+use Rattle.crew.proofs.command_run.carry_out.Goals as goal
 
 pub returns-in-Observe : goal.returns-in-Observe
 returns-in-Observe g c =

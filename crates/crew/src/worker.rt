@@ -3,7 +3,7 @@ ghost use Rattle.std.specs.List.{All};
 ghost use Rattle.std.specs.Vec.Iter.{into_iter_items, into_iter_len};
 ghost use Rattle.hall.specs.Seats.{IsOf};
 ghost use Rattle.crew.specs.Looking.{HasLooked};
-ghost use Rattle.crew.specs.Work.{HaveLooked};
+ghost use Rattle.crew.specs.Worker.{HaveLooked};
 
 use crate::call_end::CallEnd;
 use crate::door::HallDoor;
@@ -51,9 +51,9 @@ impl<J> Queue<J> {
     }
 }
 
-/// A worker's seat, and how the calls ended that it has served.
+/// A worker: its seat, and how the calls ended that it has served.
 #[derive(Drop)]
-pub struct Post<P: Probe> {
+pub struct Worker<P: Probe> {
     pub seat: Seat<P>,
     pub ends: Vec<(u32, CallEnd)>,
 }
@@ -105,22 +105,22 @@ fn serve_one<R: Wait, P: Probe, J: Job, T>(
 fn work<R: Wait, P: Probe, J: Job, T: Turnstile>(
     rt: &R,
     place: &Workplace<'_, P, J, T>,
-    post: &mut Post<P>,
+    worker: &mut Worker<P>,
 )
-    requires { IsOf place.now.hall.now post.old.seat }
-    ensures { HasLooked post.old.seat post.new.seat }
+    requires { IsOf place.now.hall.now worker.old.seat }
+    ensures { HasLooked worker.old.seat worker.new.seat }
 {
     for _ in rt.forever() {
-        if post.ends.reserve(1).is_err() {
+        if worker.ends.reserve(1).is_err() {
             return;
         }
         let Some((number, job)) = place.queue.lock(rt).take() else {
             return;
         };
         place.turnstile.enter(rt, number);
-        let end = serve_one(rt, place, job, &mut post.seat);
+        let end = serve_one(rt, place, job, &mut worker.seat);
         place.turnstile.leave(rt, number);
-        let _ = post.ends.push((number, end));
+        let _ = worker.ends.push((number, end));
     }
 }
 
@@ -128,18 +128,18 @@ fn work<R: Wait, P: Probe, J: Job, T: Turnstile>(
 pub fn work_all<R: Wait + Threads + Sync, P: Probe + Send, J: Job + Send, T: Turnstile>(
     rt: &R,
     place: &Workplace<'_, P, J, T>,
-    posts: &mut [Post<P>],
+    workers: &mut [Worker<P>],
 )
 where
     J::Input: Send,
     J::Output: Send,
-    requires { All (λ post. IsOf place.now.hall.now post.seat) posts.old }
-    ensures { HaveLooked posts.old posts.new }
+    requires { All (λ worker. IsOf place.now.hall.now worker.seat) workers.old }
+    ensures { HaveLooked workers.old workers.new }
 {
-    let threads = posts.len().max(1);
-    let part = |_: usize, post: &mut Post<P>|
-        requires { IsOf place.now.hall.now post.old.seat }
-        ensures { HasLooked post.old.seat post.new.seat }
-    { work(rt, place, post) };
-    thread::for_each_mut(rt, posts, threads, &part);
+    let threads = workers.len().max(1);
+    let part = |_: usize, worker: &mut Worker<P>|
+        requires { IsOf place.now.hall.now worker.old.seat }
+        ensures { HasLooked worker.old.seat worker.new.seat }
+    { work(rt, place, worker) };
+    thread::for_each_mut(rt, workers, threads, &part);
 }

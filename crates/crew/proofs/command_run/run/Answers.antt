@@ -1,9 +1,9 @@
 use Rattle.std.proofs.Common.{refl, arith, sym, ◌∙◌}
-use Rattle.crew.proofs.CarryingOut.{order_more, errand_begins, errand_done, met_ours}
-use Rattle.crew.proofs.errand.run.Goals as goal
+use Rattle.crew.proofs.CarryingOut.{order_more, run_begins, run_done, met_ours}
+use Rattle.crew.proofs.command_run.run.Goals as goal
 
 pub loop-order-init : goal.loop-order-init
-loop-order-init g c = (c.requires.seat, omega (arith, c.deref-order-items.ensures.len, c.requires.room), errand_begins _ _ _ c.requires.none)
+loop-order-init g c = (c.requires.seat, omega (arith, c.deref-order-items.ensures.len, c.requires.commands.room), run_begins _ _ _ c.requires.commands.none)
 
 pub loop-order-preserved : goal.loop-order-preserved
 loop-order-preserved g c = (
@@ -14,4 +14,4 @@ loop-order-preserved g c = (
 
 pub returns : goal.returns
 returns g c =
-    rw (sym c.deref-order-items.ensures.value) (errand_done _ _ _ _ _ _ c.loop-order.invariant.2 (omega (arith, c.loop-order-test.false)))
+    rw (sym c.deref-order-items.ensures.value) (run_done _ _ _ _ _ _ c.loop-order.invariant.2 (omega (arith, c.loop-order-test.false)))

@@ -1,7 +1,8 @@
 ghost use Rattle.std.specs.List.{All};
 ghost use Rattle.desk_core.specs.Order.{ordered};
 ghost use Rattle.hall.specs.Seats.{IsOf};
-ghost use Rattle.crew.specs.Errand.{IsCarriedOut, IsReady, HasRun, HaveRun};
+ghost use Rattle.crew.specs.CommandRun.{IsReady, HasRun, HaveRun};
+ghost use Rattle.crew.specs.Errand.{IsCarriedOut};
 
 use crate::ring::Ring;
 use desk_core::{Order, Refusal, Reply};
@@ -11,12 +12,18 @@ use std::sync::Wait;
 use std::thread;
 use std::thread::Threads;
 
-/// A list of orders, the seat that makes their changes, and what came of those that were made.
+/// A list of orders, with room for the result of each.
 #[derive(Drop)]
-pub struct Errand<P: Probe> {
-    pub seat: Seat<P>,
+pub struct Commands {
     pub orders: Vec<Order>,
     pub results: Vec<Result<Reply, Refusal>>,
+}
+
+/// A run of a list of orders, and the seat that makes their changes.
+#[derive(Drop)]
+pub struct CommandRun<P: Probe> {
+    pub seat: Seat<P>,
+    pub commands: Commands,
 }
 
 /// Makes the change that an order asks for. It waits for the seat's turn, but for a name that is not listed.
@@ -38,34 +45,29 @@ pub fn carry_out<R: Wait, P: Probe>(
 }
 
 /// Makes the changes of the orders in their order, and rings after each, also where it was refused.
-pub fn run<R: Wait, P: Probe>(rt: &R, hall: &Hall<P>, ring: &Ring, errand: &mut Errand<P>)
-    requires { IsReady hall.now errand.old }
-    ensures { HasRun hall.now.names errand.old errand.new }
+pub fn run<R: Wait, P: Probe>(rt: &R, hall: &Hall<P>, ring: &Ring, run: &mut CommandRun<P>)
+    requires { IsReady hall.now run.old }
+    ensures { HasRun hall.now.names run.old run.new }
 {
-    for order in &errand.orders {
-        let result = carry_out(rt, hall, &mut errand.seat, order);
-        errand.results.push(result).unwrap();
+    for order in &run.commands.orders {
+        let result = carry_out(rt, hall, &mut run.seat, order);
+        run.commands.results.push(result).unwrap();
         ring.ring(rt);
     }
 }
 
-/// Runs the errands side by side, in a thread each where threads can be made, and ends the ring behind the last.
+/// Makes the runs side by side, in a thread each where threads can be made, and ends the ring behind the last.
 pub fn run_all<R: Wait + Threads + Sync, P: Probe + Send>(
     rt: &R,
     hall: &Hall<P>,
     ring: &Ring,
-    errands: &mut [Errand<P>],
+    runs: &mut [CommandRun<P>],
 )
-    requires { All (IsReady hall.now) errands.old }
-    ensures { HaveRun hall.now.names errands.old errands.new }
+    requires { All (IsReady hall.now) runs.old }
+    ensures { HaveRun hall.now.names runs.old runs.new }
 {
-    let threads = errands.len().max(1);
-    thread::for_each_mut(
-        rt,
-        errands,
-        threads,
-        &|_, errand| run(rt, hall, ring, errand),
-    );
+    let threads = runs.len().max(1);
+    thread::for_each_mut(rt, runs, threads, &|_, one| run(rt, hall, ring, one));
     ring.end(rt);
 }
 
