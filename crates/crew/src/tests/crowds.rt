@@ -1,6 +1,6 @@
 use crate::CallEnd;
 use crate::tests::gates::Gate;
-use crate::tests::halls::{expect_seats, hall_of_two, reported, serve_notes};
+use crate::tests::halls::{Found, expect_seats, hall_of_two, reported, serve_notes};
 use grpc_frame::Code;
 use std::alloc::Global;
 use std::sync::Wait;
@@ -12,23 +12,28 @@ use web_call::Outcome;
 
 const CHECKED: CallEnd = CallEnd::Done(Outcome::Status(Code::Ok));
 
-fn serve_side_by_side<R: Wait + Threads + Sync>(rt: &R, alloc: Global) -> Result<(), Fail> {
+/// Two calls of two workers, and how many calls the gate gave up to hold.
+fn serve_side_by_side<R: Wait + Threads + Sync>(
+    rt: &R,
+    alloc: Global,
+) -> Result<(Found, u32), Fail> {
     let (hall, seats) = hall_of_two(rt, alloc, 2)?;
     let requests = [Some(CHECK_OF_EMPTY), Some(CHECK_OF_EMPTY)];
     let gate = Gate::new(2);
     let (found, _) = serve_notes(rt, alloc, &hall, seats, &requests, &[], &gate, 2)?;
-    let report = reported(found)?;
-    same(
-        &report.calls.as_slice(),
-        &[CHECKED, CHECKED].as_slice(),
-        &"calls",
-    )?;
-    expect_seats(&report.seats, &[0, 2])?;
-    same(&gate.given_up(), &0, &"the gate")
+    Ok((found, gate.given_up()))
 }
 
 // `one_thread_serves_all`, a crew that serves all calls on one thread, gives up at the gate.
 #[test]
 fn two_workers_serve_their_calls_at_the_same_time(rt: HostRuntime) -> Result<(), Fail> {
-    serve_side_by_side(&rt, rt.alloc())
+    let (found, given_up) = serve_side_by_side(&rt, rt.alloc())?;
+    same(&given_up, &0, &"the gate")?;
+    let report = reported(found)?;
+    expect_seats(&report.seats, &[0, 2])?;
+    same(
+        &report.calls.as_slice(),
+        &[CHECKED, CHECKED].as_slice(),
+        &"calls",
+    )
 }

@@ -1,6 +1,6 @@
-use crate::Turnstile;
-use crate::tests::halls::{hall_of_two, reported, serve};
+use crate::tests::halls::{calls_of, hall_of_two, serve};
 use crate::tests::letters::{CUT, Letter};
+use crate::{CallEnd, CrewWhy, Turnstile};
 use std::alloc::{AllocError, Global};
 use std::io;
 use std::io::{Read, Sink, Write};
@@ -117,14 +117,17 @@ fn noted_letters<'a>(
     Ok(letters)
 }
 
-fn serve_noted<R: Wait + Threads + Sync + AllocGlobal>(rt: &R, diary: &Diary) -> Result<(), Fail> {
-    let alloc = rt.alloc();
-    let (hall, seats) = hall_of_two(rt, alloc, 1)?;
+/// The calls of one worker, and how many jobs were opened.
+fn serve_noted<R: Wait + Threads + Sync>(
+    rt: &R,
+    alloc: Global,
+    diary: &Diary,
+) -> Result<(Result<Vec<CallEnd>, CrewWhy>, u32), Fail> {
     let opened = AtomicU32::new(0);
     let jobs = noted_letters(alloc, &opened, diary)?;
-    let orders = Vec::new(alloc);
-    reported(serve(rt, alloc, &hall, seats, jobs, orders, diary, 1)?)?;
-    same(&opened.load(Ordering::SeqCst), &3, &"opened")
+    let (hall, seats) = hall_of_two(rt, alloc, 1)?;
+    let found = serve(rt, alloc, &hall, seats, jobs, Vec::new(alloc), diary, 1);
+    Ok((calls_of(found), opened.load(Ordering::SeqCst)))
 }
 
 #[test]
@@ -132,7 +135,9 @@ fn a_call_drops_its_output_and_then_its_input_before_it_leaves(
     rt: HostRuntime,
 ) -> Result<(), Fail> {
     let diary = Diary::new();
-    serve_noted(&rt, &diary)?;
+    let (calls, opened) = serve_noted(&rt, rt.alloc(), &diary)?;
+    same(&calls?.len(), &3, &"calls")?;
+    same(&opened, &3, &"opened")?;
     same(&diary.steps.load(Ordering::SeqCst), &12, &"steps")?;
     same(
         &diary.wrong.load(Ordering::SeqCst),

@@ -1,7 +1,7 @@
 use crate::tests::gates::{Doorkeeper, Noting};
-use crate::tests::halls::{Found, hall_of_two, reported, serve, serve_notes};
+use crate::tests::halls::{calls_of, hall_of_two, serve, serve_notes};
 use crate::tests::letters::{CUT, GET, Letter, notes};
-use crate::{CallEnd, OpenTurnstile};
+use crate::{CallEnd, CrewWhy, OpenTurnstile};
 use grpc_frame::Code;
 use std::alloc::{AllocError, Global};
 use std::io::ErrorKind;
@@ -13,11 +13,8 @@ use test_support::requests::{CHECK_OF_EMPTY, CHECK_OF_ZZ, LIST, WATCH_OF_ZZ};
 use test_support::{Fault, FaultyReader, FaultyWriter, same};
 use web_call::{ExchangeFault, Outcome, Why};
 
-/// The calls have to end so, each at its number.
-fn expect_ends(found: Found, ends: &[CallEnd], workers: u16) -> Result<(), Fail> {
-    let report = reported(found)?;
-    same(&report.calls.as_slice(), &ends, &workers)
-}
+/// How the calls of a crew ended, each at its number, or why it has no report.
+type Calls = Result<Vec<CallEnd>, CrewWhy>;
 
 /// Calls of one crew, two of which can't be opened.
 const REQUESTS: [Option<&[u8]>; 9] = [
@@ -51,40 +48,47 @@ const CUT_SHORT: CallEnd = CallEnd::Fault(ExchangeFault {
     frames: 0,
 });
 
-fn serve_each<R: Wait + Threads + Sync>(rt: &R, alloc: Global, workers: u16) -> Result<(), Fail> {
-    let (hall, seats) = hall_of_two(rt, alloc, 4)?;
+/// The calls of so many workers, how many jobs were opened, and whether each call passed the turnstile once.
+fn serve_each<R: Wait + Threads + Sync>(
+    rt: &R,
+    alloc: Global,
+    workers: u16,
+) -> Result<(Calls, u32, bool), Fail> {
     let noting = Noting::new(alloc, REQUESTS.len())?;
+    let (hall, seats) = hall_of_two(rt, alloc, 4)?;
     let (found, opened) = serve_notes(rt, alloc, &hall, seats, &REQUESTS, &[], &noting, workers)?;
-    expect_ends(found, &ENDS, workers)?;
-    same(&opened, &9, &workers)?;
-    same(&noting.are_all_gone(rt), &true, &workers)
+    Ok((calls_of(found), opened, noting.are_all_gone(rt)))
 }
 
 #[test]
 fn each_call_ends_at_its_number_and_passes_the_turnstile_once(rt: HostRuntime) -> Result<(), Fail> {
     for workers in [1, 2, 3, 4] {
-        serve_each(&rt, rt.alloc(), workers)?;
+        let (calls, opened, are_all_gone) = serve_each(&rt, rt.alloc(), workers)?;
+        same(&calls?.as_slice(), &ENDS.as_slice(), &workers)?;
+        same(&opened, &9, &workers)?;
+        same(&are_all_gone, &true, &workers)?;
     }
     Ok(())
 }
 
-fn serve_in_turn<R: Wait + Threads + Sync + AllocGlobal>(rt: &R) -> Result<(), Fail> {
-    let alloc = rt.alloc();
-    let (hall, seats) = hall_of_two(rt, alloc, 1)?;
+/// The calls of one worker, and how often the doorkeeper found another number of jobs opened.
+fn serve_in_turn<R: Wait + Threads + Sync>(rt: &R, alloc: Global) -> Result<(Calls, u32), Fail> {
     let opened = AtomicU32::new(0);
     let jobs = notes(alloc, &REQUESTS, &opened)?;
     let doorkeeper = Doorkeeper::new(&opened);
+    let (hall, seats) = hall_of_two(rt, alloc, 1)?;
     let orders = Vec::new(alloc);
-    let found = serve(rt, alloc, &hall, seats, jobs, orders, &doorkeeper, 1)?;
-    expect_ends(found, &ENDS, 1)?;
-    same(&doorkeeper.wrong(), &0, &"wrong")
+    let found = serve(rt, alloc, &hall, seats, jobs, orders, &doorkeeper, 1);
+    Ok((calls_of(found), doorkeeper.wrong()))
 }
 
 #[test]
 fn a_worker_opens_each_job_between_its_entering_and_its_leaving(
     rt: HostRuntime,
 ) -> Result<(), Fail> {
-    serve_in_turn(&rt)
+    let (calls, wrong) = serve_in_turn(&rt, rt.alloc())?;
+    same(&calls?.as_slice(), &ENDS.as_slice(), &"calls")?;
+    same(&wrong, &0, &"wrong")
 }
 
 /// A Check whose writer fails before its first frame is whole, before its second is, and behind both.
@@ -136,11 +140,14 @@ fn faulty_letters(alloc: Global, opened: &AtomicU32) -> Result<Vec<Faulty<'_>>, 
     Ok(letters)
 }
 
-fn serve_faulty<R: Wait + Threads + Sync + AllocGlobal>(rt: &R, workers: u16) -> Result<(), Fail> {
-    let alloc = rt.alloc();
-    let (hall, seats) = hall_of_two(rt, alloc, 3)?;
+fn serve_faulty<R: Wait + Threads + Sync>(
+    rt: &R,
+    alloc: Global,
+    workers: u16,
+) -> Result<Calls, Fail> {
     let opened = AtomicU32::new(0);
     let jobs = faulty_letters(alloc, &opened)?;
+    let (hall, seats) = hall_of_two(rt, alloc, 3)?;
     let orders = Vec::new(alloc);
     let found = serve(
         rt,
@@ -151,9 +158,8 @@ fn serve_faulty<R: Wait + Threads + Sync + AllocGlobal>(rt: &R, workers: u16) ->
         orders,
         &OpenTurnstile,
         workers,
-    )?;
-    let ends = FAULTS.map(|(_, _, _, end)| end);
-    expect_ends(found, &ends, workers)
+    );
+    Ok(calls_of(found))
 }
 
 #[test]
@@ -161,7 +167,9 @@ fn a_call_whose_reader_or_writer_fails_is_a_fault_at_its_number(
     rt: HostRuntime,
 ) -> Result<(), Fail> {
     for workers in [1, 3] {
-        serve_faulty(&rt, workers)?;
+        let calls = serve_faulty(&rt, rt.alloc(), workers)?;
+        let ends = FAULTS.map(|(_, _, _, end)| end);
+        same(&calls?.as_slice(), &ends.as_slice(), &workers)?;
     }
     Ok(())
 }

@@ -5,7 +5,7 @@ ghost use Rattle.std.specs.List.{All};
 ghost use Rattle.hall.specs.Seats.{IsOf};
 
 use crate::tests::letters::notes;
-use crate::{CrewFault, Job, Report, Turnstile, serve_all};
+use crate::{CallEnd, CrewFault, CrewWhy, Job, Report, Turnstile, serve_all};
 use desk_core::{Catalogue, Finding, Name, Order, Refusal, Reply, Setting};
 use hall::{Hall, Seat};
 use probe_core::Manual;
@@ -133,7 +133,7 @@ pub(crate) fn lists(alloc: Global, lists: &[&[Wish]]) -> Result<Vec<Vec<Order>>,
 /// A report or a fault, of a crew in these tests.
 pub(crate) type Found = Result<Report<Manual>, CrewFault<Manual>>;
 
-/// Lets a crew serve, with at most 10 Looks for each Watch.
+/// Lets a crew serve at most 1,000 jobs, with at most 10 Looks for each Watch.
 pub(crate) fn serve<R, J, T>(
     rt: &R,
     alloc: Global,
@@ -143,7 +143,7 @@ pub(crate) fn serve<R, J, T>(
     orders: Vec<Vec<Order>>,
     turnstile: &T,
     workers: u16,
-) -> Result<Found, Fail>
+) -> Found
 where
     R: Wait + Threads + Sync,
     J: Job + Send,
@@ -151,23 +151,23 @@ where
     J::Output: Send,
     T: Turnstile,
     requires { All (IsOf hall.now) seats.items }
-    ensures { IfOk result (λ found. MatchResult found (λ report. All (IsOf hall.now) report.seats.items) (λ fault. All (IsOf hall.now) fault.seats.items)) }
+    ensures { MatchResult result (λ report. All (IsOf hall.now) report.seats.items) (λ fault. All (IsOf hall.now) fault.seats.items) }
 {
     serve_within(rt, alloc, hall, seats, jobs, orders, turnstile, workers, 10)
 }
 
-/// Lets a crew serve, with at most so many Looks for each Watch.
+/// Lets a crew serve at most 1,000 jobs, with at most so many Looks for each Watch.
 pub(crate) fn serve_within<R, J, T>(
     rt: &R,
     alloc: Global,
     hall: &Hall<Manual>,
     seats: Vec<Seat<Manual>>,
-    jobs: Vec<J>,
+    mut jobs: Vec<J>,
     orders: Vec<Vec<Order>>,
     turnstile: &T,
     workers: u16,
     looks: u32,
-) -> Result<Found, Fail>
+) -> Found
 where
     R: Wait + Threads + Sync,
     J: Job + Send,
@@ -175,15 +175,13 @@ where
     J::Output: Send,
     T: Turnstile,
     requires { All (IsOf hall.now) seats.items }
-    ensures { IfOk result (λ found. MatchResult found (λ report. All (IsOf hall.now) report.seats.items) (λ fault. All (IsOf hall.now) fault.seats.items)) }
+    ensures { MatchResult result (λ report. All (IsOf hall.now) report.seats.items) (λ fault. All (IsOf hall.now) fault.seats.items) }
 {
-    if jobs.len() >= 1_000 {
-        return Err(Fail::new("too many jobs"));
-    }
+    jobs.truncate(1_000);
     let limits = Limits { looks };
-    Ok(serve_all(
+    serve_all(
         rt, alloc, hall, seats, jobs, orders, turnstile, workers, limits,
-    ))
+    )
 }
 
 /// Lets a crew answer these requests beside these lists of orders, and tells how many jobs it has opened.
@@ -202,7 +200,7 @@ pub(crate) fn serve_notes<R: Wait + Threads + Sync, T: Turnstile>(
     let opened = AtomicU32::new(0);
     let jobs = notes(alloc, requests, &opened)?;
     let orders = lists(alloc, wishes)?;
-    let found = serve(rt, alloc, hall, seats, jobs, orders, turnstile, workers)?;
+    let found = serve(rt, alloc, hall, seats, jobs, orders, turnstile, workers);
     Ok((found, opened.load(Ordering::SeqCst)))
 }
 
@@ -211,6 +209,14 @@ pub(crate) fn reported(found: Found) -> Result<Report<Manual>, Fail> {
     match found {
         Ok(report) => Ok(report),
         Err(fault) => Err(Fail::from(fault.why)),
+    }
+}
+
+/// How the calls of a crew ended, or why it has no report.
+pub(crate) fn calls_of(found: Found) -> Result<Vec<CallEnd>, CrewWhy> {
+    match found {
+        Ok(report) => Ok(report.calls),
+        Err(fault) => Err(fault.why),
     }
 }
 

@@ -93,53 +93,65 @@ fn fare_of(found: &Found, requests: &[Option<&[u8]>], opened: usize) -> Result<F
     Ok(fare)
 }
 
-/// How many of these orders got a reply; each other has to be refused for want of memory.
-fn made_in(results: &[Result<Reply, Refusal>]) -> Result<usize, Fail> {
+/// How many of these orders got a reply, if each other was refused for want of memory.
+fn made_in(results: &[Result<Reply, Refusal>]) -> Option<usize> {
     let made = results.iter().filter(|one| one.is_ok()).count();
     let starved = results
         .iter()
         .filter(|one| **one == Err(Refusal::NoMemory))
         .count();
-    same(&made.saturating_add(starved), &results.len(), &results)?;
-    Ok(made)
+    (made.saturating_add(starved) == results.len()).then_some(made)
 }
 
-fn made_in_all(lists: &[Vec<Result<Reply, Refusal>>]) -> Result<usize, Fail> {
+fn made_in_all(lists: &[Vec<Result<Reply, Refusal>>]) -> Option<usize> {
     let mut made = 0usize;
     for results in lists {
         made = made.saturating_add(made_in(results)?);
     }
-    Ok(made)
+    Some(made)
 }
 
-/// All seats have to be back in their places; so many changes have they made together.
-fn made_by(seats: &[Seat<Manual>], count: u16) -> Result<usize, Fail> {
-    same(&seats.len(), &usize::from(count), &"seats")?;
+/// How many changes the seats have made together, if all are back in their places.
+fn made_by(seats: &[Seat<Manual>], count: u16) -> Option<usize> {
+    if seats.len() != usize::from(count) {
+        return None;
+    }
     let mut made = 0usize;
     for (place, seat) in seats.iter().enumerate() {
-        same(&usize::from(seat.number()), &place, &"the seat's place")?;
+        if usize::from(seat.number()) != place {
+            return None;
+        }
         made = made.saturating_add(seat.made() as usize);
     }
-    Ok(made)
+    Some(made)
+}
+
+/// How many entries the journal has, if no seat is missing.
+fn entries_in(hall: Hall<Manual>, seats: Vec<Seat<Manual>>) -> Option<usize>
+    requires { All (IsOf hall) seats.items }
+{
+    match hall.close(seats) {
+        Ok(closed) => Some(closed.desk.journal().len()),
+        Err(_) => None,
+    }
 }
 
 /// The journal has the two registrations and the orders that were made: as many as a report tells, and none where nothing began.
 fn expect_entries(hall: Hall<Manual>, found: Found, count: u16, has_begun: bool) -> Result<(), Fail>
     requires { MatchResult found (λ report. All (IsOf hall) report.seats.items) (λ fault. All (IsOf hall) fault.seats.items) }
 {
-    let (seats, told) = match found {
-        Ok(report) => (report.seats, Some(made_in_all(&report.orders)?)),
-        Err(fault) if has_begun => (fault.seats, None),
-        Err(fault) => (fault.seats, Some(0)),
+    let (seats, told, is_told) = match found {
+        Ok(report) => (report.seats, made_in_all(&report.orders), true),
+        Err(fault) => (fault.seats, Some(0), !has_begun),
     };
-    let made = made_by(&seats, count)?;
-    if let Some(told) = told {
-        same(&made, &told.saturating_add(2), &"orders")?;
+    let made = made_by(&seats, count);
+    let entries = entries_in(hall, seats);
+    same(&made.is_some(), &true, &"all seats are in their places")?;
+    if is_told {
+        let all = told.map(|told| told.saturating_add(2));
+        same(&made, &all, &"orders")?;
     }
-    let Ok(closed) = hall.close(seats) else {
-        return Err(Fail::new("seats are missing"));
-    };
-    same(&closed.desk.journal().len(), &made, &"entries")
+    same(&entries, &made, &"entries")
 }
 
 /// What a crew answers with so many bytes left, and how many jobs it has opened.
@@ -168,7 +180,7 @@ fn found_with<R: Wait + Threads + Sync>(
         orders,
         &OpenTurnstile,
         trial.workers,
-    )?;
+    );
     drop(filler);
     drop(scarcity);
     Ok((found, opened.load(Ordering::SeqCst) as usize))

@@ -4,7 +4,7 @@ ghost use Rattle.hall.specs.Seats.{IsOf};
 
 use crate::OpenTurnstile;
 use crate::tests::halls::{
-    Wish, expect_results, expect_seats, new_hall, register, reported, serve_notes,
+    Found, Wish, expect_results, expect_seats, new_hall, register, reported, serve_notes,
 };
 use desk_core::{Finding, Refusal, Reply, Setting};
 use hall::{Hall, Seat};
@@ -94,10 +94,18 @@ fn hall_for<R: Wait>(
     Ok((hall, seats))
 }
 
-fn serve_orders<R: Wait + Threads + Sync>(rt: &R, alloc: Global, case: &Case) -> Result<(), Fail> {
+fn serve_case<R: Wait + Threads + Sync>(
+    rt: &R,
+    alloc: Global,
+    case: &Case,
+) -> Result<(Found, u32), Fail> {
     let (hall, seats) = hall_for(rt, alloc, case)?;
     let (gate, workers) = (OpenTurnstile, case.workers);
-    let (found, _) = serve_notes(rt, alloc, &hall, seats, &[], case.lists, &gate, workers)?;
+    serve_notes(rt, alloc, &hall, seats, &[], case.lists, &gate, workers)
+}
+
+fn serve_orders<R: Wait + Threads + Sync>(rt: &R, alloc: Global, case: &Case) -> Result<(), Fail> {
+    let (found, _) = serve_case(rt, alloc, case)?;
     let report = reported(found)?;
     same(&report.calls.is_empty(), &true, &"calls")?;
     expect_results(&report.orders, case.results)?;

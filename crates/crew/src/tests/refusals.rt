@@ -1,4 +1,4 @@
-use crate::tests::halls::{Wish, expect_seats, new_hall, serve_notes};
+use crate::tests::halls::{Found, Wish, expect_seats, new_hall, serve_notes};
 use crate::{CrewWhy, OpenTurnstile};
 use std::alloc::Global;
 use std::sync::Wait;
@@ -17,24 +17,27 @@ const REFUSED: [(u16, &[&[Wish]], &[u64], CrewWhy); 6] = [
     (u16::MAX, &[], &[0, 0, 0, 0], CrewWhy::NoSeats),
 ];
 
+/// What a crew tells that cannot begin, and how many jobs it has opened.
 fn refuse<R: Wait + Threads + Sync>(
     rt: &R,
     alloc: Global,
     workers: u16,
     wishes: &[&[Wish]],
-    made: &[u64],
-    why: CrewWhy,
-) -> Result<(), Fail> {
-    let (hall, seats) = new_hall(alloc, 100, u16::try_from(made.len())?)?;
+    seats: u16,
+) -> Result<(Found, u32), Fail> {
+    let (hall, seats) = new_hall(alloc, 100, seats)?;
     let requests = [Some(CHECK_OF_EMPTY), None];
     let gate = OpenTurnstile;
-    let (found, opened) = serve_notes(rt, alloc, &hall, seats, &requests, wishes, &gate, workers)?;
+    serve_notes(rt, alloc, &hall, seats, &requests, wishes, &gate, workers)
+}
+
+/// There is no report for this reason, and the seats have made so many changes.
+fn expect_fault(found: &Found, why: CrewWhy, made: &[u64]) -> Result<(), Fail> {
     let Err(fault) = found else {
         return Err(Fail::new("a report"));
     };
     same(&fault.why, &why, &made)?;
-    expect_seats(&fault.seats, made)?;
-    same(&opened, &0, &why)
+    expect_seats(&fault.seats, made)
 }
 
 #[test]
@@ -42,7 +45,10 @@ fn a_crew_that_cannot_begin_opens_nothing_and_gives_all_seats_back(
     rt: HostRuntime,
 ) -> Result<(), Fail> {
     for (workers, wishes, made, why) in REFUSED {
-        refuse(&rt, rt.alloc(), workers, wishes, made, why)?;
+        let seats = u16::try_from(made.len())?;
+        let (found, opened) = refuse(&rt, rt.alloc(), workers, wishes, seats)?;
+        same(&opened, &0, &why)?;
+        expect_fault(&found, why, made)?;
     }
     Ok(())
 }

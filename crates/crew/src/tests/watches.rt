@@ -1,4 +1,5 @@
-ghost use Rattle.std.specs.Prelude.{◌<◌, OnOk};
+ghost use Rattle.std.specs.Prelude.{◌<◌, IfOk, OnOk};
+ghost use Rattle.std.specs.List.{All};
 ghost use Rattle.hall.specs.Seats.{IsOf};
 
 use crate::tests::halls::{
@@ -31,6 +32,19 @@ fn is_told(calls: &[CallEnd], written: &[u8]) -> bool {
     })
 }
 
+/// A hall with two seats, the last of which has registered `a`, which is up.
+fn hall_of_a<R: Wait>(
+    rt: &R,
+    alloc: Global,
+    max_entries: u32,
+) -> Result<(Hall<Manual>, Vec<Seat<Manual>>), Fail>
+    ensures { IfOk result (λ made. All (IsOf made.0) made.1.items) }
+{
+    let (hall, seats) = new_hall(alloc, max_entries, 2)?;
+    let seats = register(rt, &hall, seats, "a")?;
+    Ok((hall, seats))
+}
+
 /// Watches `a` while these orders are made, with at most so many Looks, and gives what was written.
 fn watch_beside_orders<R: Wait + Threads + Sync>(
     rt: &R,
@@ -39,12 +53,11 @@ fn watch_beside_orders<R: Wait + Threads + Sync>(
     looks: u32,
     written: &mut Vec<u8>,
 ) -> Result<Report<Manual>, Fail> {
-    let (hall, seats) = new_hall(alloc, 10_000, 2)?;
-    let seats = register(rt, &hall, seats, "a")?;
     let opened = AtomicU32::new(0);
     let mut jobs = Vec::new(alloc);
     jobs.push(Letter::new(Some((WATCH_OF_A, written)), &opened))?;
     let orders = lists(alloc, &[wishes])?;
+    let (hall, seats) = hall_of_a(rt, alloc, 10_000)?;
     reported(serve_within(
         rt,
         alloc,
@@ -55,7 +68,7 @@ fn watch_beside_orders<R: Wait + Threads + Sync>(
         &OpenTurnstile,
         1,
         looks,
-    )?)
+    ))
 }
 
 // `serve_all_always_lost`, a crew that tells that all calls were lost, or that they were answered, and opens no job, has no such
@@ -201,8 +214,7 @@ fn ask_another_seat<R: Wait>(
     request: &[u8],
     written: &mut Vec<u8>,
 ) -> Result<Outcome, Fail> {
-    let (hall, seats) = new_hall(alloc, 100, 2)?;
-    let seats = register(rt, &hall, seats, "a")?;
+    let (hall, seats) = hall_of_a(rt, alloc, 100)?;
     let (mut setting, mut looking) = last_two(&hall, seats)?;
     begin_down(rt, &hall, &mut setting, is_down)?;
     let ended = answer(
