@@ -40,7 +40,7 @@ where
         };
         Ok(probe)
     };
-    let figures = Figures::of(serve_clients(rt, alloc, &script, &make, load)?)?;
+    let figures = Figures::of(serve_clients(rt, alloc, script, &make, load)?)?;
     print!(rt;
         "clients {}: {} requests a second,",
         load.clients, figures.per_second

@@ -1,5 +1,3 @@
-ghost use Rattle.std.specs.List.{All};
-ghost use Rattle.hall.specs.Seats.{IsOf};
 ghost use Rattle.probe_core.specs.Made.{MakesAsked};
 
 use crate::clients::{Asked, ask_all};
@@ -27,7 +25,7 @@ const SEATS: u16 = 5;
 pub fn serve_clients<R, P: Probe + Send, F: Fn(Rule) -> Result<P, AllocError>>(
     rt: &R,
     alloc: Global,
-    script: &Script,
+    script: Script,
     make: &F,
     load: Load,
 ) -> Option<Asked>
@@ -41,9 +39,7 @@ where
     let made = hall_of(rt, alloc, script, make, SEATS).ok()?;
     let (answered, asked) = thread::join(
         rt,
-        move || -> Option<usize>
-            requires { All (IsOf made.hall) made.seats.items }
-        { serve_checks(rt, alloc, made, listener, load.connections) },
+        move || -> Option<usize> { serve_checks(rt, alloc, made, listener, load.connections) },
         move || ask_all(rt, alloc, port, load),
     );
     if answered == Some(load.connections as usize) {
@@ -63,19 +59,12 @@ fn serve_checks<R, P: Probe + Send>(
 ) -> Option<usize>
 where
     R: Wait + Threads + Sync,
-    requires { All (IsOf made.hall) made.seats.items }
 {
-    let SetUpHall {
-        hall,
-        seats,
-        results: _,
-    } = made;
     let capacity = Capacity {
         workers: WORKERS,
         calls: connections,
     };
-    let orders = Vec::new(alloc);
-    let served = serve(rt, alloc, hall, seats, orders, &listener, capacity).ok()?;
+    let served = serve(rt, alloc, made, &listener, capacity).ok()?;
     let answered = CallEnd::Done(Outcome::Status(Code::Ok));
     Some(served.calls.iter().filter(|end| **end == answered).count())
 }

@@ -1,86 +1,49 @@
 -- How changes come out that a seat is asked for: each of the hall's answers, and lists that grow at their end.
 use Rattle.std.proofs.Common.{◌≡◌, ℕ, zero, suc, ◌+◌, ◌≤◌, ◌<◌, get_or, List, [], ◌∷◌, ◌++◌, map, length, take, sym, refl, ap, subst, ◌∙◌, arith, length-append}
-use Rattle.std.specs.Prelude.{Bool, true, false, Option, Some, None, Result, Ok, Err, IfOk, IfErr, OnErr}
+use Rattle.std.specs.Prelude.{Option, Some, None, Result, Ok, Err}
 use Rattle.std.specs.List.{slice_get}
 use Rattle.std.specs.Option.{option_map}
 use Rattle.std.proofs.lemmas.Option.{slice_get-map, slice_get-get_or}
-use Rattle.std.proofs.lemmas.Bool.{false≢true}
 use Rattle.std.proofs.lemmas.List.{append_assoc, reverse-append, take_all, length-map}
 use Rattle.desk_core.specs.declared.call.Call.{Call}
 use Rattle.desk_core.specs.declared.entry.Entry.{Entry}
 use Rattle.desk_core.specs.declared.refusal.Refusal.{Refusal}
 use Rattle.desk_core.specs.declared.refusal.Refusal.TheVariants as refusals
 use Rattle.desk_core.specs.declared.reply.Reply.{Reply}
-use Rattle.desk_core.specs.Catalogue.{slot_of}
-use Rattle.desk_core.specs.Legal.{IsLawfulCall}
-use Rattle.desk_core.specs.Order.{call_at}
+use Rattle.desk_core.specs.Mutation.{IsAnswered, Taken, NotListed, BadRule, Full, NoMemory, AreAnswered, Ends, Then, entry_of}
 use Rattle.desk_core.specs.Past.{past}
+use Rattle.desk_core.specs.Seats.{calls_by}
 use Rattle.desk_core.specs.Watch.{IsOlder}
-use Rattle.hall.specs.Seats.{HallState, SeatState, IsOf, GoesOn, Makes, MakesAt, IsOutOfRoom, IsRefusedFor, own_calls, with_seen}
-use Rattle.crew.specs.Errand.{IsCarriedOut, NotListed, BadRule, Taken, Full, NoMemory, AreCarriedOut, Ends, Then, HasCarriedOut, replied}
+use Rattle.hall.specs.Seats.{HallState, SeatState, IsOf, IsCarriedOut, own_calls, with_seen}
+use Rattle.hall.proofs.Views.{own_call}
+use Rattle.crew.specs.declared.door.HallDoor.{HallDoor}
+use Rattle.crew.specs.HallDoor.{door_seat, CarriesOut}
+use Rattle.crew.specs.CarriedOut.{HasCarriedOut, replied}
 use Rattle.crew.specs.Looking.{HasLooked}
 use Rattle.crew.proofs.LookingLemmas.{older_on}
 use Rattle.crew.proofs.Soundness.{take_with}
 
--- a seat that made no change has looked
-kept_looked : (old new : SeatState) → GoesOn old new → own_calls new ≡ own_calls old → HasLooked old new
-kept_looked old new on own = record { same = on.same; begins = on.begins; own = own }
-
--- a change of a service, whose rule may be unlawful
-pub met_lawful : (names : List (List ℕ)) (call : ℕ → Call) (lawful : ℕ → Bool) (name : List ℕ) (old new : SeatState) (result : Result Reply Refusal)
-    → ((slot : ℕ) → lawful slot ≡ true → IsLawfulCall (call slot)) → ((slot : ℕ) → lawful slot ≡ false → ¬ IsLawfulCall (call slot)) → GoesOn old new → IfOk result (λ reply. MakesAt names name call old new reply)
-    → IfErr result (λ refusal. IsRefusedFor (slot_of names name) lawful old new refusal)
-    → OnErr result (own_calls new ≡ own_calls old) → IsCarriedOut old new (call_at names call name) result
-met_lawful names call lawful name old new (Ok reply) is_lawful unlawful on made refused kept = rw made.listed (Taken (call made.slot) reply on made.makes)
-met_lawful names call lawful name old new (Err refusals.NotListed) is_lawful unlawful on made refused kept = rw refused.0 (NotListed refused.1)
-met_lawful names call lawful name old new (Err refusals.BadRule) is_lawful unlawful on made refused kept =
-    rw refused.1 (BadRule (call refused.0) (unlawful refused.0 refused.2) (kept_looked old new on kept))
-met_lawful names call lawful name old new (Err refusals.Full) is_lawful unlawful on made refused kept =
-    rw refused.1 (Full (call refused.0) (is_lawful refused.0 refused.2) refused.3 (kept_looked old new on kept))
-met_lawful names call lawful name old new (Err refusals.NoMemory) is_lawful unlawful on made refused kept =
-    rw refused.1 (NoMemory (call refused.0) (is_lawful refused.0 refused.2) refused.3 (kept_looked old new on kept))
-
--- a change of a service without a rule
-pub met_at : (names : List (List ℕ)) (call : ℕ → Call) (name : List ℕ) (old new : SeatState) (result : Result Reply Refusal)
-    → ((slot : ℕ) → IsLawfulCall (call slot)) → GoesOn old new → IfOk result (λ reply. MakesAt names name call old new reply)
-    → IfErr result (λ refusal. IsRefusedFor (slot_of names name) (λ slot. true) old new refusal)
-    → OnErr result (own_calls new ≡ own_calls old) → IsCarriedOut old new (call_at names call name) result
-met_at names call name old new result all =
-    met_lawful names call (λ slot. true) name old new result (λ slot yes. all slot) (λ slot no. absurd (false≢true (sym no)))
-
--- a change of all services
-pub met_by_all : (call : Call) (old new : SeatState) (result : Result Reply Refusal) → IsLawfulCall call → GoesOn old new
-    → IfOk result (λ reply. Makes old new call reply) → IfErr result (λ refusal. IsOutOfRoom new refusal)
-    → OnErr result (own_calls new ≡ own_calls old) → IsCarriedOut old new (Some call) result
-met_by_all call old new (Ok reply) all on made refused kept = Taken call reply on made
-met_by_all call old new (Err refusals.NotListed) all on made refused kept = absurd refused
-met_by_all call old new (Err refusals.BadRule) all on made refused kept = absurd refused
-met_by_all call old new (Err refusals.Full) all on made refused kept = Full call all refused (kept_looked old new on kept)
-met_by_all call old new (Err refusals.NoMemory) all on made refused kept = NoMemory call all refused (kept_looked old new on kept)
-
 -- one change more
 pub meets_more : (old between new : SeatState) (calls : List (Option Call)) (results : List (Result Reply Refusal)) (call : Option Call) (result : Result Reply Refusal)
-    → AreCarriedOut old between calls results → IsCarriedOut between new call result → AreCarriedOut old new (calls ++ call ∷ []) (results ++ result ∷ [])
+    → AreAnswered IsCarriedOut old between calls results → IsCarriedOut between new call result → AreAnswered IsCarriedOut old new (calls ++ call ∷ []) (results ++ result ∷ [])
 meets_more old between new calls results call result (Ends seat) met = Then _ _ _ _ _ _ _ met (Ends new)
 meets_more old between new calls results call result (Then old' first between' call' result' calls' results' met' rest) met =
     Then old first new call' result' _ _ met' (meets_more first between new calls' results' call result rest met)
 
--- the seat stays the hall's, by its number
-pub met_same : (old new : SeatState) (call : Option Call) (result : Result Reply Refusal) → IsCarriedOut old new call result → new ≡ with_seen old new.seen
-met_same old new call result (Taken made reply on makes) = on.same
-met_same old new call result (NotListed same) = same ∙ ap (λ (seat : SeatState). with_seen old seat.seen) (sym same)
-met_same old new call result (BadRule asks unlawful looked) = looked.same
-met_same old new call result (Full asks lawful full looked) = looked.same
-met_same old new call result (NoMemory asks lawful room looked) = looked.same
+-- a seat's own entries in a history after a change
+answered_own : (most seat : ℕ) (before after : List Entry) (call : Option Call) (result : Result Reply Refusal) → IsAnswered most seat before after call result
+    → calls_by after seat ≡ past (replied seat (call ∷ []) (result ∷ [])) ++ calls_by before seat
+answered_own most seat before after _ _ (Taken call reply lawful room reply_is is) = ap (λ es. calls_by es seat) is ∙ own_call (entry_of seat call reply) before seat refl
+answered_own most seat before after _ _ (NotListed same) = ap (λ es. calls_by es seat) same
+answered_own most seat before after _ _ (BadRule call unlawful same) = ap (λ es. calls_by es seat) same
+answered_own most seat before after _ _ (Full call lawful full same) = ap (λ es. calls_by es seat) same
+answered_own most seat before after _ _ (NoMemory call lawful room same) = ap (λ es. calls_by es seat) same
 
--- a seat's own entries after a change
 met_own : (old new : SeatState) (call : Option Call) (result : Result Reply Refusal) → IsCarriedOut old new call result
     → own_calls new ≡ past (replied old.number (call ∷ []) (result ∷ [])) ++ own_calls old
-met_own old new call result (Taken made reply on makes) = makes.own
-met_own old new call result (NotListed same) = ap own_calls same
-met_own old new call result (BadRule asks unlawful looked) = looked.own
-met_own old new call result (Full asks lawful full looked) = looked.own
-met_own old new call result (NoMemory asks lawful room looked) = looked.own
+met_own old new call result met =
+    ap (λ (seat : SeatState). calls_by new.seen seat.number) met.same
+    ∙ (answered_own old.most old.number met.before new.seen call result met.answer ∙ ap (λ es. past (replied old.number (call ∷ []) (result ∷ [])) ++ es) met.own)
 
 -- the first change's entry stands before those of the others
 replied_first : (seat : ℕ) (call : Option Call) (result : Result Reply Refusal) (calls : List (Option Call)) (results : List (Result Reply Refusal))
@@ -91,18 +54,18 @@ replied_first seat (Some call) (Err refusal) calls results = refl
 replied_first seat None (Err refusal) calls results = refl
 
 -- the seat that met changes is the same, but for what it has seen
-pub are_same : (old new : SeatState) (calls : List (Option Call)) (results : List (Result Reply Refusal)) → AreCarriedOut old new calls results
+pub are_same : (old new : SeatState) (calls : List (Option Call)) (results : List (Result Reply Refusal)) → AreAnswered IsCarriedOut old new calls results
     → new ≡ with_seen old new.seen
 are_same old new calls results (Ends seat) = refl
 are_same old new calls results (Then old' between new' call result calls' results' met rest) =
-    are_same between new calls' results' rest ∙ ap (λ (seat : SeatState). with_seen seat new.seen) (met_same old between call result met)
+    are_same between new calls' results' rest ∙ ap (λ (seat : SeatState). with_seen seat new.seen) met.same
 
 -- a seat's own entries after changes
-pub are_own : (old new : SeatState) (calls : List (Option Call)) (results : List (Result Reply Refusal)) → AreCarriedOut old new calls results
+pub are_own : (old new : SeatState) (calls : List (Option Call)) (results : List (Result Reply Refusal)) → AreAnswered IsCarriedOut old new calls results
     → own_calls new ≡ past (replied old.number calls results) ++ own_calls old
 are_own old new calls results (Ends seat) = refl
 are_own old new calls results (Then old' between new' call result calls' results' met rest) =
-    let number : between.number ≡ old.number = ap (λ (seat : SeatState). seat.number) (met_same old between call result met) in
+    let number : between.number ≡ old.number = ap (λ (seat : SeatState). seat.number) met.same in
     let here : List Entry = replied old.number (call ∷ []) (result ∷ []) in
     let there : List Entry = replied old.number calls' results' in
     are_own between new calls' results' rest
@@ -111,29 +74,38 @@ are_own old new calls results (Then old' between new' call result calls' results
     ∙ (sym (append_assoc (past there) (past here) (own_calls old))
     ∙ ap (λ es. es ++ own_calls old) (sym (ap past (replied_first old.number call result calls' results') ∙ reverse-append here there)))))
 
--- what it had seen begins what it has seen
-met_begins : (old new : SeatState) (call : Option Call) (result : Result Reply Refusal) → IsCarriedOut old new call result → IsOlder old.seen new.seen
-met_begins old new call result (Taken made reply on makes) = on.begins
-met_begins old new call result (NotListed same) = record { newer = []; is = ap (λ (seat : SeatState). seat.seen) same }
-met_begins old new call result (BadRule asks unlawful looked) = looked.begins
-met_begins old new call result (Full asks lawful full looked) = looked.begins
-met_begins old new call result (NoMemory asks lawful room looked) = looked.begins
+-- what a seat had seen begins what it has seen
+answered_begins : (most seat : ℕ) (before after : List Entry) (call : Option Call) (result : Result Reply Refusal) → IsAnswered most seat before after call result → IsOlder before after
+answered_begins most seat before after _ _ (Taken call reply lawful room reply_is is) = record { newer = entry_of seat call reply ∷ []; is = is }
+answered_begins most seat before after _ _ (NotListed same) = record { newer = []; is = same }
+answered_begins most seat before after _ _ (BadRule call unlawful same) = record { newer = []; is = same }
+answered_begins most seat before after _ _ (Full call lawful full same) = record { newer = []; is = same }
+answered_begins most seat before after _ _ (NoMemory call lawful room same) = record { newer = []; is = same }
 
-are_begun : (old new : SeatState) (calls : List (Option Call)) (results : List (Result Reply Refusal)) → AreCarriedOut old new calls results → IsOlder old.seen new.seen
+met_begins : (old new : SeatState) (call : Option Call) (result : Result Reply Refusal) → IsCarriedOut old new call result → IsOlder old.seen new.seen
+met_begins old new call result met = older_on old.seen met.before new.seen met.begins (answered_begins old.most old.number met.before new.seen call result met.answer)
+
+are_begun : (old new : SeatState) (calls : List (Option Call)) (results : List (Result Reply Refusal)) → AreAnswered IsCarriedOut old new calls results → IsOlder old.seen new.seen
 are_begun old new calls results (Ends seat) = record { newer = []; is = refl }
 are_begun old new calls results (Then old' between new' call result calls' results' met rest) =
     older_on old.seen between.seen new.seen (met_begins old between call result met) (are_begun between new calls' results' rest)
 
 -- a change that finds the journal full
+answered_full : (most seat : ℕ) (before after : List Entry) (call : Option Call) (result : Result Reply Refusal) → IsAnswered most seat before after call result
+    → result ≡ Err refusals.Full → most ≤ length after
+answered_full most seat before after _ _ (Taken call reply lawful room reply_is is_after) is = let no : ⊥ = cc in absurd no
+answered_full most seat before after _ _ (NotListed same) is = let no : ⊥ = cc in absurd no
+answered_full most seat before after _ _ (BadRule call unlawful same) is = let no : ⊥ = cc in absurd no
+answered_full most seat before after _ _ (Full call lawful full same) is = omega (arith, full, ap length same)
+answered_full most seat before after _ _ (NoMemory call lawful room same) is = let no : ⊥ = cc in absurd no
+
 one_full : (old new : SeatState) (call : Option Call) (result : Result Reply Refusal) → IsCarriedOut old new call result → result ≡ Err refusals.Full → new.most ≤ length new.seen
-one_full old new call result (Taken made reply on makes) is = let no : ⊥ = cc in absurd no
-one_full old new call result (NotListed same) is = let no : ⊥ = cc in absurd no
-one_full old new call result (BadRule asks unlawful looked) is = let no : ⊥ = cc in absurd no
-one_full old new call result (Full asks lawful full looked) is = omega (arith, full)
-one_full old new call result (NoMemory asks lawful room looked) is = let no : ⊥ = cc in absurd no
+one_full old new call result met is =
+    let most : new.most ≡ old.most = ap (λ (seat : SeatState). seat.most) met.same in
+    omega (arith, most, answered_full old.most old.number met.before new.seen call result met.answer is)
 
 -- a full journal stays full
-full_stays : (old new : SeatState) (calls : List (Option Call)) (results : List (Result Reply Refusal)) → AreCarriedOut old new calls results
+full_stays : (old new : SeatState) (calls : List (Option Call)) (results : List (Result Reply Refusal)) → AreAnswered IsCarriedOut old new calls results
     → (place : ℕ) → place < length results → get_or results place (Err refusals.Full) ≡ Err refusals.Full → new.most ≤ length new.seen
 full_stays old new calls results (Ends seat) place below is = absurd (omega (arith, below))
 full_stays old new calls results (Then old' between new' call result calls' results' met rest) zero below is =
@@ -144,7 +116,7 @@ full_stays old new calls results (Then old' between new' call result calls' resu
     full_stays between new calls' results' rest place (omega (arith, below)) is
 
 -- a seat after changes
-pub has_met : (old new : SeatState) (calls : List (Option Call)) (results : List (Result Reply Refusal)) → AreCarriedOut old new calls results → HasCarriedOut old new calls results
+pub has_met : (old new : SeatState) (calls : List (Option Call)) (results : List (Result Reply Refusal)) → AreAnswered IsCarriedOut old new calls results → HasCarriedOut old new calls results
 has_met old new calls results met = record {
   done = met;
   same = are_same old new calls results met;
@@ -155,7 +127,7 @@ has_met old new calls results met = record {
 
 -- the part of a run that is done: so many of the changes are met, each with its result
 pub record IsUnderWay (calls : List (Option Call)) (old now : SeatState) (count : ℕ) (results : List (Result Reply Refusal)) : Type 0 where
-  pub met : AreCarriedOut old now (take count calls) results
+  pub met : AreAnswered IsCarriedOut old now (take count calls) results
   pub len : length results ≡ count
 
 pub under_way_more : (calls : List (Option Call)) (old now new : SeatState) (count : ℕ) (call : Option Call) (results more : List (Result Reply Refusal)) (result : Result Reply Refusal)
@@ -179,7 +151,7 @@ pub run_done : {X : Type 0} (f : X → Option Call) (orders : List X) (old new :
     → length orders ≤ count → HasCarriedOut old new (map f orders) results
 run_done f orders old new count results way all =
     let long : length (map f orders) ≤ count = omega (arith, length-map orders f, all) in
-    has_met old new (map f orders) results (subst (λ cs. AreCarriedOut old new cs results) (take_all count (map f orders) long) way.met)
+    has_met old new (map f orders) results (subst (λ cs. AreAnswered IsCarriedOut old new cs results) (take_all count (map f orders) long) way.met)
 
 -- a run that begins
 pub run_begins : (calls : List (Option Call)) (seat : SeatState) (results : List (Result Reply Refusal)) → results ≡ [] → IsUnderWay calls seat seat 0 results
@@ -188,7 +160,7 @@ run_begins calls seat results none = rw none (record { met = Ends seat; len = re
 -- the seat is the hall's after a change too
 pub met_ours : (hall : HallState) (old new : SeatState) (call : Option Call) (result : Result Reply Refusal) → IsOf hall old → IsCarriedOut old new call result → IsOf hall new
 met_ours hall old new call result ours met =
-    let same : new ≡ with_seen old new.seen = met_same old new call result met in
+    let same : new ≡ with_seen old new.seen = met.same in
     record { table = ap (λ (s : SeatState). s.table) same ∙ ours.table; most = ap (λ (s : SeatState). s.most) same ∙ ours.most }
 
 -- a seat that looked or met changes stays the hall's
@@ -196,8 +168,22 @@ pub looked_ours : (hall : HallState) (old new : SeatState) → IsOf hall old →
 looked_ours hall old new ours looked =
     record { table = ap (λ (s : SeatState). s.table) looked.same ∙ ours.table; most = ap (λ (s : SeatState). s.most) looked.same ∙ ours.most }
 
-pub are_ours : (hall : HallState) (old new : SeatState) (calls : List (Option Call)) (results : List (Result Reply Refusal)) → IsOf hall old → AreCarriedOut old new calls results
+pub are_ours : (hall : HallState) (old new : SeatState) (calls : List (Option Call)) (results : List (Result Reply Refusal)) → IsOf hall old → AreAnswered IsCarriedOut old new calls results
     → IsOf hall new
 are_ours hall old new calls results ours met =
     let same : new ≡ with_seen old new.seen = are_same old new calls results met in
     record { table = ap (λ (s : SeatState). s.table) same ∙ ours.table; most = ap (λ (s : SeatState). s.most) same ∙ ours.most }
+
+-- what a door is asked for, its seat is
+pub by_door : {R P : Type 0} (old new : HallDoor R P) (calls : List (Option Call)) (results : List (Result Reply Refusal)) → AreAnswered CarriesOut old new calls results
+    → AreAnswered IsCarriedOut (door_seat old) (door_seat new) calls results
+by_door old new calls results (Ends door) = Ends (door_seat door)
+by_door old new calls results (Then old' between new' call result calls' results' one rest) =
+    Then (door_seat old) (door_seat between) (door_seat new) call result calls' results' one.carried (by_door between new calls' results' rest)
+
+-- and it stays the seat that the door was lent
+pub same_reference : {R P : Type 0} (old new : HallDoor R P) (calls : List (Option Call)) (results : List (Result Reply Refusal)) → AreAnswered CarriesOut old new calls results
+    → new.seat.ghost_name ≡ old.seat.ghost_name
+same_reference old new calls results (Ends door) = refl
+same_reference old new calls results (Then old' between new' call result calls' results' one rest) =
+    same_reference between new calls' results' rest ∙ one.reference

@@ -1,6 +1,6 @@
 -- The seats of a crew before and after it has served: the workers', the lists' and the others, one list behind the other.
 use Rattle.std.proofs.Common.{◌≡◌, ℕ, suc, ◌+◌, ◌-◌, ◌<◌, ◌≤◌, List, [], ◌∷◌, ◌++◌, map, length, get_or, sym, refl, ap, subst, ◌∙◌, arith, length-append, ⊎_elim}
-use Rattle.std.specs.Prelude.{Vec, vec_len, Result, Ok, Err, Option, is_ok, cond}
+use Rattle.std.specs.Prelude.{Vec, vec_len, Result, Option, is_ok, cond}
 use Rattle.std.specs.Global.{Global}
 use Rattle.std.specs.List.{All, sum_by, count_by}
 use Rattle.std.specs.Vec.Iter.{into_iter_items}
@@ -13,17 +13,17 @@ use Rattle.desk_core.specs.declared.call.Call.{Call}
 use Rattle.desk_core.specs.declared.entry.Entry.{Entry}
 use Rattle.desk_core.specs.declared.order.Order.{Order}
 use Rattle.desk_core.specs.declared.refusal.Refusal.{Refusal}
-use Rattle.desk_core.specs.declared.refusal.Refusal.TheVariants as refusals
 use Rattle.desk_core.specs.declared.reply.Reply.{Reply}
 use Rattle.desk_core.specs.Order.{ordered}
 use Rattle.desk_core.specs.Past.{past}
-use Rattle.hall.specs.Seats.{HallState, SeatState, IsOf, own_calls}
+use Rattle.hall.specs.Seats.{HallState, SeatState, IsOf, IsCarriedOut, own_calls}
 use Rattle.crew.specs.declared.command_run.Commands.{Commands}
 use Rattle.crew.specs.declared.command_run.CommandRun.{CommandRun}
 use Rattle.crew.specs.declared.staff.Staff.{Staff}
 use Rattle.crew.specs.declared.worker.Worker.{Worker}
 use Rattle.crew.specs.CommandRun.{HaveRun, IsEquipped, IsReady}
-use Rattle.crew.specs.Errand.{Taken, NotListed, BadRule, Full, NoMemory, AreCarriedOut, Ends, Then, HasCarriedOut, replied}
+use Rattle.desk_core.specs.Mutation.{IsAnswered, Taken, NotListed, BadRule, Full, NoMemory, AreAnswered, Ends, Then}
+use Rattle.crew.specs.CarriedOut.{HasCarriedOut, replied}
 use Rattle.crew.specs.Looking.{HasLooked}
 use Rattle.crew.specs.Serve.{HasServed, lists_in}
 use Rattle.crew.specs.Staff.{IsEmptyFor, IsStaffOf, orders_of, seats_of}
@@ -34,20 +34,25 @@ use Rattle.crew.proofs.CarryingOut.{are_ours, looked_ours}
 abbrev made : SeatState → ℕ
 made seat = length (own_calls seat)
 
--- each change with a reply has one entry
-replies : (n : ℕ) (old new : SeatState) (calls : List (Option Call)) (results : List (Result Reply Refusal)) → AreCarriedOut old new calls results
+-- a change with a reply has one entry
+replied_one : (n most seat : ℕ) (before after : List Entry) (call : Option Call) (result : Result Reply Refusal) (calls : List (Option Call)) (results : List (Result Reply Refusal))
+    → IsAnswered most seat before after call result → length (replied n (call ∷ calls) (result ∷ results)) ≡ (cond (is_ok result) 1 0) + length (replied n calls results)
+replied_one n most seat before after _ _ calls results (Taken call reply lawful room reply_is is) = omega arith
+replied_one n most seat before after _ _ calls results (NotListed same) = omega arith
+replied_one n most seat before after _ _ calls results (BadRule call unlawful same) = omega arith
+replied_one n most seat before after _ _ calls results (Full call lawful full same) = omega arith
+replied_one n most seat before after _ _ calls results (NoMemory call lawful room same) = omega arith
+
+replies : (n : ℕ) (old new : SeatState) (calls : List (Option Call)) (results : List (Result Reply Refusal)) → AreAnswered IsCarriedOut old new calls results
     → length (replied n calls results) ≡ count_by is_ok results
 replies n old new calls results (Ends seat) = refl
-replies n old new calls results (Then old' between new' call result calls' results' (Taken call' reply on makes) rest) =
-    omega (arith, sum_by-cons (λ (one : Result Reply Refusal). cond (is_ok one) 1 0) (Ok reply) results', replies n between new calls' results' rest)
-replies n old new calls results (Then old' between new' call result calls' results' (NotListed same) rest) =
-    omega (arith, sum_by-cons (λ (one : Result Reply Refusal). cond (is_ok one) 1 0) (Err refusals.NotListed) results', replies n between new calls' results' rest)
-replies n old new calls results (Then old' between new' call result calls' results' (BadRule asks unlawful looked) rest) =
-    omega (arith, sum_by-cons (λ (one : Result Reply Refusal). cond (is_ok one) 1 0) (Err refusals.BadRule) results', replies n between new calls' results' rest)
-replies n old new calls results (Then old' between new' call result calls' results' (Full asks lawful full looked) rest) =
-    omega (arith, sum_by-cons (λ (one : Result Reply Refusal). cond (is_ok one) 1 0) (Err refusals.Full) results', replies n between new calls' results' rest)
-replies n old new calls results (Then old' between new' call result calls' results' (NoMemory asks lawful room looked) rest) =
-    omega (arith, sum_by-cons (λ (one : Result Reply Refusal). cond (is_ok one) 1 0) (Err refusals.NoMemory) results', replies n between new calls' results' rest)
+replies n old new calls results (Then old' between new' call result calls' results' met rest) =
+    omega (
+      arith,
+      sum_by-cons (λ (one : Result Reply Refusal). cond (is_ok one) 1 0) result results',
+      replied_one n old.most old.number met.before between.seen call result calls' results' met.answer,
+      replies n between new calls' results' rest,
+    )
 
 -- a seat that met changes has made as many more as got a reply
 made_more : (old new : SeatState) (calls : List (Option Call)) (results : List (Result Reply Refusal)) → HasCarriedOut old new calls results

@@ -1,6 +1,9 @@
 -- A door over a hall: its catalogue, and what its seat has seen.
-use Rattle.std.specs.Prelude.{◌≡◌}
-use Rattle.hall.specs.Seats.{HallState, SeatState}
+use Rattle.std.specs.Prelude.{◌≡◌, Option, Result}
+use Rattle.desk_core.specs.declared.call.Call.{Call}
+use Rattle.desk_core.specs.declared.refusal.Refusal.{Refusal}
+use Rattle.desk_core.specs.declared.reply.Reply.{Reply}
+use Rattle.hall.specs.Seats.{HallState, SeatState, IsCarriedOut}
 use Rattle.crew.specs.declared.door.HallDoor.{HallDoor}
 use Rattle.crew.specs.Looking.{HasLooked}
 
@@ -8,7 +11,7 @@ use Rattle.crew.specs.Looking.{HasLooked}
 abbrev pub door_hall : {R P : Type 0} → HallDoor R P → HallState
 door_hall door = door.hall.now
 
--- the seat that it looks with
+-- the seat that it looks and makes changes with
 abbrev pub door_seat : {R P : Type 0} → HallDoor R P → SeatState
 door_seat door = door.seat.now
 
@@ -17,3 +20,9 @@ pub record StaysAt {R P : Type 0} (old new : HallDoor R P) : Type 0 where
   pub reference : new.seat.ghost_name ≡ old.seat.ghost_name
   pub hall : door_hall new ≡ door_hall old
   pub looked : HasLooked (door_seat old) (door_seat new)
+
+-- the door is over the same hall and the same seat, which was asked for a change
+pub record CarriesOut {R P : Type 0} (old new : HallDoor R P) (call : Option Call) (result : Result Reply Refusal) : Type 0 where
+  pub reference : new.seat.ghost_name ≡ old.seat.ghost_name
+  pub hall : door_hall new ≡ door_hall old
+  pub carried : IsCarriedOut (door_seat old) (door_seat new) call result

@@ -1,6 +1,6 @@
 pub mod CommandRun
 pub mod CrewWhy
-pub mod Errand
+pub mod CarriedOut
 pub mod Gather
 pub mod Noting
 pub mod Ring

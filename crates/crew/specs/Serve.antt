@@ -7,7 +7,7 @@ use Rattle.desk_core.specs.declared.refusal.Refusal.{Refusal}
 use Rattle.desk_core.specs.declared.reply.Reply.{Reply}
 use Rattle.desk_core.specs.Order.{ordered}
 use Rattle.hall.specs.Seats.{SeatState, own_calls}
-use Rattle.crew.specs.Errand.{HasCarriedOut}
+use Rattle.crew.specs.CarriedOut.{HasCarriedOut}
 use Rattle.crew.specs.Looking.{HasLooked}
 
 -- the lists in a vector of vectors

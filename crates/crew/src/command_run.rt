@@ -1,9 +1,9 @@
 ghost use Rattle.std.specs.List.{All};
 ghost use Rattle.desk_core.specs.Order.{ordered};
-ghost use Rattle.hall.specs.Seats.{IsOf};
+ghost use Rattle.hall.specs.Seats.{IsOf, IsCarriedOut};
 ghost use Rattle.crew.specs.CommandRun.{IsReady, HasRun, HaveRun};
-ghost use Rattle.crew.specs.Errand.{IsCarriedOut};
 
+use crate::door::HallDoor;
 use crate::ring::Ring;
 use desk_core::{Order, Refusal, Reply};
 use hall::{Hall, Seat};
@@ -36,12 +36,8 @@ pub fn carry_out<R: Wait, P: Probe>(
     requires { IsOf hall.now seat.old }
     ensures { IsCarriedOut seat.old seat.new (ordered hall.now.names order.now) result }
 {
-    match order {
-        Order::Observe(name, finding) => hall.observe(rt, seat, name.as_str(), *finding),
-        Order::Set(name, setting) => hall.set(rt, seat, name.as_str(), *setting),
-        Order::Shutdown => hall.shutdown(rt, seat),
-        Order::Resume => hall.resume(rt, seat),
-    }
+    let mut door = HallDoor::new(rt, hall, seat);
+    desk_core::carry_out(&mut door, order)
 }
 
 /// Makes the changes of the orders in their order, and rings after each, also where it was refused.

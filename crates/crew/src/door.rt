@@ -1,13 +1,13 @@
 ghost use Rattle.hall.specs.Seats.{IsOf};
 
-use desk_core::Watch;
+use desk_core::{Call, Catalogue, Refusal, Registrar, Reply, Watch};
 use hall::{Hall, Seat};
 use health_wire::Serving;
 use probe_core::Probe;
 use std::sync::Wait;
 use web_call::Door;
 
-/// A door over a hall: it looks with a seat, which it is lent.
+/// A door over a hall: it looks, and makes changes, with a seat, which it is lent.
 #[derive(Drop)]
 pub struct HallDoor<'a, R: Wait, P: Probe> {
     rt: &'a R,
@@ -21,7 +21,7 @@ impl<'a, R: Wait, P: Probe> HallDoor<'a, R, P> {
     ghost use Rattle.hall.specs.Seats.{IsOf};
     ghost use Rattle.crew.specs.HallDoor.{door_hall, door_seat};
 
-    /// The seat is one of this hall's. A Check waits for nobody; `open` and `step` wait for the seat's turn.
+    /// The seat is one of this hall's. A Check waits for nobody; `open`, `step` and `change` wait for the seat's turn.
     pub fn new(rt: &'a R, hall: &'a Hall<P>, seat: &'a mut Seat<P>) -> HallDoor<'a, R, P>
         requires { IsOf hall.now seat.old }
         ensures reference { result.seat.ghost_name ≡ seat.entry.ghost_name }
@@ -80,6 +80,32 @@ impl<'a, R: Wait, P: Probe> Door for HallDoor<'a, R, P> {
 
     fn step(&mut self, watch: &mut Watch) -> Option<Serving> {
         self.hall.step(self.rt, self.seat, watch)
+    }
+}
+
+impl<'a, R: Wait, P: Probe> Registrar<P> for HallDoor<'a, R, P> {
+    ghost use Rattle.std.specs.Prelude.{◌≡◌, IfSome};
+    ghost use Rattle.std.specs.Option.{option_map};
+    ghost use Rattle.desk_core.specs.Mutation.{rule_of};
+    ghost use Rattle.crew.specs.HallDoor.{door_hall, CarriesOut};
+
+    ghost names = { λ door. (door_hall door).names };
+
+    ghost answers = { CarriesOut };
+
+    fn catalogue(&self) -> &Catalogue {
+        self.hall.catalogue()
+    }
+
+    fn change(&mut self, call: Option<Call>, probe: Option<P>) -> Result<Reply, Refusal>
+        requires ruled { IfSome call (λ c. option_map P.rule probe ≡ rule_of c) }
+        ensures names { (door_hall self.new).names ≡ (door_hall self.old).names }
+        ensures answered { CarriesOut self.old self.new call result }
+    {
+        match self.hall.change(self.rt, self.seat, call, probe) {
+            Ok((reply, _)) => Ok(reply),
+            Err((refusal, _)) => Err(refusal),
+        }
     }
 }
 

@@ -1,5 +1,5 @@
 -- What a desk keeps, before and after an entry.
-use Rattle.std.proofs.Common.{◌≡◌, ◌≢◌, ℕ, zero, suc, ◌^◌, ◌<◌, ◌≤◌, ◌==◌, ◌&&◌, Bool, true, false, if◌then◌else◌, Option, None, Some, unwrap_or, List, [], ◌∷◌, ◌++◌, length, get_or, set, replicate, refl, sym, ap, subst, ◌∙◌, inl, inr, ◌⊎◌, arith, ltb-true}
+use Rattle.std.proofs.Common.{◌≡◌, ◌≢◌, ℕ, zero, suc, ◌^◌, ◌<◌, ◌≤◌, ◌==◌, ◌&&◌, Bool, true, false, if◌then◌else◌, Option, None, Some, unwrap_or, List, [], ◌∷◌, ◌++◌, length, get_or, set, replicate, Ok, Err, refl, sym, ap, subst, ◌∙◌, inl, inr, ◌⊎◌, arith}
 use Rattle.std.specs.Option.{option_map, option_or}
 use Rattle.std.proofs.lemmas.Bool.{eqb-true, eqb-false, eq-eqb, cases_lt}
 use Rattle.std.proofs.lemmas.List.{length-reverse, get_or-set_other}
@@ -8,7 +8,7 @@ use Rattle.health_wire.specs.declared.serving.Serving.{Serving}
 use Rattle.health_wire.specs.declared.serving.Serving.TheVariants.{NotServing, ServiceUnknown, Serving as IsServing}
 use Rattle.probe_core.specs.declared.event.Event.{Event}
 use Rattle.probe_core.specs.declared.rule.Rule.{Rule}
-use Rattle.probe_core.specs.Rule.{is_up_at, relied_on}
+use Rattle.probe_core.specs.Rule.{is_up_at, relied_on, opening_memory}
 use Rattle.probe_core.specs.Events.{all_fit, is_up, memory_after}
 use Rattle.desk_core.specs.declared.call.Call.{Call}
 use Rattle.desk_core.specs.declared.call.Call.TheVariants.{Register, Retire, Observe, Set, Shutdown, Resume}
@@ -18,15 +18,19 @@ use Rattle.desk_core.specs.declared.reply.Reply.{Reply}
 use Rattle.desk_core.specs.declared.reply.Reply.TheVariants.{Done, Replaced, Missing, WrongKind, Ignored}
 use Rattle.desk_core.specs.Past.{past, last_said}
 use Rattle.desk_core.specs.Present.{rule_at, says_rule}
-use Rattle.desk_core.specs.Heard.{heard}
-use Rattle.desk_core.specs.Shut.{is_shut}
+use Rattle.desk_core.specs.Heard.{heard, event_of_finding, event_of_setting}
+use Rattle.desk_core.specs.Shut.{says_shut, is_shut}
+use Rattle.desk_core.specs.Legal.{IsLawfulCall}
+use Rattle.desk_core.specs.declared.refusal.Refusal.TheVariants as refusals
+use Rattle.desk_core.specs.Mutation.{entry_of, Taken, NoMemory}
+use Rattle.desk_core.specs.Reply.{reply_to}
 use Rattle.desk_core.specs.Status.{status_at, status_by, opinion, all_serving, has_slot, serving_if}
 use Rattle.desk_core.specs.Board.{packed, status_in}
 use Rattle.desk_core.specs.Changes.{changed, changes_of, shown_at}
-use Rattle.desk_core.specs.Slots.{covers_below, status_from, shown_in, HasSame}
-use Rattle.desk_core.specs.Cache.{relies_on, rule_in, IsMapOf, LooksBack, HasDependents, Leaves, HasRule}
-use Rattle.desk_core.specs.Desk.{Brings, Keeps, IsDesk, IsShown, probe_at}
-use Rattle.desk_core.proofs.HistoryLemmas.{past_more, rule_of_probe}
+use Rattle.desk_core.specs.Slots.{covers_below, status_from, shown_in, noted, touched, HasSame, IsHeard, IsApplied}
+use Rattle.desk_core.specs.Cache.{relies_on, rule_in, IsMapOf, LooksBack, HasDependents, IsRelated, Leaves, HasRule}
+use Rattle.desk_core.specs.Desk.{State, HasAnswered, Keeps, IsDesk, IsShown, probe_at}
+use Rattle.desk_core.proofs.HistoryLemmas.{past_more, rule_of_probe, keeps_room, keeps_change}
 use Rattle.desk_core.proofs.StatusLemmas.{status_of_probe, lawful_rule, relied_below}
 use Rattle.desk_core.proofs.BoardLemmas.{IsKept, status_in_packed}
 use Rattle.desk_core.proofs.ChangeLemmas.{changed_same}
@@ -107,7 +111,7 @@ turned i slot false at = by_test (slot == i) refl
     by_test false is = refl
 
 -- after an entry the masks say the rules in force, where they say the rule that the entry changed
-pub related_more : (journal new : List Entry) (entry : Entry) (slot : ℕ) (rule : Option Rule) (old dependents : List ℕ)
+related_more : (journal new : List Entry) (entry : Entry) (slot : ℕ) (rule : Option Rule) (old dependents : List ℕ)
     → new ≡ journal ++ entry ∷ [] → ((i : ℕ) → rule_at (entry ∷ past journal) i ≡ (if slot == i then rule else rule_at (past journal) i))
     → HasDependents (rule_at (past journal)) old → HasRule slot rule old dependents → HasDependents (rule_at (past new)) dependents
 related_more journal new entry slot rule old dependents is says related marked i j few below =
@@ -119,14 +123,14 @@ related_more journal new entry slot rule old dependents is says related marked i
     by_slot false at = related i j few below ∙ ap (λ b. relies_on (if b then rule else rule_at (past journal) i) j) (sym (turned i slot false at))
 
 -- an entry that leaves all rules in force leaves the masks
-pub related_same : (journal new : List Entry) (entry : Entry) (dependents : List ℕ)
+related_same : (journal new : List Entry) (entry : Entry) (dependents : List ℕ)
     → new ≡ journal ++ entry ∷ [] → ((i : ℕ) → rule_at (entry ∷ past journal) i ≡ rule_at (past journal) i)
     → HasDependents (rule_at (past journal)) dependents → HasDependents (rule_at (past new)) dependents
 related_same journal new entry dependents is says related i j few below =
     let later : past new ≡ entry ∷ past journal = ap past is ∙ past_more journal entry in
     related i j few below ∙ ap (λ o. relies_on o j) (sym (says i)) ∙ ap (λ entries. relies_on (rule_at entries i) j) (sym later)
 
-pub rule_at-register : (seat slot : ℕ) (rule : Rule) (reply : Reply) (older : List Entry) (i : ℕ)
+rule_at-register : (seat slot : ℕ) (rule : Rule) (reply : Reply) (older : List Entry) (i : ℕ)
     → rule_at (record { seat = seat; call = Register slot rule; reply = reply } ∷ older) i ≡ (if slot == i then Some rule else rule_at older i)
 rule_at-register seat slot rule reply older i = by_test (slot == i)
   where
@@ -134,7 +138,7 @@ rule_at-register seat slot rule reply older i = by_test (slot == i)
     by_test true = refl
     by_test false = refl
 
-pub rule_at-retire : (seat slot : ℕ) (reply : Reply) (older : List Entry) (i : ℕ)
+rule_at-retire : (seat slot : ℕ) (reply : Reply) (older : List Entry) (i : ℕ)
     → rule_at (record { seat = seat; call = Retire slot; reply = reply } ∷ older) i ≡ (if slot == i then None else rule_at older i)
 rule_at-retire seat slot reply older i = by_test (slot == i)
   where
@@ -142,17 +146,8 @@ rule_at-retire seat slot reply older i = by_test (slot == i)
     by_test true = refl
     by_test false = refl
 
-pub rule_at-brings : (seat slot : ℕ) (call : Call) (event : Event) (reply : Reply) (older : List Entry) → Brings call slot event → (i : ℕ)
-    → rule_at (record { seat = seat; call = call; reply = reply } ∷ older) i ≡ rule_at older i
-rule_at-brings seat slot (Observe at finding) event reply older brings i = refl
-rule_at-brings seat slot (Set at setting) event reply older brings i = refl
-rule_at-brings seat slot (Register at rule) event reply older brings i = absurd brings
-rule_at-brings seat slot (Retire at) event reply older brings i = absurd brings
-rule_at-brings seat slot Shutdown event reply older brings i = absurd brings
-rule_at-brings seat slot Resume event reply older brings i = absurd brings
-
 -- a change of one slot leaves the others
-pub leaves_slot : (slot touched : ℕ) (was slots : List (Option (Rule × ℕ))) (shut : Bool) → touched ≡ 2 ^ slot
+leaves_slot : (slot touched : ℕ) (was slots : List (Option (Rule × ℕ))) (shut : Bool) → touched ≡ 2 ^ slot
     → ((i : ℕ) → i ≢ slot → get_or slots i None ≡ get_or was i None) → Leaves touched was shut slots shut
 leaves_slot slot touched was slots shut touched_is others i few unmarked = (others i other, refl)
   where
@@ -163,31 +158,26 @@ leaves_slot slot touched was slots shut touched_is others i few unmarked = (othe
         cc
 
 -- a change of all slots leaves none
-pub leaves_none : (was slots : List (Option (Rule × ℕ))) (was_shut shut : Bool) → Leaves 65535 was was_shut slots shut
+leaves_none : (was slots : List (Option (Rule × ℕ))) (was_shut shut : Bool) → Leaves 65535 was was_shut slots shut
 leaves_none was slots was_shut shut i few unmarked =
     let marked : has_slot 65535 i ≡ true = ap (λ k. k == 1) (bit_at_ones 16 i few) in
     let never : false ≡ true = sym unmarked ∙ marked in
     cc
 
-pub others_register : (slots room after : List (Option (Rule × ℕ))) (slot : ℕ) (probe : Option (Rule × ℕ)) → HasSame slots room → after ≡ set room slot probe
-    → (i : ℕ) → i ≢ slot → get_or after i None ≡ get_or slots i None
-others_register slots room after slot probe same write i other =
-    ap (λ xs. get_or xs i None) write ∙ get_or-set_other room slot i probe None other ∙ same i
-
-pub others_set : (slots after : List (Option (Rule × ℕ))) (slot : ℕ) (probe : Option (Rule × ℕ)) → after ≡ set slots slot probe
+-- a write to one slot leaves the others
+others_set : (slots after : List (Option (Rule × ℕ))) (slot : ℕ) (probe : Option (Rule × ℕ)) → after ≡ set slots slot probe
     → (i : ℕ) → i ≢ slot → get_or after i None ≡ get_or slots i None
 others_set slots after slot probe write i other = ap (λ xs. get_or xs i None) write ∙ get_or-set_other slots slot i probe None other
 
-pub others_heard : (slots after : List (Option (Rule × ℕ))) (slot : ℕ) (probe : Option (Rule × ℕ)) (reply : Reply)
-    → (reply ≡ Done → after ≡ set slots slot probe) → ((reply ≡ Done → ⊥) → after ≡ slots)
+others_heard : (slots after : List (Option (Rule × ℕ))) (slot : ℕ) (event : Event) (reply : Reply) → IsHeard slot event reply slots after
     → (i : ℕ) → i ≢ slot → get_or after i None ≡ get_or slots i None
-others_heard slots after slot probe reply done others i other = by_reply reply refl
+others_heard slots after slot event reply hears i other = by_reply reply refl
   where
     heard_it : reply ≡ Done → get_or after i None ≡ get_or slots i None
-    heard_it said = others_set slots after slot probe (done said) i other
+    heard_it said = others_set slots after slot (noted event (get_or slots slot None)) (hears.done said) i other
 
     heard_none : (reply ≡ Done → ⊥) → get_or after i None ≡ get_or slots i None
-    heard_none said = ap (λ xs. get_or xs i None) (others said)
+    heard_none said = ap (λ xs. get_or xs i None) (hears.others said)
 
     by_reply : (r : Reply) → reply ≡ r → get_or after i None ≡ get_or slots i None
     by_reply Done said = heard_it said
@@ -195,6 +185,36 @@ others_heard slots after slot probe reply done others i other = by_reply reply r
     by_reply Missing said = heard_none (λ same. let both : Missing ≡ Done = sym said ∙ same in cc)
     by_reply WrongKind said = heard_none (λ same. let both : WrongKind ≡ Done = sym said ∙ same in cc)
     by_reply Ignored said = heard_none (λ same. let both : Ignored ≡ Done = sym said ∙ same in cc)
+
+-- a change leaves what it does not touch
+pub leaves_change : (call : Call) (reply : Reply) (was slots after : List (Option (Rule × ℕ))) (shut now : Bool) → HasSame was slots
+    → IsApplied call reply slots after → now ≡ unwrap_or (says_shut call) shut → Leaves (touched call) was shut after now
+leaves_change (Register slot rule) reply was slots after shut now same applied now_is =
+    rw now_is (leaves_slot slot (2 ^ slot) was after shut refl (λ i other. others_set slots after slot (Some (rule, opening_memory rule)) applied.1 i other ∙ same i))
+leaves_change (Retire slot) reply was slots after shut now same applied now_is =
+    rw now_is (leaves_slot slot (2 ^ slot) was after shut refl (λ i other. others_set slots after slot None applied i other ∙ same i))
+leaves_change (Observe slot finding) reply was slots after shut now same applied now_is =
+    rw now_is (leaves_slot slot (2 ^ slot) was after shut refl (λ i other. others_heard slots after slot (event_of_finding finding) reply applied i other ∙ same i))
+leaves_change (Set slot setting) reply was slots after shut now same applied now_is =
+    rw now_is (leaves_slot slot (2 ^ slot) was after shut refl (λ i other. others_heard slots after slot (event_of_setting setting) reply applied i other ∙ same i))
+leaves_change Shutdown reply was slots after shut now same applied now_is = leaves_none was after shut now
+leaves_change Resume reply was slots after shut now same applied now_is = leaves_none was after shut now
+
+-- masks that follow a change say the rules in force after it
+pub related_change : (call : Call) (journal new : List Entry) (seat : ℕ) (reply : Reply) (old dependents : List ℕ) → new ≡ journal ++ entry_of seat call reply ∷ []
+    → IsRelated call old dependents → HasDependents (rule_at (past journal)) old → HasDependents (rule_at (past new)) dependents
+related_change (Register slot rule) journal new seat reply old dependents is marked related =
+    related_more journal new (entry_of seat (Register slot rule) reply) slot (Some rule) old dependents is (rule_at-register seat slot rule reply (past journal)) related marked
+related_change (Retire slot) journal new seat reply old dependents is marked related =
+    related_more journal new (entry_of seat (Retire slot) reply) slot None old dependents is (rule_at-retire seat slot reply (past journal)) related marked
+related_change (Observe slot finding) journal new seat reply old dependents is same related =
+    rw same (related_same journal new (entry_of seat (Observe slot finding) reply) old is (λ i. refl) related)
+related_change (Set slot setting) journal new seat reply old dependents is same related =
+    rw same (related_same journal new (entry_of seat (Set slot setting) reply) old is (λ i. refl) related)
+related_change Shutdown journal new seat reply old dependents is same related =
+    rw same (related_same journal new (entry_of seat Shutdown reply) old is (λ i. refl) related)
+related_change Resume journal new seat reply old dependents is same related =
+    rw same (related_same journal new (entry_of seat Resume reply) old is (λ i. refl) related)
 
 -- one more entry, with the statuses, the masks and the changes that it led to
 pub is_desk_more : (slots after_slots : List (Option (Rule × ℕ))) (shut now : Bool) (journal new : List Entry) (old kept changes : List Change) (old_statuses statuses : ℕ) (old_dependents dependents : List ℕ) (max_entries at : ℕ) (entry : Entry)
@@ -246,22 +266,52 @@ is_desk_new max_entries statuses slots journal changes dependents keeps slots_is
       related = λ i j few below. ap (λ ds. has_slot (get_or ds j 0) i) dependents_is ∙ ap (λ m. has_slot m i) (get_zero 16 j) ∙ ap (λ k. k == 1) (bit_at-zero i);
     })
 
--- an entry is added, its slots are changed, and what it touched is shown
-pub is_desk_shown : (slots after_slots : List (Option (Rule × ℕ))) (shut now : Bool) (journal new last : List Entry) (old kept changes : List Change) (old_statuses kept_statuses statuses : ℕ) (old_dependents new_dependents dependents : List ℕ) (max_entries at touched : ℕ) (entry : Entry)
-    → IsDesk slots shut journal old old_statuses old_dependents max_entries → Keeps after_slots now new max_entries
-    → new ≡ journal ++ entry ∷ [] → last ≡ new → at ≡ length journal → kept ≡ old → kept_statuses ≡ old_statuses
-    → HasDependents (rule_at (past new)) new_dependents → dependents ≡ new_dependents
-    → Leaves touched slots shut after_slots now → IsShown touched after_slots now new_dependents kept_statuses statuses
+-- an entry is added, its change is made, and what it touched is shown
+pub is_desk_changed : (slots room after : List (Option (Rule × ℕ))) (shut now : Bool) (journal new last : List Entry) (old kept changes : List Change) (old_statuses kept_statuses statuses : ℕ) (old_dependents kept_dependents dependents : List ℕ) (max_entries at seat : ℕ) (call : Call) (reply : Reply)
+    → IsDesk slots shut journal old old_statuses old_dependents max_entries → HasSame slots room
+    → length journal < max_entries → IsLawfulCall call → reply ≡ reply_to (past journal) call
+    → new ≡ journal ++ entry_of seat call reply ∷ [] → last ≡ new → at ≡ length journal → kept ≡ old
+    → kept_statuses ≡ old_statuses → kept_dependents ≡ old_dependents
+    → IsApplied call reply room after → now ≡ unwrap_or (says_shut call) shut
+    → IsRelated call kept_dependents dependents → IsShown (touched call) after now dependents kept_statuses statuses
     → changes ≡ kept ++ changed at (shown_in kept_statuses) (shown_in statuses) 16
-    → IsDesk after_slots now last changes statuses dependents max_entries
-is_desk_shown slots after_slots shut now journal new last old kept changes old_statuses kept_statuses statuses old_dependents new_dependents dependents max_entries at touched entry
-    desk keeps is last_is at_is kept_is statuses_is related dependents_is leaves shows told =
-    let Journal : List Entry → Type 0 = λ es. IsDesk after_slots now es changes statuses dependents max_entries in
-    let Dependents : List ℕ → Type 0 = λ ds. IsDesk after_slots now new changes statuses ds max_entries in
-    let cached = shows slots shut journal new max_entries desk.parts keeps related leaves (statuses_is ∙ desk.cached) in
+    → IsDesk after now last changes statuses dependents max_entries
+is_desk_changed slots room after shut now journal new last old kept changes old_statuses kept_statuses statuses old_dependents kept_dependents dependents max_entries at seat call reply
+    desk same below lawful reply_is is last_is at_is kept_is statuses_is dependents_is applied now_is marked shows told =
+    let Journal : List Entry → Type 0 = λ es. IsDesk after now es changes statuses dependents max_entries in
+    let Marked : List ℕ → Type 0 = λ ds. IsRelated call ds dependents in
+    let keeps = keeps_change call room after shut now journal new max_entries seat reply (keeps_room slots room shut journal max_entries same desk.parts) below lawful reply_is is applied now_is in
+    let related = related_change call journal new seat reply old_dependents dependents is (subst Marked dependents_is marked) desk.related in
+    let cached = shows slots shut journal new max_entries desk.parts keeps related (leaves_change call reply slots room after shut now same applied now_is) (statuses_is ∙ desk.cached) in
     let told_too = told ∙ ap (λ word. kept ++ changed at (shown_in word) (shown_in statuses) 16) statuses_is in
-    subst Journal (sym last_is) (subst Dependents (sym dependents_is)
-    (is_desk_more slots after_slots shut now journal new old kept changes old_statuses statuses old_dependents new_dependents max_entries at entry desk keeps is at_is kept_is cached related told_too))
+    subst Journal (sym last_is)
+    (is_desk_more slots after shut now journal new old kept changes old_statuses statuses old_dependents dependents max_entries at (entry_of seat call reply) desk keeps is at_is kept_is cached related told_too)
+
+-- a change that was taken
+pub has_answered : (old new : State) (seat : ℕ) (call : Call) (reply : Reply) → IsLawfulCall call → length old.journal < old.max_entries
+    → reply ≡ reply_to (past old.journal) call → new.journal ≡ old.journal ++ entry_of seat call reply ∷ [] → new.max_entries ≡ old.max_entries
+    → HasAnswered old new seat call (Ok reply)
+has_answered old new seat call reply lawful below reply_is is most = record {
+  most = most;
+  answer = Taken call reply lawful (rw (length-reverse old.journal) below) reply_is (ap past is ∙ past_more old.journal (entry_of seat call reply));
+}
+
+-- a lawful change that memory was wanting for, at a journal that is not full
+pub unanswered : (old inside new : State) (seat : ℕ) (call : Call) → inside ≡ old → new.journal ≡ inside.journal → new.max_entries ≡ inside.max_entries
+    → IsLawfulCall call × (length old.journal < old.max_entries) → HasAnswered old new seat call (Err refusals.NoMemory)
+unanswered old inside new seat call is same most why = record {
+  most = most ∙ ap (λ (desk : State). desk.max_entries) is;
+  answer = NoMemory call why.0 (rw (length-reverse old.journal) why.1) (ap past (same ∙ ap (λ (desk : State). desk.journal) is));
+}
+
+-- more room for probes, and nothing else
+pub is_desk_room : (slots room : List (Option (Rule × ℕ))) (shut : Bool) (journal last : List Entry) (old changes : List Change) (old_statuses statuses : ℕ) (old_dependents dependents : List ℕ) (max_entries : ℕ)
+    → IsDesk slots shut journal old old_statuses old_dependents max_entries → HasSame slots room
+    → last ≡ journal → changes ≡ old → statuses ≡ old_statuses → dependents ≡ old_dependents
+    → IsDesk room shut last changes statuses dependents max_entries
+is_desk_room slots room shut journal last old changes old_statuses statuses old_dependents dependents max_entries desk same last_is changes_is statuses_is dependents_is =
+    rw (last_is, changes_is, statuses_is, dependents_is)
+    (record { parts = keeps_room slots room shut journal max_entries same desk.parts; told = desk.told; cached = desk.cached; related = desk.related })
 
 -- masks that are the same say the same rules
 pub related_too : (rules : ℕ → Option Rule) (old new : List ℕ) → new ≡ old → HasDependents rules old → HasDependents rules new

@@ -1,4 +1,4 @@
-use Rattle.std.proofs.Common.{◌≡◌, ℕ, ◌^◌, ◌<◌, ◌==◌, ◌&&◌, not, if◌then◌else◌, Bool, true, false, Option, None, Some, unwrap_or, is_some, List, [], ◌∷◌, ◌++◌, length, zero, suc, map, get_or, set, inl, inr, refl, sym, ap, subst, ◌∙◌, arith}
+use Rattle.std.proofs.Common.{◌≡◌, ℕ, ◌^◌, ◌<◌, ◌==◌, ◌&&◌, not, if◌then◌else◌, Bool, true, false, Option, None, Some, unwrap_or, List, [], ◌∷◌, ◌++◌, length, zero, suc, map, get_or, set, inl, inr, refl, sym, ap, subst, ◌∙◌, arith}
 use Rattle.std.specs.Option.{option_map, option_or}
 use Rattle.std.proofs.lemmas.List.{reverse-append, length_push, get_or-set_same, get_or-set_other, set_past, get_or_past}
 use Rattle.std.proofs.lemmas.Bool.{eqb-true, eqb-false, cases_lt}
@@ -14,13 +14,14 @@ use Rattle.desk_core.specs.declared.entry.Entry.{Entry}
 use Rattle.desk_core.specs.declared.reply.Reply.{Reply}
 use Rattle.desk_core.specs.declared.reply.Reply.TheVariants.{Done, Replaced, Missing, WrongKind, Ignored}
 use Rattle.desk_core.specs.Past.{past, last_said}
-use Rattle.desk_core.specs.Shut.{is_shut}
-use Rattle.desk_core.specs.Present.{says_rule, rule_at, is_present, is_lawful}
+use Rattle.desk_core.specs.Shut.{says_shut, is_shut}
+use Rattle.desk_core.specs.Present.{says_rule, rule_at, is_lawful}
 use Rattle.desk_core.specs.Heard.{heard, with_event, event_of_finding, event_of_setting}
 use Rattle.desk_core.specs.Reply.{reply_to, reply_to_event}
 use Rattle.desk_core.specs.Legal.{IsLegal, IsLawfulCall}
-use Rattle.desk_core.specs.Slots.{noted, was_reset, HasSame}
-use Rattle.desk_core.specs.Desk.{Keeps, probe_at, Brings}
+use Rattle.desk_core.specs.Mutation.{entry_of}
+use Rattle.desk_core.specs.Slots.{noted, was_reset, HasSame, IsHeard, IsApplied}
+use Rattle.desk_core.specs.Desk.{Keeps, probe_at}
 
 -- the newest entry stands first in the past
 pub past_more : (journal : List Entry) (entry : Entry) → past (journal ++ entry ∷ []) ≡ entry ∷ past journal
@@ -57,36 +58,23 @@ probe_at-register seat slot i rule reply older = by_test (slot == i)
     by_test true = refl
     by_test false = refl
 
--- a slot is registered where it has a probe
-is_some-probe_at : (entries : List Entry) (i : ℕ) → is_some (probe_at entries i) ≡ is_present entries i
-is_some-probe_at entries i = by_rule (rule_at entries i)
-  where
-    by_rule : (o : Option Rule) → is_some {T = Rule × ℕ} (option_map (λ rule. (rule, memory_after rule (heard entries i rule))) o) ≡ is_some o
-    by_rule None = refl
-    by_rule (Some rule) = refl
-
 opening_state : (rule : Rule) → memory_after rule [] ≡ opening_memory rule
 opening_state (Threshold fall) = omega arith
 opening_state Manual = refl
 opening_state (Depends mask) = refl
 
-pub keeps_register : (slots room after : List (Option (Rule × ℕ))) (shut : Bool) (journal new : List Entry) (max_entries seat slot : ℕ) (rule : Rule) (reply : Reply) (state : Rule × ℕ)
-    → Keeps slots shut journal max_entries → length journal < max_entries → slot < 16 → HasSame slots room → slot < length room
-    → is_lawful slot rule ≡ true → reply ≡ (if is_some (get_or room slot None) then Replaced else Done) → state ≡ (rule, opening_memory rule)
-    → new ≡ journal ++ record { seat = seat; call = Register slot rule; reply = reply } ∷ [] → after ≡ set room slot (Some state)
+keeps_register : (slots after : List (Option (Rule × ℕ))) (shut : Bool) (journal new : List Entry) (max_entries seat slot : ℕ) (rule : Rule) (reply : Reply)
+    → Keeps slots shut journal max_entries → length journal < max_entries → slot < length slots
+    → is_lawful slot rule ≡ true → reply ≡ reply_to (past journal) (Register slot rule)
+    → new ≡ journal ++ entry_of seat (Register slot rule) reply ∷ [] → after ≡ set slots slot (Some (rule, opening_memory rule))
     → Keeps after shut new max_entries
-keeps_register slots room after shut journal new max_entries seat slot rule reply state keeps below in_range same within lawful reply_is state_is is write =
-    let present : is_some (get_or room slot None) ≡ is_present (past journal) slot = ap is_some (same slot ∙ keeps.each slot in_range) ∙ is_some-probe_at (past journal) slot in
-    keeps_more slots after shut shut journal new max_entries (record { seat = seat; call = Register slot rule; reply = reply }) keeps below is
-    (reply_is ∙ ap (λ b. if b then Replaced else Done) present)
-    lawful
-    keeps.shut_is
+keeps_register slots after shut journal new max_entries seat slot rule reply keeps below within lawful reply_is is write =
+    keeps_more slots after shut shut journal new max_entries (entry_of seat (Register slot rule) reply) keeps below is reply_is lawful keeps.shut_is
     (λ i few.
-    let value : Some state ≡ Some (rule, memory_after rule []) = ap Some (state_is ∙ ap (λ m. (rule, m)) (sym (opening_state rule))) in
     ap (λ xs. get_or xs i None) write
-    ∙ set_cases room slot i (Some state) within
-    ∙ ap (λ o. if slot == i then o else get_or room i None) value
-    ∙ ap (λ o. if slot == i then Some (rule, memory_after rule []) else o) (same i ∙ keeps.each i few)
+    ∙ set_cases slots slot i (Some (rule, opening_memory rule)) within
+    ∙ ap (λ m. if slot == i then Some (rule, m) else get_or slots i None) (sym (opening_state rule))
+    ∙ ap (λ o. if slot == i then Some (rule, memory_after rule []) else o) (keeps.each i few)
     ∙ sym (probe_at-register seat slot i rule reply (past journal)))
 
 -- a write of a value that none becomes none: past the end nothing is written, and nothing stands there
@@ -116,31 +104,29 @@ probe_at-retire seat slot i reply older = by_test (slot == i)
     by_test false = refl
 
 -- after a resume
-probe_at-resume : (seat i : ℕ) (older : List Entry) → probe_at (record { seat = seat; call = Resume; reply = Done } ∷ older) i ≡ was_reset (probe_at older i)
-probe_at-resume seat i older = by_rule (rule_at older i)
+probe_at-resume : (seat i : ℕ) (reply : Reply) (older : List Entry) → probe_at (entry_of seat Resume reply ∷ older) i ≡ was_reset (probe_at older i)
+probe_at-resume seat i reply older = by_rule (rule_at older i)
   where
     by_rule : (o : Option Rule) → option_map (λ r. (r, memory_after r [])) o ≡ was_reset (option_map (λ r. (r, memory_after r (heard older i r))) o)
     by_rule None = refl
     by_rule (Some rule) = ap (λ m. Some (rule, m)) (opening_state rule)
 
 -- a shutdown leaves all probes as they are
-pub keeps_shutdown : (slots : List (Option (Rule × ℕ))) (shut : Bool) (journal new : List Entry) (max_entries seat : ℕ)
-    → Keeps slots shut journal max_entries → length journal < max_entries
-    → new ≡ journal ++ record { seat = seat; call = Shutdown; reply = Done } ∷ []
-    → Keeps slots true new max_entries
-keeps_shutdown slots shut journal new max_entries seat keeps below is =
-    keeps_more slots slots shut true journal new max_entries (record { seat = seat; call = Shutdown; reply = Done }) keeps below is refl tt refl keeps.each
+keeps_shutdown : (slots after : List (Option (Rule × ℕ))) (shut : Bool) (journal new : List Entry) (max_entries seat : ℕ) (reply : Reply)
+    → Keeps slots shut journal max_entries → length journal < max_entries → reply ≡ Done
+    → new ≡ journal ++ entry_of seat Shutdown reply ∷ [] → after ≡ slots
+    → Keeps after true new max_entries
+keeps_shutdown slots after shut journal new max_entries seat reply keeps below reply_is is same =
+    keeps_more slots after shut true journal new max_entries (entry_of seat Shutdown reply) keeps below is reply_is tt refl
+    (λ i few. ap (λ xs. get_or xs i None) same ∙ keeps.each i few)
 
 -- a retirement takes one probe away
-pub keeps_retire : (slots after : List (Option (Rule × ℕ))) (shut : Bool) (journal new : List Entry) (max_entries seat slot : ℕ) (reply : Reply)
-    → Keeps slots shut journal max_entries → length journal < max_entries → slot < 16
-    → reply ≡ (if is_some (get_or slots slot None) then Done else Missing)
-    → new ≡ journal ++ record { seat = seat; call = Retire slot; reply = reply } ∷ [] → after ≡ set slots slot None
+keeps_retire : (slots after : List (Option (Rule × ℕ))) (shut : Bool) (journal new : List Entry) (max_entries seat slot : ℕ) (reply : Reply)
+    → Keeps slots shut journal max_entries → length journal < max_entries → reply ≡ reply_to (past journal) (Retire slot)
+    → new ≡ journal ++ entry_of seat (Retire slot) reply ∷ [] → after ≡ set slots slot None
     → Keeps after shut new max_entries
-keeps_retire slots after shut journal new max_entries seat slot reply keeps below in_range reply_is is write =
-    let present : is_some (get_or slots slot None) ≡ is_present (past journal) slot = ap is_some (keeps.each slot in_range) ∙ is_some-probe_at (past journal) slot in
-    keeps_more slots after shut shut journal new max_entries (record { seat = seat; call = Retire slot; reply = reply }) keeps below is
-    (reply_is ∙ ap (λ b. if b then Done else Missing) present) tt keeps.shut_is
+keeps_retire slots after shut journal new max_entries seat slot reply keeps below reply_is is write =
+    keeps_more slots after shut shut journal new max_entries (entry_of seat (Retire slot) reply) keeps below is reply_is tt keeps.shut_is
     (λ i few.
     ap (λ xs. get_or xs i None) write
     ∙ set_by_cases (λ _. None) refl slots slot i
@@ -152,13 +138,13 @@ reset_at [] i = refl
 reset_at (x ∷ xs) zero = refl
 reset_at (x ∷ xs) (suc i) = reset_at xs i
 
-pub keeps_resume : (slots after : List (Option (Rule × ℕ))) (shut : Bool) (journal new : List Entry) (max_entries seat : ℕ)
-    → Keeps slots shut journal max_entries → length journal < max_entries
-    → new ≡ journal ++ record { seat = seat; call = Resume; reply = Done } ∷ [] → after ≡ map was_reset slots
+keeps_resume : (slots after : List (Option (Rule × ℕ))) (shut : Bool) (journal new : List Entry) (max_entries seat : ℕ) (reply : Reply)
+    → Keeps slots shut journal max_entries → length journal < max_entries → reply ≡ Done
+    → new ≡ journal ++ entry_of seat Resume reply ∷ [] → after ≡ map was_reset slots
     → Keeps after false new max_entries
-keeps_resume slots after shut journal new max_entries seat keeps below is reset =
-    keeps_more slots after shut false journal new max_entries (record { seat = seat; call = Resume; reply = Done }) keeps below is refl tt refl
-    (λ i few. ap (λ xs. get_or xs i None) reset ∙ reset_at slots i ∙ ap was_reset (keeps.each i few) ∙ sym (probe_at-resume seat i (past journal)))
+keeps_resume slots after shut journal new max_entries seat reply keeps below reply_is is reset =
+    keeps_more slots after shut false journal new max_entries (entry_of seat Resume reply) keeps below is reply_is tt refl
+    (λ i few. ap (λ xs. get_or xs i None) reset ∙ reset_at slots i ∙ ap was_reset (keeps.each i few) ∙ sym (probe_at-resume seat i reply (past journal)))
 
 -- one more event that fits is one more step of the memory
 memory_more : (rule : Rule) (event : Event) (events : List Event) → fits rule event ≡ true → memory_after rule (event ∷ events) ≡ memory_next rule event (memory_after rule events)
@@ -216,45 +202,6 @@ heard_by_none slot i event older replied = by_test (slot == i) refl
     by_test true is = let same : slot ≡ i = eqb-true slot i is in at_slot (rule_at older i) (is_shut older) (λ done. replied (rw same done))
     by_test false is = refl
 
--- what a call that brings an event says: the reply to it
-brings_reply : (call : Call) (slot : ℕ) (event : Event) (older : List Entry) → Brings call slot event → reply_to older call ≡ reply_to_event (rule_at older slot) (is_shut older) event
-brings_reply (Observe at finding) slot event older brings = ap (λ s. reply_to_event (rule_at older s) (is_shut older) (event_of_finding finding)) brings.0 ∙ ap (reply_to_event (rule_at older slot) (is_shut older)) brings.1
-brings_reply (Set at setting) slot event older brings = ap (λ s. reply_to_event (rule_at older s) (is_shut older) (event_of_setting setting)) brings.0 ∙ ap (reply_to_event (rule_at older slot) (is_shut older)) brings.1
-brings_reply (Register at rule) slot event older brings = absurd brings
-brings_reply (Retire at) slot event older brings = absurd brings
-brings_reply Shutdown slot event older brings = absurd brings
-brings_reply Resume slot event older brings = absurd brings
-
--- it brings its event to its slot, and changes nothing else
-brings_event : (seat slot i : ℕ) (call : Call) (reply : Reply) (event : Event) (older : List Entry) → Brings call slot event
-    → probe_at (record { seat = seat; call = call; reply = reply } ∷ older) i ≡ states (λ r. with_event r (is_shut older) (if slot == i then Some event else None) (heard older i r)) (rule_at older i)
-brings_event seat slot i (Observe at finding) reply event older brings =
-    ap (λ s. states (λ r. with_event r (is_shut older) (if s == i then Some (event_of_finding finding) else None) (heard older i r)) (rule_at older i)) brings.0
-    ∙ ap (λ e. states (λ r. with_event r (is_shut older) (if slot == i then Some e else None) (heard older i r)) (rule_at older i)) brings.1
-brings_event seat slot i (Set at setting) reply event older brings =
-    ap (λ s. states (λ r. with_event r (is_shut older) (if s == i then Some (event_of_setting setting) else None) (heard older i r)) (rule_at older i)) brings.0
-    ∙ ap (λ e. states (λ r. with_event r (is_shut older) (if slot == i then Some e else None) (heard older i r)) (rule_at older i)) brings.1
-brings_event seat slot i (Register at rule) reply event older brings = absurd brings
-brings_event seat slot i (Retire at) reply event older brings = absurd brings
-brings_event seat slot i Shutdown reply event older brings = absurd brings
-brings_event seat slot i Resume reply event older brings = absurd brings
-
-brings_shut : (seat slot : ℕ) (call : Call) (reply : Reply) (event : Event) (older : List Entry) → Brings call slot event → is_shut older ≡ is_shut (record { seat = seat; call = call; reply = reply } ∷ older)
-brings_shut seat slot (Observe at finding) reply event older brings = refl
-brings_shut seat slot (Set at setting) reply event older brings = refl
-brings_shut seat slot (Register at rule) reply event older brings = absurd brings
-brings_shut seat slot (Retire at) reply event older brings = absurd brings
-brings_shut seat slot Shutdown reply event older brings = absurd brings
-brings_shut seat slot Resume reply event older brings = absurd brings
-
-brings_lawful : (slot : ℕ) (call : Call) (event : Event) → Brings call slot event → IsLawfulCall call
-brings_lawful slot (Observe at finding) event brings = tt
-brings_lawful slot (Set at setting) event brings = tt
-brings_lawful slot (Register at rule) event brings = absurd brings
-brings_lawful slot (Retire at) event brings = absurd brings
-brings_lawful slot Shutdown event brings = absurd brings
-brings_lawful slot Resume event brings = absurd brings
-
 -- the rule in force is that of the slot's probe
 pub rule_of_probe : (entries : List Entry) (i : ℕ) → option_map (λ state. state.0) (probe_at entries i) ≡ rule_at entries i
 rule_of_probe entries i = by_rule (rule_at entries i)
@@ -263,71 +210,62 @@ rule_of_probe entries i = by_rule (rule_at entries i)
     by_rule None = refl
     by_rule (Some rule) = refl
 
--- the reply that the parts give is that of the journal
-pub reply_of_parts : (slots : List (Option (Rule × ℕ))) (shut : Bool) (journal : List Entry) (max_entries slot : ℕ) (call : Call) (event : Event) (reply : Reply)
-    → Keeps slots shut journal max_entries → slot < 16 → Brings call slot event
-    → reply ≡ reply_to_event (option_map (λ state. state.0) (get_or slots slot None)) shut event
-    → reply ≡ reply_to (past journal) call
-reply_of_parts slots shut journal max_entries slot call event reply keeps in_range brings is =
-    is
-    ∙ ap (λ o. reply_to_event (option_map (λ (state : Rule × ℕ). state.0) o) shut event) (keeps.each slot in_range)
-    ∙ ap (λ o. reply_to_event o shut event) (rule_of_probe (past journal) slot)
-    ∙ ap (λ b. reply_to_event (rule_at (past journal) slot) b event) keeps.shut_is
-    ∙ sym (brings_reply call slot event (past journal) brings)
-
-keeps_heard : (slots after : List (Option (Rule × ℕ))) (shut : Bool) (journal new : List Entry) (max_entries seat slot : ℕ) (call : Call) (event : Event) (reply : Reply)
-    → Keeps slots shut journal max_entries → length journal < max_entries → slot < 16 → Brings call slot event
-    → reply ≡ reply_to_event (option_map (λ state. state.0) (get_or slots slot None)) shut event → reply ≡ Done
-    → new ≡ journal ++ record { seat = seat; call = call; reply = reply } ∷ [] → after ≡ set slots slot (noted event (get_or slots slot None))
-    → Keeps after shut new max_entries
-keeps_heard slots after shut journal new max_entries seat slot call event reply keeps below in_range brings replied done is write =
-    let reply_is = reply_of_parts slots shut journal max_entries slot call event reply keeps in_range brings replied in
-    keeps_more slots after shut shut journal new max_entries (record { seat = seat; call = call; reply = reply }) keeps below is reply_is (brings_lawful slot call event brings)
-    (keeps.shut_is ∙ brings_shut seat slot call reply event (past journal) brings)
-    (λ i few.
-    ap (λ xs. get_or xs i None) write
-    ∙ set_by_cases (noted event) refl slots slot i
-    ∙ ap (λ o. if slot == i then noted event o else o) (keeps.each i few)
-    ∙ sym (heard_done slot i event (past journal) (sym (brings_reply call slot event (past journal) brings) ∙ sym reply_is ∙ done))
-    ∙ sym (brings_event seat slot i call reply event (past journal) brings))
-
-keeps_unheard : (slots : List (Option (Rule × ℕ))) (shut : Bool) (journal new : List Entry) (max_entries seat slot : ℕ) (call : Call) (event : Event) (reply : Reply)
-    → Keeps slots shut journal max_entries → length journal < max_entries → slot < 16 → Brings call slot event
-    → reply ≡ reply_to_event (option_map (λ state. state.0) (get_or slots slot None)) shut event → (reply ≡ Done → ⊥)
-    → new ≡ journal ++ record { seat = seat; call = call; reply = reply } ∷ []
-    → Keeps slots shut new max_entries
-keeps_unheard slots shut journal new max_entries seat slot call event reply keeps below in_range brings replied not_done is =
-    let reply_is = reply_of_parts slots shut journal max_entries slot call event reply keeps in_range brings replied in
-    keeps_more slots slots shut shut journal new max_entries (record { seat = seat; call = call; reply = reply }) keeps below is reply_is (brings_lawful slot call event brings)
-    (keeps.shut_is ∙ brings_shut seat slot call reply event (past journal) brings)
-    (λ i few.
-    keeps.each i few
-    ∙ sym (heard_by_none slot i event (past journal) (λ done. not_done (reply_is ∙ brings_reply call slot event (past journal) brings ∙ done)))
-    ∙ sym (brings_event seat slot i call reply event (past journal) brings))
-
--- whatever the reply, the slot hears the event where it is Done
-pub keeps_event : (slots after : List (Option (Rule × ℕ))) (shut : Bool) (journal new : List Entry) (max_entries seat slot : ℕ) (call : Call) (event : Event) (reply : Reply)
-    → Keeps slots shut journal max_entries → length journal < max_entries → slot < 16 → Brings call slot event
-    → reply ≡ reply_to_event (option_map (λ state. state.0) (get_or slots slot None)) shut event
-    → new ≡ journal ++ record { seat = seat; call = call; reply = reply } ∷ []
-    → (reply ≡ Done → after ≡ set slots slot (noted event (get_or slots slot None))) → ((reply ≡ Done → ⊥) → after ≡ slots)
-    → Keeps after shut new max_entries
-keeps_event slots after shut journal new max_entries seat slot call event reply keeps below in_range brings replied is done others = by_reply reply refl
+-- a call that brings an event to a slot, which hears it where the answer is Done
+keeps_event : (slots after : List (Option (Rule × ℕ))) (shut : Bool) (journal new : List Entry) (max_entries slot : ℕ) (event : Event) (entry : Entry)
+    → Keeps slots shut journal max_entries → length journal < max_entries → new ≡ journal ++ entry ∷ []
+    → entry.reply ≡ reply_to (past journal) entry.call → IsLawfulCall entry.call
+    → reply_to (past journal) entry.call ≡ reply_to_event (rule_at (past journal) slot) (is_shut (past journal)) event
+    → is_shut (past journal) ≡ is_shut (entry ∷ past journal)
+    → ((i : ℕ) → probe_at (entry ∷ past journal) i ≡ states (λ r. with_event r (is_shut (past journal)) (if slot == i then Some event else None) (heard (past journal) i r)) (rule_at (past journal) i))
+    → IsHeard slot event entry.reply slots after → Keeps after shut new max_entries
+keeps_event slots after shut journal new max_entries slot event entry keeps below is reply_is lawful answers shut_is brings hears =
+    keeps_more slots after shut shut journal new max_entries entry keeps below is reply_is lawful (keeps.shut_is ∙ shut_is) (by_reply entry.reply refl)
   where
-    heard_it : reply ≡ Done → Keeps after shut new max_entries
-    heard_it said = keeps_heard slots after shut journal new max_entries seat slot call event reply keeps below in_range brings replied said is (done said)
+    heard_it : entry.reply ≡ Done → (i : ℕ) → i < 16 → get_or after i None ≡ probe_at (entry ∷ past journal) i
+    heard_it said i few =
+        ap (λ xs. get_or xs i None) (hears.done said)
+        ∙ set_by_cases (noted event) refl slots slot i
+        ∙ ap (λ o. if slot == i then noted event o else o) (keeps.each i few)
+        ∙ sym (heard_done slot i event (past journal) (sym answers ∙ sym reply_is ∙ said))
+        ∙ sym (brings i)
 
-    heard_none : (reply ≡ Done → ⊥) → Keeps after shut new max_entries
-    heard_none said =
-        let Kept : List (Option (Rule × ℕ)) → Type 0 = λ xs. Keeps xs shut new max_entries in
-        subst Kept (sym (others said)) (keeps_unheard slots shut journal new max_entries seat slot call event reply keeps below in_range brings replied said is)
+    heard_none : (entry.reply ≡ Done → ⊥) → (i : ℕ) → i < 16 → get_or after i None ≡ probe_at (entry ∷ past journal) i
+    heard_none said i few =
+        ap (λ xs. get_or xs i None) (hears.others said)
+        ∙ keeps.each i few
+        ∙ sym (heard_by_none slot i event (past journal) (λ done. said (reply_is ∙ answers ∙ done)))
+        ∙ sym (brings i)
 
-    by_reply : (r : Reply) → reply ≡ r → Keeps after shut new max_entries
+    by_reply : (r : Reply) → entry.reply ≡ r → (i : ℕ) → i < 16 → get_or after i None ≡ probe_at (entry ∷ past journal) i
     by_reply Done said = heard_it said
     by_reply Replaced said = heard_none (λ same. let both : Replaced ≡ Done = sym said ∙ same in cc)
     by_reply Missing said = heard_none (λ same. let both : Missing ≡ Done = sym said ∙ same in cc)
     by_reply WrongKind said = heard_none (λ same. let both : WrongKind ≡ Done = sym said ∙ same in cc)
     by_reply Ignored said = heard_none (λ same. let both : Ignored ≡ Done = sym said ∙ same in cc)
+
+-- room for more probes holds what was held
+pub keeps_room : (slots room : List (Option (Rule × ℕ))) (shut : Bool) (journal : List Entry) (max_entries : ℕ) → HasSame slots room → Keeps slots shut journal max_entries
+    → Keeps room shut journal max_entries
+keeps_room slots room shut journal max_entries same keeps =
+    record { legal = keeps.legal; shut_is = keeps.shut_is; each = λ i few. same i ∙ keeps.each i few; room = keeps.room; limit = keeps.limit }
+
+-- one more change, and the probes as it leaves them
+pub keeps_change : (call : Call) (slots after : List (Option (Rule × ℕ))) (shut now : Bool) (journal new : List Entry) (max_entries seat : ℕ) (reply : Reply)
+    → Keeps slots shut journal max_entries → length journal < max_entries → IsLawfulCall call → reply ≡ reply_to (past journal) call
+    → new ≡ journal ++ entry_of seat call reply ∷ [] → IsApplied call reply slots after → now ≡ unwrap_or (says_shut call) shut
+    → Keeps after now new max_entries
+keeps_change (Register slot rule) slots after shut now journal new max_entries seat reply keeps below lawful reply_is is applied now_is =
+    rw now_is (keeps_register slots after shut journal new max_entries seat slot rule reply keeps below applied.0 lawful reply_is is applied.1)
+keeps_change (Retire slot) slots after shut now journal new max_entries seat reply keeps below lawful reply_is is applied now_is =
+    rw now_is (keeps_retire slots after shut journal new max_entries seat slot reply keeps below reply_is is applied)
+keeps_change (Observe slot finding) slots after shut now journal new max_entries seat reply keeps below lawful reply_is is applied now_is =
+    rw now_is (keeps_event slots after shut journal new max_entries slot (event_of_finding finding) (entry_of seat (Observe slot finding) reply) keeps below is reply_is lawful refl refl (λ i. refl) applied)
+keeps_change (Set slot setting) slots after shut now journal new max_entries seat reply keeps below lawful reply_is is applied now_is =
+    rw now_is (keeps_event slots after shut journal new max_entries slot (event_of_setting setting) (entry_of seat (Set slot setting) reply) keeps below is reply_is lawful refl refl (λ i. refl) applied)
+keeps_change Shutdown slots after shut now journal new max_entries seat reply keeps below lawful reply_is is applied now_is =
+    rw now_is (keeps_shutdown slots after shut journal new max_entries seat reply keeps below reply_is is applied)
+keeps_change Resume slots after shut now journal new max_entries seat reply keeps below lawful reply_is is applied now_is =
+    rw now_is (keeps_resume slots after shut journal new max_entries seat reply keeps below reply_is is applied)
 
 -- no entries, and no probes
 pub keeps_none : (max_entries : ℕ) → max_entries < 2 ^ 32 → Keeps [] false [] max_entries

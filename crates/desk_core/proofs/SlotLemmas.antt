@@ -1,8 +1,12 @@
-use Rattle.std.proofs.Common.{◌&&◌, ◌||◌, ◌==◌, not, true, zero, suc, add-one, refl, ◌≡◌, ℕ, ◌+◌, ◌<◌, Option, List, [], ◌∷◌, ◌++◌, length, take, drop, map, get_or, set, sym, ap, ◌∙◌, arith, append_assoc}
+use Rattle.std.proofs.Common.{◌&&◌, ◌||◌, ◌==◌, not, true, zero, suc, add-one, refl, ◌≡◌, ℕ, ◌+◌, ◌<◌, Option, Some, List, [], ◌∷◌, ◌++◌, length, take, drop, map, get_or, set, sym, ap, ◌∙◌, arith, append_assoc}
 use Rattle.std.proofs.lemmas.List.{drop_more, map_more, get_or_at, set_at, length-map, length-take-le}
 use Rattle.std.proofs.lemmas.Nat.Bits.{bit_at-zero}
 use Rattle.probe_core.specs.declared.rule.Rule.{Rule}
 use Rattle.health_wire.specs.declared.serving.Serving.{Serving}
+use Rattle.std.specs.Option.{option_map}
+use Rattle.desk_core.specs.declared.call.Call.{Call}
+use Rattle.desk_core.specs.declared.call.Call.TheVariants.{Register}
+use Rattle.desk_core.specs.Mutation.{rule_of}
 use Rattle.desk_core.specs.Status.{has_slot, is_serving}
 use Rattle.desk_core.specs.Slots.{was_reset, covers_below}
 
@@ -40,3 +44,10 @@ covers-nothing statuses (suc n) =
 pub covers-more : (statuses : ℕ → Option Serving) (n mask : ℕ) → covers_below statuses (n + 1) mask ≡ (covers_below statuses n mask && (not (has_slot mask n) || is_serving (statuses n)))
 unfolding covers_below
 covers-more statuses n mask = rw add-one refl
+
+-- the probe that a registration brings has its rule
+pub registered_rule : {P : Type 0} (rule : P → Rule) (probe : Option P) (own : P) (call : Call) (slot : ℕ) (said : Rule)
+    → option_map rule probe ≡ rule_of call → probe ≡ Some own → call ≡ Register slot said → rule own ≡ said
+registered_rule rule probe own call slot said ruled there is =
+    let both : Some (rule own) ≡ Some said = ap (option_map rule) (sym there) ∙ ruled ∙ ap rule_of is in
+    cc

@@ -5,6 +5,8 @@ use Rattle.std.specs.Option.{option_map}
 use Rattle.health_wire.specs.declared.serving.Serving.{Serving}
 use Rattle.probe_core.specs.declared.rule.Rule.{Rule}
 use Rattle.probe_core.specs.Rule.{relied_on}
+use Rattle.desk_core.specs.declared.call.Call.{Call}
+use Rattle.desk_core.specs.declared.call.Call.TheVariants.{Register, Retire, Observe, Set, Shutdown, Resume}
 use Rattle.desk_core.specs.Status.{has_slot}
 use Rattle.desk_core.specs.Board.{packed}
 use Rattle.desk_core.specs.Slots.{covers_below, status_from}
@@ -41,6 +43,15 @@ Leaves touched was was_shut slots shut = (i : ℕ) → i < 16 → has_slot touch
 abbrev pub HasRule : ℕ → Option Rule → List ℕ → List ℕ → Type 0
 HasRule slot rule old new = (i j : ℕ) → i < 16 → j < 16
     → has_slot (slice_index_or new j 0) i ≡ (if i == slot then relies_on rule j else has_slot (slice_index_or old j 0) i)
+
+-- after a change the masks say the rules in force, where they said them before
+abbrev pub IsRelated : Call → List ℕ → List ℕ → Type 0
+IsRelated (Register slot rule) old new = HasRule slot (Some rule) old new
+IsRelated (Retire slot) old new = HasRule slot None old new
+IsRelated (Observe slot finding) old new = new ≡ old
+IsRelated (Set slot setting) old new = new ≡ old
+IsRelated Shutdown old new = new ≡ old
+IsRelated Resume old new = new ≡ old
 
 -- a word of statuses was made new after a change that touched these slots: where it was that of the old probes, it is that of
 -- the probes now

@@ -1,19 +1,20 @@
 -- What a desk means, and what its parts keep.
-use Rattle.std.specs.Prelude.{◌≡◌, ℕ, ◌^◌, ◌<◌, ◌≤◌, Bool, Option, None, List, [], ◌∷◌, ◌++◌, length, slice_index_or}
+use Rattle.std.specs.Prelude.{◌≡◌, ℕ, ◌^◌, ◌<◌, ◌≤◌, Bool, Option, None, Some, List, length, slice_index_or, Result}
 use Rattle.std.specs.Option.{option_map}
-use Rattle.probe_core.specs.declared.event.Event.{Event}
 use Rattle.probe_core.specs.declared.rule.Rule.{Rule}
 use Rattle.probe_core.specs.Events.{memory_after}
 use Rattle.desk_core.specs.declared.call.Call.{Call}
 use Rattle.desk_core.specs.declared.call.Call.TheVariants.{Register, Retire, Observe, Set, Shutdown, Resume}
 use Rattle.desk_core.specs.declared.change.Change.{Change}
 use Rattle.desk_core.specs.declared.entry.Entry.{Entry}
+use Rattle.desk_core.specs.declared.refusal.Refusal.{Refusal}
 use Rattle.desk_core.specs.declared.reply.Reply.{Reply}
 use Rattle.desk_core.specs.Past.{past}
 use Rattle.desk_core.specs.Shut.{is_shut}
 use Rattle.desk_core.specs.Present.{rule_at}
-use Rattle.desk_core.specs.Heard.{heard, event_of_finding, event_of_setting}
+use Rattle.desk_core.specs.Heard.{heard}
 use Rattle.desk_core.specs.Legal.{IsLegal}
+use Rattle.desk_core.specs.Mutation.{IsAnswered}
 use Rattle.desk_core.specs.Changes.{changes_of}
 use Rattle.desk_core.specs.Status.{status_at}
 use Rattle.desk_core.specs.Board.{packed}
@@ -24,25 +25,23 @@ pub record State : Type 0 where
   pub journal : List Entry
   pub max_entries : ℕ
 
--- the desk with one more entry
-abbrev pub with_entry : State → ℕ → Call → Reply → State
-with_entry state seat call reply = record {
-  journal = state.journal ++ record { seat = seat; call = call; reply = reply } ∷ [];
-  max_entries = state.max_entries;
-}
-
 -- the probe of a registered slot: the rule in force, and the memory of the events that it heard
 abbrev pub probe_at : List Entry → ℕ → Option (Rule × ℕ)
 probe_at entries i = option_map (λ rule. (rule, memory_after rule (heard entries i rule))) (rule_at entries i)
 
--- the call brings this event to this slot
-abbrev pub Brings : Call → ℕ → Event → Type 0
-Brings (Register slot rule) i event = ⊥
-Brings (Retire slot) i event = ⊥
-Brings (Observe slot finding) i event = (slot ≡ i) × (event_of_finding finding ≡ event)
-Brings (Set slot setting) i event = (slot ≡ i) × (event_of_setting setting ≡ event)
-Brings Shutdown i event = ⊥
-Brings Resume i event = ⊥
+-- the probe of the slot that a registration or a retirement is of
+abbrev pub probe_of : List Entry → Call → Option (Rule × ℕ)
+probe_of entries (Register slot rule) = probe_at entries slot
+probe_of entries (Retire slot) = probe_at entries slot
+probe_of entries (Observe slot finding) = None
+probe_of entries (Set slot setting) = None
+probe_of entries Shutdown = None
+probe_of entries Resume = None
+
+-- a desk answers a mutation that a seat asks it for
+pub record HasAnswered (old new : State) (seat : ℕ) (call : Call) (result : Result Reply Refusal) : Type 0 where
+  pub most : new.max_entries ≡ old.max_entries
+  pub answer : IsAnswered old.max_entries seat (past old.journal) (past new.journal) (Some call) result
 
 -- what a desk's parts keep: the journal is legal, and the probes are those that it says
 pub record Keeps (slots : List (Option (Rule × ℕ))) (shut : Bool) (journal : List Entry) (max_entries : ℕ) : Type 0 where

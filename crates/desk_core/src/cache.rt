@@ -2,6 +2,7 @@ ghost use Rattle.std.specs.Prelude.{◌≡◌, ◌<◌, ◌==◌, ℕ, if◌then
 ghost use Rattle.desk_core.specs.Status.{has_slot};
 ghost use Rattle.desk_core.specs.Cache.{relies_on};
 
+use crate::call::Call;
 use crate::slot::Slot;
 use crate::slots::Slots;
 use crate::status::{has_slot, status_of};
@@ -22,7 +23,7 @@ impl Cache {
     ghost use Rattle.desk_core.specs.Status.{has_slot};
     ghost use Rattle.desk_core.specs.Board.{packed, status_in};
     ghost use Rattle.desk_core.specs.Slots.{with_status, covers_below, status_from};
-    ghost use Rattle.desk_core.specs.Cache.{IsRefreshed, HasRule};
+    ghost use Rattle.desk_core.specs.Cache.{IsRefreshed, IsRelated, HasRule};
 
     pub(crate) fn new() -> Cache
         ensures statuses { result.statuses ≡ 0 }
@@ -40,8 +41,20 @@ impl Cache {
         self.statuses
     }
 
+    /// Takes down the rules that are in force after a call.
+    pub(crate) fn follow(&mut self, call: &Call)
+        ensures statuses { self.new.statuses ≡ self.old.statuses }
+        ensures dependents { IsRelated call.now self.old.dependents self.new.dependents }
+    {
+        match call {
+            Call::Register(slot, rule) => self.relate(*slot, Some(*rule)),
+            Call::Retire(slot) => self.relate(*slot, None),
+            Call::Observe(..) | Call::Set(..) | Call::Shutdown | Call::Resume => {}
+        }
+    }
+
     /// Takes down that the slot depends on the slots of its rule's mask, and on no others.
-    pub(crate) fn relate(&mut self, slot: Slot, rule: Option<Rule>)
+    fn relate(&mut self, slot: Slot, rule: Option<Rule>)
         ensures statuses { self.new.statuses ≡ self.old.statuses }
         ensures dependents { HasRule slot rule self.old.dependents self.new.dependents }
     {

@@ -1,11 +1,11 @@
-ghost use Rattle.std.specs.Prelude.{◌≡◌, ◌<◌, ◌+◌, ◌*◌, ◌^◌};
+ghost use Rattle.std.specs.Prelude.{◌≡◌, ◌<◌, ◌+◌, ◌*◌, ◌^◌, unwrap_or};
+ghost use Rattle.desk_core.specs.Shut.{says_shut};
 
-use crate::book::Book;
 use crate::call::{Call, Finding, Setting};
 use crate::change::{Change, shown};
 use crate::entry::Entry;
-use crate::lawful::is_lawful;
-use crate::owned::Owned;
+use crate::history::History;
+use crate::lawful::is_lawful_call;
 use crate::refusal::Refusal;
 use crate::registered::{Handed, Registered};
 use crate::reply::{Reply, reply_to_event, reply_to_register, reply_to_retire};
@@ -14,7 +14,7 @@ use crate::slots::Slots;
 use crate::statuses::Statuses;
 use crate::watch::Watch;
 use health_wire::Serving;
-use probe_core::{Event, Probe};
+use probe_core::{Probe, Rule};
 use std::alloc::Global;
 use std::marker::Model;
 
@@ -23,7 +23,7 @@ use std::marker::Model;
 pub struct Desk<P: Probe> {
     slots: Slots<P>,
     is_shut: bool,
-    book: Book,
+    history: History,
     max_entries: u32,
 }
 
@@ -32,24 +32,24 @@ impl<P: Probe> Model for Desk<P> {
 
     ghost Value = { State };
 
-    ghost view = { λ desk. record { journal = desk.book.journal.items; max_entries = desk.max_entries } };
+    ghost view = { λ desk. record { journal = desk.history.journal.items; max_entries = desk.max_entries } };
 
-    ghost invariant = { λ desk. IsDesk desk.slots.places.items desk.is_shut desk.book.journal.items desk.book.changes.items desk.book.cache.statuses desk.book.cache.dependents desk.max_entries };
+    ghost invariant = { λ desk. IsDesk desk.slots.places.items desk.is_shut desk.history.journal.items desk.history.changes.items desk.history.cache.statuses desk.history.cache.dependents desk.max_entries };
 }
 
 impl<P: Probe> Desk<P> {
-    ghost use Rattle.std.specs.Prelude.{◌≡◌, ◌≢◌, ◌<◌, ◌≤◌, ◌↔◌, ◌⊎◌, ℕ, [], length, slice_index_or, nat_le, None, Some, true, false, Ok, Err, IfOk, IfErr, OnErr, IsErrOf, IsErrAnd};
+    ghost use Rattle.std.specs.Prelude.{◌≡◌, ◌<◌, ◌≤◌, ℕ, [], length, None, Ok, Err, IfSome, IfNone, IfOk, IfErr, MatchResult};
     ghost use Rattle.std.specs.Option.{option_map};
-    ghost use Rattle.probe_core.specs.declared.event.Event.{Event};
     ghost use Rattle.desk_core.specs.Past.{past};
-    ghost use Rattle.desk_core.specs.Present.{is_lawful};
+    ghost use Rattle.desk_core.specs.Mutation.{rule_of};
+    ghost use Rattle.desk_core.specs.Present.{rule_at};
     ghost use Rattle.desk_core.specs.Reply.{reply_to};
-    ghost use Rattle.desk_core.specs.Legal.{IsLegal};
-    ghost use Rattle.desk_core.specs.Status.{status_at, checked, shown};
+    ghost use Rattle.desk_core.specs.Legal.{IsLegal, IsLawfulCall};
+    ghost use Rattle.desk_core.specs.Status.{checked, shown};
     ghost use Rattle.desk_core.specs.Changes.{changes_of};
     ghost use Rattle.desk_core.specs.Watch.{opened, stepped};
     ghost use Rattle.desk_core.specs.Board.{board_of};
-    ghost use Rattle.desk_core.specs.Desk.{Brings, probe_at, with_entry};
+    ghost use Rattle.desk_core.specs.Desk.{HasAnswered, probe_at, probe_of};
 
     /// An empty desk, whose journal takes at most so many entries. It takes no memory yet.
     pub fn new(alloc: Global, max_entries: u32) -> Desk<P>
@@ -58,7 +58,7 @@ impl<P: Probe> Desk<P> {
         Desk {
             slots: Slots::new(alloc),
             is_shut: false,
-            book: Book::new(alloc),
+            history: History::new(alloc),
             max_entries,
         }
     }
@@ -69,163 +69,139 @@ impl<P: Probe> Desk<P> {
         ensures legal { IsLegal (past result.now) }
         ensures room { length result.now ≤ self.now.max_entries }
     {
-        self.book.journal.as_slice()
+        self.history.journal()
+    }
+
+    /// Makes a change, with the probe that it registers, in its opening state, if it registers one. Gives back the probe that it
+    /// takes out, or where it is refused the one that was handed in.
+    pub fn change(
+        &mut self,
+        seat: u16,
+        call: Call,
+        probe: Option<P>,
+    ) -> Result<(Reply, Option<P>), (Refusal, Option<P>)>
+        requires ruled { option_map P.rule probe ≡ rule_of call }
+        ensures answered { MatchResult result (λ taken. HasAnswered self.old self.new seat call (Ok taken.0)) (λ refused. HasAnswered self.old self.new seat call (Err refused.0)) }
+        ensures old { IfOk result (λ taken. option_map (λ p. (P.rule p, P.memory p)) taken.1 ≡ probe_of (past self.old.journal) call) }
+        ensures handed_back { IfErr result (λ refused. refused.1 ≡ probe) }
+    {
+        if let Some(refusal) = self.refusal_of(&call) {
+            return Err((refusal, probe));
+        }
+        let reply = self.reply_to(&call);
+        let Ok(()) = self.slots.reserve() else {
+            return Err((Refusal::NoMemory, probe));
+        };
+        let Ok(at) = self.history.append(seat, call, reply) else {
+            return Err((Refusal::NoMemory, probe));
+        };
+        let old = self.slots.apply(&call, reply, probe);
+        self.is_shut = shut_after(self.is_shut, &call);
+        self.history.show(&self.slots, self.is_shut, &call, at);
+        Ok((reply, old))
+    }
+
+    /// Why the change is refused, but for want of memory.
+    fn refusal_of(&self, call: &Call) -> Option<Refusal>
+        ensures some { (seat : ℕ) → IfSome result (λ refusal. HasAnswered self.now self.now seat call.now (Err refusal)) }
+        ensures none { IfNone result (IsLawfulCall call.now × (length self.now.journal < self.now.max_entries)) }
+    {
+        if !is_lawful_call(call) {
+            return Some(Refusal::BadRule);
+        }
+        if self.history.journal().len() >= self.max_entries as usize {
+            return Some(Refusal::Full);
+        }
+        None
+    }
+
+    fn reply_to(&self, call: &Call) -> Reply
+        ensures { result ≡ reply_to (past self.now.journal) call.now }
+    {
+        match call {
+            Call::Register(slot, _) => reply_to_register(self.rule(*slot)),
+            Call::Retire(slot) => reply_to_retire(self.rule(*slot)),
+            Call::Observe(slot, finding) => {
+                reply_to_event(self.rule(*slot), self.is_shut, finding.event())
+            }
+            Call::Set(slot, setting) => {
+                reply_to_event(self.rule(*slot), self.is_shut, setting.event())
+            }
+            Call::Shutdown | Call::Resume => Reply::Done,
+        }
+    }
+
+    /// The rule in force.
+    fn rule(&self, slot: Slot) -> Option<Rule>
+        ensures { result ≡ rule_at (past self.now.journal) slot }
+    {
+        self.slots.rule(slot)
     }
 
     /// Puts a probe, in its opening state, into the slot.
-    pub fn register(
-        &mut self,
-        seat: u16,
-        slot: Slot,
-        mut probe: P,
-    ) -> Result<Registered<P>, Handed<P>>
-        ensures entry { IfOk result (λ taken. self.new ≡ with_entry self.old seat (Call.Register slot (P.rule probe)) taken.reply) }
-        ensures reply { IfOk result (λ taken. taken.reply ≡ reply_to (past self.old.journal) (Call.Register slot (P.rule probe))) }
+    pub fn register(&mut self, seat: u16, slot: Slot, probe: P) -> Result<Registered<P>, Handed<P>>
+        ensures answered { MatchResult result (λ taken. HasAnswered self.old self.new seat (Call.Register slot (P.rule probe)) (Ok taken.reply)) (λ handed. HasAnswered self.old self.new seat (Call.Register slot (P.rule probe)) (Err handed.refusal)) }
         ensures old { IfOk result (λ taken. option_map (λ p. (P.rule p, P.memory p)) taken.old ≡ probe_at (past self.old.journal) slot) }
-
-        ensures unchanged { OnErr result (self.new ≡ self.old) }
         ensures handed_back { IfErr result (λ handed. handed.probe ≡ probe) }
-        ensures bad_rule { IsErrAnd result (λ handed. handed.refusal ≡ Refusal.BadRule) ↔ (is_lawful slot (P.rule probe) ≡ false) }
-        ensures full { IsErrAnd result (λ handed. handed.refusal ≡ Refusal.Full) ↔ ((is_lawful slot (P.rule probe) ≡ true) × (length self.old.journal ≡ self.old.max_entries)) }
-        ensures listed { IfErr result (λ handed. handed.refusal ≢ Refusal.NotListed) }
     {
-        let rule = probe.rule();
-        if !is_lawful(slot, rule) {
-            return Err(Handed {
-                refusal: Refusal::BadRule,
-                probe,
-            });
+        let call = Call::Register(slot, probe.rule());
+        match self.change(seat, call, Some(probe)) {
+            Ok((reply, old)) => Ok(Registered { reply, old }),
+            Err((refusal, probe)) => Err(Handed {
+                refusal,
+                probe: probe.unwrap(),
+            }),
         }
-        if self.is_full() {
-            return Err(Handed {
-                refusal: Refusal::Full,
-                probe,
-            });
-        }
-        if let Err(_) = self.slots.reserve() {
-            return Err(Handed {
-                refusal: Refusal::NoMemory,
-                probe,
-            });
-        }
-        let reply = reply_to_register(self.slots.has(slot));
-        let Ok(at) = self.book.append(seat, Call::Register(slot, rule), reply) else {
-            return Err(Handed {
-                refusal: Refusal::NoMemory,
-                probe,
-            });
-        };
-        probe.reset();
-        let old = self.slots.replace(slot, Owned::new(probe));
-        self.book.cache.relate(slot, Some(rule));
-        self.book.show(&self.slots, self.is_shut, only(slot), at);
-        Ok(Registered {
-            reply,
-            old: old.map(Owned::into_inner),
-        })
     }
 
     /// Takes the slot's probe out, if there is one.
     pub fn retire(&mut self, seat: u16, slot: Slot) -> Result<(Reply, Option<P>), Refusal>
-        ensures entry { IfOk result (λ taken. self.new ≡ with_entry self.old seat (Call.Retire slot) taken.0) }
-        ensures reply { IfOk result (λ taken. taken.0 ≡ reply_to (past self.old.journal) (Call.Retire slot)) }
+        ensures answered { MatchResult result (λ taken. HasAnswered self.old self.new seat (Call.Retire slot) (Ok taken.0)) (λ refusal. HasAnswered self.old self.new seat (Call.Retire slot) (Err refusal)) }
         ensures old { IfOk result (λ taken. option_map (λ p. (P.rule p, P.memory p)) taken.1 ≡ probe_at (past self.old.journal) slot) }
-        ensures unchanged { OnErr result (self.new ≡ self.old) }
-        ensures full { IsErrOf result Refusal.Full ↔ (length self.old.journal ≡ self.old.max_entries) }
-        ensures no_memory { IfErr result (λ refusal. (refusal ≡ Refusal.Full) ⊎ (refusal ≡ Refusal.NoMemory)) }
     {
-        if self.is_full() {
-            return Err(Refusal::Full);
+        match self.change(seat, Call::Retire(slot), None) {
+            Ok(taken) => Ok(taken),
+            Err((refusal, _)) => Err(refusal),
         }
-        let reply = reply_to_retire(self.slots.has(slot));
-        let Ok(at) = self.book.append(seat, Call::Retire(slot), reply) else {
-            return Err(Refusal::NoMemory);
-        };
-        let old = self.slots.take(slot);
-        self.book.cache.relate(slot, None);
-        self.book.show(&self.slots, self.is_shut, only(slot), at);
-        Ok((reply, old.map(Owned::into_inner)))
     }
 
     /// Lets the slot's probe hear a finding.
     pub fn observe(&mut self, seat: u16, slot: Slot, finding: Finding) -> Result<Reply, Refusal>
-        ensures entry { IfOk result (λ reply. self.new ≡ with_entry self.old seat (Call.Observe slot finding) reply) }
-        ensures reply { IfOk result (λ reply. reply ≡ reply_to (past self.old.journal) (Call.Observe slot finding)) }
-        ensures unchanged { OnErr result (self.new ≡ self.old) }
-        ensures full { IsErrOf result Refusal.Full ↔ (length self.old.journal ≡ self.old.max_entries) }
-        ensures no_memory { IfErr result (λ refusal. (refusal ≡ Refusal.Full) ⊎ (refusal ≡ Refusal.NoMemory)) }
+        ensures answered { HasAnswered self.old self.new seat (Call.Observe slot finding) result }
     {
-        self.hear(seat, slot, Call::Observe(slot, finding), finding.event())
+        self.make(seat, Call::Observe(slot, finding))
     }
 
     /// Lets the slot's probe hear a setting.
     pub fn set(&mut self, seat: u16, slot: Slot, setting: Setting) -> Result<Reply, Refusal>
-        ensures entry { IfOk result (λ reply. self.new ≡ with_entry self.old seat (Call.Set slot setting) reply) }
-        ensures reply { IfOk result (λ reply. reply ≡ reply_to (past self.old.journal) (Call.Set slot setting)) }
-        ensures unchanged { OnErr result (self.new ≡ self.old) }
-        ensures full { IsErrOf result Refusal.Full ↔ (length self.old.journal ≡ self.old.max_entries) }
-        ensures no_memory { IfErr result (λ refusal. (refusal ≡ Refusal.Full) ⊎ (refusal ≡ Refusal.NoMemory)) }
+        ensures answered { HasAnswered self.old self.new seat (Call.Set slot setting) result }
     {
-        self.hear(seat, slot, Call::Set(slot, setting), setting.event())
-    }
-
-    fn hear(&mut self, seat: u16, slot: Slot, call: Call, event: Event) -> Result<Reply, Refusal>
-        requires { Brings call slot event }
-        ensures entry { IfOk result (λ reply. self.new ≡ with_entry self.old seat call reply) }
-        ensures reply { IfOk result (λ reply. reply ≡ reply_to (past self.old.journal) call) }
-        ensures unchanged { OnErr result (self.new ≡ self.old) }
-        ensures full { IsErrOf result Refusal.Full ↔ (length self.old.journal ≡ self.old.max_entries) }
-        ensures no_memory { IfErr result (λ refusal. (refusal ≡ Refusal.Full) ⊎ (refusal ≡ Refusal.NoMemory)) }
-    {
-        if self.is_full() {
-            return Err(Refusal::Full);
-        }
-        let reply = reply_to_event(self.slots.rule(slot), self.is_shut, event);
-        let Ok(at) = self.book.append(seat, call, reply) else {
-            return Err(Refusal::NoMemory);
-        };
-        self.slots.hear(slot, event, reply);
-        self.book.show(&self.slots, self.is_shut, only(slot), at);
-        Ok(reply)
+        self.make(seat, Call::Set(slot, setting))
     }
 
     /// Shows every registered service as not serving, until the next resume.
     pub fn shutdown(&mut self, seat: u16) -> Result<Reply, Refusal>
-        ensures entry { IfOk result (λ reply. self.new ≡ with_entry self.old seat Call.Shutdown reply) }
-        ensures reply { IfOk result (λ reply. reply ≡ reply_to (past self.old.journal) Call.Shutdown) }
-        ensures unchanged { OnErr result (self.new ≡ self.old) }
-        ensures full { IsErrOf result Refusal.Full ↔ (length self.old.journal ≡ self.old.max_entries) }
-        ensures no_memory { IfErr result (λ refusal. (refusal ≡ Refusal.Full) ⊎ (refusal ≡ Refusal.NoMemory)) }
+        ensures answered { HasAnswered self.old self.new seat Call.Shutdown result }
     {
-        if self.is_full() {
-            return Err(Refusal::Full);
-        }
-        let Ok(at) = self.book.append(seat, Call::Shutdown, Reply::Done) else {
-            return Err(Refusal::NoMemory);
-        };
-        self.is_shut = true;
-        self.book.show(&self.slots, self.is_shut, u16::MAX, at);
-        Ok(Reply::Done)
+        self.make(seat, Call::Shutdown)
     }
 
     /// Takes every probe back to its opening state, also where nothing was shut down.
     pub fn resume(&mut self, seat: u16) -> Result<Reply, Refusal>
-        ensures entry { IfOk result (λ reply. self.new ≡ with_entry self.old seat Call.Resume reply) }
-        ensures reply { IfOk result (λ reply. reply ≡ reply_to (past self.old.journal) Call.Resume) }
-        ensures unchanged { OnErr result (self.new ≡ self.old) }
-        ensures full { IsErrOf result Refusal.Full ↔ (length self.old.journal ≡ self.old.max_entries) }
-        ensures no_memory { IfErr result (λ refusal. (refusal ≡ Refusal.Full) ⊎ (refusal ≡ Refusal.NoMemory)) }
+        ensures answered { HasAnswered self.old self.new seat Call.Resume result }
     {
-        if self.is_full() {
-            return Err(Refusal::Full);
+        self.make(seat, Call::Resume)
+    }
+
+    /// Makes a change that registers nothing.
+    fn make(&mut self, seat: u16, call: Call) -> Result<Reply, Refusal>
+        requires { rule_of call ≡ None }
+        ensures { HasAnswered self.old self.new seat call result }
+    {
+        match self.change(seat, call, None) {
+            Ok((reply, _)) => Ok(reply),
+            Err((refusal, _)) => Err(refusal),
         }
-        let Ok(at) = self.book.append(seat, Call::Resume, Reply::Done) else {
-            return Err(Refusal::NoMemory);
-        };
-        self.is_shut = false;
-        self.slots.reset();
-        self.book.show(&self.slots, self.is_shut, u16::MAX, at);
-        Ok(Reply::Done)
     }
 
     /// What a Check answers for the slot, or for a name that has none.
@@ -233,7 +209,7 @@ impl<P: Probe> Desk<P> {
         ensures status { result ≡ checked (past self.now.journal) slot }
         ensures legal { IsLegal (past self.now.journal) }
     {
-        self.book.cache.statuses().get(slot?)
+        self.history.statuses().get(slot?)
     }
 
     /// How many entries there are and the status of each slot, in one word.
@@ -242,7 +218,7 @@ impl<P: Probe> Desk<P> {
         ensures legal { IsLegal (past self.now.journal) }
         ensures room { length self.now.journal ≤ self.now.max_entries }
     {
-        word_of(self.book.journal.len(), self.book.cache.statuses())
+        word_of(self.history.journal().len(), self.history.statuses())
     }
 
     /// The same as `board`, with the statuses computed anew from all probes. It is there to be compared with.
@@ -250,7 +226,10 @@ impl<P: Probe> Desk<P> {
         ensures word { result ≡ board_of (past self.now.journal) }
         ensures legal { IsLegal (past self.now.journal) }
     {
-        word_of(self.book.journal.len(), self.slots.statuses(self.is_shut))
+        word_of(
+            self.history.journal().len(),
+            self.slots.statuses(self.is_shut),
+        )
     }
 
     /// What is shown of the slot now, or of a name that has none, and a watch of what changes from now on.
@@ -259,7 +238,7 @@ impl<P: Probe> Desk<P> {
         ensures status { result.1 ≡ shown (past self.now.journal) slot }
         ensures legal { IsLegal (past self.now.journal) }
     {
-        let watch = Watch::new(self.book.changes.as_slice(), slot);
+        let watch = Watch::new(self.history.changes(), slot);
         let status = shown(self.check(watch.slot()));
         (watch, status)
     }
@@ -272,7 +251,7 @@ impl<P: Probe> Desk<P> {
         ensures watch { watch.new ≡ (stepped (changes_of (past self.now.journal)) watch.old).1 }
         ensures legal { IsLegal (past self.now.journal) }
     {
-        watch.step(self.book.changes.as_slice())
+        watch.step(self.history.changes())
     }
 
     /// What the entries of the journal changed for watchers, the oldest first, and for one entry by slot.
@@ -280,21 +259,19 @@ impl<P: Probe> Desk<P> {
         ensures changes { result.now ≡ changes_of (past self.now.journal) }
         ensures legal { IsLegal (past self.now.journal) }
     {
-        self.book.changes.as_slice()
-    }
-
-    fn is_full(&self) -> bool
-        ensures { result ≡ nat_le self.now.max_entries (length self.now.journal) }
-    {
-        self.book.journal.len() >= self.max_entries as usize
+        self.history.changes()
     }
 }
 
-/// The mask of this slot alone.
-fn only(slot: Slot) -> u16
-    ensures { result ≡ 2 ^ slot }
+/// Whether the server is shut down after the call.
+fn shut_after(is_shut: bool, call: &Call) -> bool
+    ensures { result ≡ unwrap_or (says_shut call.now) is_shut }
 {
-    1 << slot.number()
+    match call {
+        Call::Shutdown => true,
+        Call::Resume => false,
+        Call::Register(..) | Call::Retire(_) | Call::Observe(..) | Call::Set(..) => is_shut,
+    }
 }
 
 fn word_of(entries: usize, statuses: Statuses) -> u64

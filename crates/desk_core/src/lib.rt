@@ -2,13 +2,13 @@
 #![tactic(auto)]
 
 mod board;
-mod book;
 mod cache;
 mod call;
 mod catalogue;
 mod change;
 mod desk;
 mod entry;
+mod history;
 mod lawful;
 mod laws;
 mod name;
@@ -16,6 +16,7 @@ mod order;
 mod owned;
 mod refusal;
 mod registered;
+mod registrar;
 mod reply;
 mod slot;
 mod slots;
@@ -38,6 +39,7 @@ pub use name::Name;
 pub use order::Order;
 pub use refusal::Refusal;
 pub use registered::{Handed, Registered};
+pub use registrar::{Registrar, carry_out};
 pub use reply::Reply;
 pub use slot::Slot;
 pub use watch::Watch;

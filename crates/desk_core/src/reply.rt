@@ -1,4 +1,4 @@
-ghost use Rattle.std.specs.Prelude.{◌≡◌, if◌then◌else◌};
+ghost use Rattle.std.specs.Prelude.{◌≡◌, if◌then◌else◌, is_some};
 ghost use Rattle.desk_core.specs.declared.reply.Reply.TheVariants.{Done, Replaced, Missing};
 ghost use Rattle.desk_core.specs.Reply.{reply_to_event};
 
@@ -18,20 +18,22 @@ pub enum Reply {
     Ignored,
 }
 
-pub(crate) fn reply_to_register(is_present: bool) -> Reply
-    ensures { result ≡ (if is_present then Replaced else Done) }
+/// The answer where a slot of this rule, or of none, is registered.
+pub(crate) fn reply_to_register(rule: Option<Rule>) -> Reply
+    ensures { result ≡ (if is_some rule then Replaced else Done) }
 {
-    if is_present {
+    if rule.is_some() {
         Reply::Replaced
     } else {
         Reply::Done
     }
 }
 
-pub(crate) fn reply_to_retire(is_present: bool) -> Reply
-    ensures { result ≡ (if is_present then Done else Missing) }
+/// The answer where a slot of this rule, or of none, is retired.
+pub(crate) fn reply_to_retire(rule: Option<Rule>) -> Reply
+    ensures { result ≡ (if is_some rule then Done else Missing) }
 {
-    if is_present {
+    if rule.is_some() {
         Reply::Done
     } else {
         Reply::Missing

@@ -1,6 +1,7 @@
 ghost use Rattle.std.specs.Prelude.{◌≡◌};
 ghost use Rattle.desk_core.specs.Slots.{noted, was_reset};
 
+use crate::call::Call;
 use crate::owned::Owned;
 use crate::reply::Reply;
 use crate::slot::Slot;
@@ -16,13 +17,14 @@ pub(crate) struct Slots<P: Probe> {
 }
 
 impl<P: Probe> Slots<P> {
-    ghost use Rattle.std.specs.Prelude.{◌≡◌, ◌≢◌, ◌<◌, ℕ, List, [], None, Some, length, slice_index_or, slice_set, map, is_some, OnOk};
+    ghost use Rattle.std.specs.Prelude.{◌≡◌, ◌≢◌, ◌<◌, ℕ, List, [], None, Some, length, slice_index_or, slice_set, map, OnOk};
     ghost use Rattle.std.specs.Option.{option_copied, option_map};
     ghost use Rattle.desk_core.specs.declared.entry.Entry.{Entry};
     ghost use Rattle.desk_core.specs.Past.{past};
     ghost use Rattle.desk_core.specs.Status.{status_at};
     ghost use Rattle.desk_core.specs.Board.{status_in};
-    ghost use Rattle.desk_core.specs.Slots.{noted, was_reset, HasSame};
+    ghost use Rattle.desk_core.specs.Slots.{was_reset, HasSame, IsHeard, IsApplied, held_at};
+    ghost use Rattle.desk_core.specs.Mutation.{rule_of};
     ghost use Rattle.desk_core.specs.Desk.{Keeps};
 
     pub(crate) fn new(alloc: Global) -> Slots<P>
@@ -53,28 +55,55 @@ impl<P: Probe> Slots<P> {
         }
     }
 
-    pub(crate) fn has(&self, slot: Slot) -> bool
-        ensures { result ≡ is_some (slice_index_or self.now.places.items slot None) }
-    {
-        self.get(slot).is_some()
-    }
-
     pub(crate) fn rule(&self, slot: Slot) -> Option<Rule>
         ensures { result ≡ option_map (λ state. state.0) (slice_index_or self.now.places.items slot None) }
     {
         self.get(slot).map(|owned| owned.rule())
     }
 
+    /// Does what a call that had this reply does to the probes, with the probe that it registers. Gives back the one that it takes
+    /// out.
+    pub(crate) fn apply(&mut self, call: &Call, reply: Reply, probe: Option<P>) -> Option<P>
+        requires room { 15 < length self.old.places.items }
+        requires ruled { option_map P.rule probe ≡ rule_of call.now }
+        ensures applied { IsApplied call.now reply self.old.places.items self.new.places.items }
+        ensures old { option_map (λ p. (P.rule p, P.memory p)) result ≡ held_at self.old.places.items call.now }
+    {
+        match call {
+            Call::Register(slot, _) => {
+                let mut probe = probe.unwrap();
+                probe.reset();
+                self.replace(*slot, Owned::new(probe))
+                    .map(Owned::into_inner)
+            }
+            Call::Retire(slot) => self.take(*slot).map(Owned::into_inner),
+            Call::Observe(slot, finding) => {
+                self.hear(*slot, finding.event(), reply);
+                None
+            }
+            Call::Set(slot, setting) => {
+                self.hear(*slot, setting.event(), reply);
+                None
+            }
+            Call::Shutdown => None,
+            Call::Resume => {
+                self.reset();
+                None
+            }
+        }
+    }
+
     /// Puts a probe into the slot, and gives the old one back.
-    pub(crate) fn replace(&mut self, slot: Slot, owned: Owned<P>) -> Option<Owned<P>>
-        requires { slot < length self.old.places.items }
+    fn replace(&mut self, slot: Slot, owned: Owned<P>) -> Option<Owned<P>>
+        requires { 15 < length self.old.places.items }
+        ensures there { slot < length self.old.places.items }
         ensures old { result ≡ slice_index_or self.old.places.items slot None }
         ensures after { self.new.places.items ≡ slice_set self.old.places.items slot (Some owned) }
     {
         self.places[usize::from(slot.number())].replace(owned)
     }
 
-    pub(crate) fn take(&mut self, slot: Slot) -> Option<Owned<P>>
+    fn take(&mut self, slot: Slot) -> Option<Owned<P>>
         ensures old { result ≡ slice_index_or self.old.places.items slot None }
         ensures after { self.new.places.items ≡ slice_set self.old.places.items slot None }
     {
@@ -86,8 +115,7 @@ impl<P: Probe> Slots<P> {
 
     /// Lets the slot's probe hear an event that was answered with `Done`.
     pub(crate) fn hear(&mut self, slot: Slot, event: Event, reply: Reply)
-        ensures done { reply ≡ Reply.Done → self.new.places.items ≡ slice_set self.old.places.items slot (noted event (slice_index_or self.old.places.items slot None)) }
-        ensures others { reply ≢ Reply.Done → self.new.places.items ≡ self.old.places.items }
+        ensures { IsHeard slot event reply self.old.places.items self.new.places.items }
     {
         let Reply::Done = reply else {
             return;
@@ -99,7 +127,7 @@ impl<P: Probe> Slots<P> {
     }
 
     /// Takes all probes back to their opening state.
-    pub(crate) fn reset(&mut self)
+    fn reset(&mut self)
         ensures { self.new.places.items ≡ map was_reset self.old.places.items }
     {
         for index in 0..self.places.len() {

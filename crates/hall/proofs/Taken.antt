@@ -1,28 +1,32 @@
 -- What a change leaves of the seat that made it.
-use Rattle.std.proofs.Common.{◌≡◌, ℕ, suc, ◌<◌, ◌≤◌, ◌^◌, ◌==◌, ◌++◌, Bool, true, false, if◌then◌else◌, List, [], ◌∷◌, length, sym, refl, ap, ◌∙◌, subst, arith, ⊎_elim}
-use Rattle.std.specs.Prelude.{Option, Some, None, Result, Ok, Err, ◌↔◌, ◌⊎◌, ◌≢◌, IsErrOf, drop}
-use Rattle.std.proofs.lemmas.Bool.{true_from_ne_false}
-use Rattle.std.proofs.lemmas.List.{length-reverse, reverse-append}
+use Rattle.std.proofs.Common.{◌≡◌, ℕ, suc, ◌+◌, ◌<◌, ◌≤◌, ◌^◌, ◌==◌, Bool, true, false, if◌then◌else◌, List, [], ◌∷◌, length, sym, refl, ap, ◌∙◌, subst, arith}
+use Rattle.std.specs.Prelude.{Option, Some, None, Result, Ok, Err, drop}
+use Rattle.std.proofs.lemmas.List.{reverse-reverse}
 use Rattle.atomic_table.specs.Seated.{TableId}
 use Rattle.desk_core.specs.declared.call.Call.{Call}
 use Rattle.desk_core.specs.declared.entry.Entry.{Entry}
 use Rattle.desk_core.specs.declared.refusal.Refusal.{Refusal}
-use Rattle.desk_core.specs.declared.refusal.Refusal.TheVariants.{BadRule, Full, NoMemory, NotListed}
+use Rattle.desk_core.specs.declared.refusal.Refusal.TheVariants.{NotListed}
 use Rattle.desk_core.specs.declared.reply.Reply.{Reply}
-use Rattle.desk_core.specs.Desk.{State, with_entry}
+use Rattle.desk_core.specs.Desk.{State, HasAnswered}
 use Rattle.desk_core.specs.Legal.{IsLegal}
 use Rattle.desk_core.specs.Past.{past}
-use Rattle.desk_core.specs.Reply.{reply_to}
+use Rattle.desk_core.specs.Mutation.{IsAnswered, Taken, NotListed as Unlisted, BadRule, Full, NoMemory, entry_of}
 use Rattle.desk_core.specs.Seats.{calls_by}
 use Rattle.desk_core.specs.Watch.{IsOlder}
 use Rattle.hall.specs.Views.{seat_view, desk_view}
 use Rattle.hall.specs.Steps.{Seated, IsSeat, HasDesk, Follows, number_in, seen_in}
-use Rattle.hall.specs.Seats.{SeatState, GoesOn, Makes, IsOutOfRoom, IsRefusedFor, entry_of, own_calls}
-use Rattle.hall.proofs.Views.{older_cons, older_self, own_call}
+use Rattle.hall.specs.Seats.{SeatState, GoesOn, IsCarriedOut, own_calls}
+use Rattle.hall.proofs.Views.{older_self, own_call}
 
--- the newest entry of a journal is the first of its past
-past_snoc : (journal : List Entry) (entry : Entry) → past (journal ++ entry ∷ []) ≡ entry ∷ past journal
-past_snoc journal entry = reverse-append journal (entry ∷ [])
+-- what answers say of the history
+newest_of : (most seat : ℕ) (before after : List Entry) (call : Call) (reply : Reply) → IsAnswered most seat before after (Some call) (Ok reply) → after ≡ entry_of seat call reply ∷ before
+newest_of most seat before after call reply (Taken _ _ lawful room reply_is after_is) = after_is
+
+kept_of : (most seat : ℕ) (before after : List Entry) (call : Call) (refusal : Refusal) → IsAnswered most seat before after (Some call) (Err refusal) → after ≡ before
+kept_of most seat before after call _ (BadRule _ unlawful same) = same
+kept_of most seat before after call _ (Full _ lawful full same) = same
+kept_of most seat before after call _ (NoMemory _ lawful room same) = same
 
 -- a seat as contracts see it
 abbrev pub seat_of : TableId → Seated → ℕ → SeatState
@@ -72,10 +76,6 @@ may_count me waiting number made before hand =
       omega (arith, hand.follows.limit, ap length seen),
     )
 
--- a seat that did nothing goes on
-pub stays : (seat : SeatState) → IsLegal seat.seen → GoesOn seat seat
-stays seat legal = record { same = refl; begins = older_self seat.seen; legal = legal }
-
 -- a seat whose history grew goes on
 goes_on_of : (table later : TableId) (me rested : Seated) (number : ℕ) (history : List Entry) (most seat : ℕ) → later ≡ table → rested ≡ (seat_view seat history most, [])
     → most ≡ me.0.most → IsLegal history → IsOlder (seen_in me) history → GoesOn (seat_of table me number) (seat_of later rested number)
@@ -86,35 +86,36 @@ goes_on_of table later me rested number history most seat same rests most_is leg
   legal = subst IsLegal (sym (ap seen_in rests)) legal;
 }
 
--- a change that was taken, seen from the seat's side
-pub record Changed (old new : SeatState) (call : Call) (reply : Reply) : Type 0 where
-  pub goes_on : GoesOn old new
-  pub makes : Makes old new call reply
-
-pub changed : (old : SeatState) (table later : TableId) (me waiting rested : Seated) (number made seat : ℕ) (before after : State) (call : Call) (reply : Reply) → seat_of table me number ≡ old
-    → InHand me waiting number made before → later ≡ table → after ≡ with_entry before number call reply → reply ≡ reply_to (past before.journal) call
-    → rested ≡ (seat_view seat (past after.journal) after.max_entries, []) → IsLegal (past after.journal) → length after.journal ≤ after.max_entries
-    → Changed old (seat_of later rested number) call reply
-changed old table later me waiting rested number made seat before after call reply view_is hand same is replies rests legal room =
-    let entry = entry_of number call reply in
-    let grown : past after.journal ≡ entry ∷ past before.journal = ap (λ (d : State). past d.journal) is ∙ past_snoc before.journal entry in
-    let seen : seen_in rested ≡ entry ∷ past before.journal = ap seen_in rests ∙ grown in
-    let most : after.max_entries ≡ me.0.most = ap (λ (d : State). d.max_entries) is ∙ hand.limit in
+-- a change that the desk in hand answered, seen from the seat's side
+pub carried_out : (old : SeatState) (table later : TableId) (me waiting rested : Seated) (number made seat : ℕ) (before after : State) (call : Call) (result : Result Reply Refusal) → seat_of table me number ≡ old
+    → InHand me waiting number made before → later ≡ table → HasAnswered before after number call result
+    → rested ≡ (seat_view seat (past after.journal) after.max_entries, []) → IsCarriedOut old (seat_of later rested number) (Some call) result
+carried_out old table later me waiting rested number made seat before after call result view_is hand same answers rests =
     let own_number = number_is me number made hand.seat in
-    let own : calls_by (past before.journal) number ≡ calls_by (seen_in me) number = subst (λ (n : ℕ). calls_by (past before.journal) n ≡ calls_by (seen_in me) n) own_number hand.follows.own in
-    let longer : length (past after.journal) ≡ suc (length (past before.journal)) = ap length grown in
-    subst (λ (o : SeatState). Changed o (seat_of later rested number) call reply) view_is (record {
-      goes_on = goes_on_of table later me rested number (past after.journal) after.max_entries seat same rests most legal
-          (subst (IsOlder (seen_in me)) (sym grown) (older_cons entry (seen_in me) (past before.journal) hand.follows.begins));
-      makes = record {
-        before = past before.journal;
-        last = seen;
-        reply_is = replies;
-        begins = hand.follows.begins;
-        room = omega (arith, room, longer, most, length-reverse after.journal);
-        own = ap (λ (h : List Entry). calls_by h number) seen ∙ (own_call entry (past before.journal) number refl ∙ ap (λ (h : List Entry). entry ∷ h) own);
-      };
+    let seen : seen_in rested ≡ past after.journal = ap seen_in rests in
+    let most : rested.0.most ≡ me.0.most = ap (λ (m : Seated). m.0.most) rests ∙ (answers.most ∙ hand.limit) in
+    subst (λ (o : SeatState). IsCarriedOut o (seat_of later rested number) (Some call) result) view_is (record {
+      before = past before.journal;
+      begins = hand.follows.begins;
+      own = subst (λ (n : ℕ). calls_by (past before.journal) n ≡ calls_by (seen_in me) n) own_number hand.follows.own;
+      legal = hand.follows.legal;
+      same = ap (λ (t : TableId). seat_of t rested number) same ∙ ap (λ (m : ℕ). record { table = table; most = m; number = number; seen = seen_in rested }) most;
+      answer = subst (λ (m : ℕ). IsAnswered m number (past before.journal) (seen_in rested) (Some call) result) hand.limit
+          (subst (λ (h : List Entry). IsAnswered before.max_entries number (past before.journal) h (Some call) result) (sym seen) answers.answer);
+      unlisted = λ is. let never : Some call ≡ None = is in cc;
     })
+
+-- a change that names nobody leaves the seat
+pub not_carried_out : (seat : SeatState) (call : Option Call) → call ≡ None → IsLegal seat.seen → IsCarriedOut seat seat call (Err NotListed)
+not_carried_out seat call none legal = rw none (record {
+  before = seat.seen;
+  begins = older_self seat.seen;
+  own = refl;
+  legal = legal;
+  same = refl;
+  answer = Unlisted refl;
+  unlisted = λ is. refl;
+})
 
 -- a call that changed nothing, seen from the seat's side
 pub record Kept (old new : SeatState) : Type 0 where
@@ -135,39 +136,6 @@ kept_on old table later me waiting rested number made seat before after view_is 
       kept = ap (λ (h : List Entry). calls_by h number) seen ∙ own;
     })
 
--- what a refusal means
-refusal_in : {X : Type 0} → Result X Refusal → Refusal
-refusal_in (Ok x) = NoMemory
-refusal_in (Err refusal) = refusal
-
-short_by : (new : SeatState) (refusal : Refusal) → ((refusal ≡ Full) ⊎ (refusal ≡ NoMemory)) → length new.seen ≤ new.most → (refusal ≡ Full → length new.seen ≡ new.most)
-    → (length new.seen ≡ new.most → refusal ≡ Full) → IsOutOfRoom new refusal
-short_by new Full one room full whole = full refl
-short_by new NoMemory one room full whole =
-    let apart : length new.seen ≢ new.most = λ same. let never : NoMemory ≡ Full = whole same in cc in
-    omega (arith, room, apart)
-short_by new BadRule one room full whole = ⊎_elim (λ is. let never : BadRule ≡ Full = is in cc) (λ is. let never : BadRule ≡ NoMemory = is in cc) one
-short_by new NotListed one room full whole = ⊎_elim (λ is. let never : NotListed ≡ Full = is in cc) (λ is. let never : NotListed ≡ NoMemory = is in cc) one
-
-pub short : (X : Type 0) (refusal : Refusal) (later : TableId) (rested : Seated) (number seat : ℕ) (before after : State) → after ≡ before
-    → rested ≡ (seat_view seat (past after.journal) after.max_entries, []) → length before.journal ≤ before.max_entries → ((refusal ≡ Full) ⊎ (refusal ≡ NoMemory))
-    → (IsErrOf {T = X} (Err refusal) Full ↔ (length before.journal ≡ before.max_entries)) → IsOutOfRoom (seat_of later rested number) refusal
-unfolding refusal_in
-short X refusal later rested number seat before after is rests room one full =
-    let seen : seen_in rested ≡ past before.journal = ap seen_in rests ∙ ap (λ (d : State). past d.journal) is in
-    let most : rested.0.most ≡ before.max_entries = ap (λ (m : Seated). m.0.most) rests ∙ ap (λ (d : State). d.max_entries) is in
-    let long : length (seen_in rested) ≡ length before.journal = ap length seen ∙ length-reverse before.journal in
-    short_by (seat_of later rested number) refusal one (omega (arith, room, most, long))
-    (λ is_full. omega (arith, full.0 (ap Err is_full), most, long))
-    (λ same. ap refusal_in (full.1 (omega (arith, same, most, long))))
-
--- a listed service's change was refused for this
-pub refused_at : (slot : Option ℕ) (i : ℕ) (lawful : ℕ → Bool) (old new : SeatState) (refusal : Refusal) → slot ≡ Some i → lawful i ≡ true → IsOutOfRoom new refusal → IsRefusedFor slot lawful old new refusal
-refused_at slot i lawful old new Full listed is short = (i, listed, is, short)
-refused_at slot i lawful old new NoMemory listed is short = (i, listed, is, short)
-refused_at slot i lawful old new BadRule listed is short = absurd short
-refused_at slot i lawful old new NotListed listed is short = absurd short
-
 -- the seat may give the desk back as it took it
 pub may_leave : (me waiting : Seated) (number made : ℕ) (before after : State) → InHand me waiting number made before → after ≡ before
     → HasDesk waiting (number_in waiting) after.max_entries (past after.journal)
@@ -182,30 +150,39 @@ may_leave me waiting number made before after hand same =
           ∙ ap (λ (h : List Entry). (desk_view (number_in waiting) h after.max_entries hand.has.0 h, (0, None) ∷ [])) (sym history))),
     )
 
+-- an entry of a change that was taken is the newest, and a refused one leaves the journal
+pub newest : (before after : State) (seat : ℕ) (call : Call) (reply : Reply) → HasAnswered before after seat call (Ok reply) → past after.journal ≡ entry_of seat call reply ∷ past before.journal
+newest before after seat call reply answers = newest_of before.max_entries seat (past before.journal) (past after.journal) call reply answers.answer
+
+pub unchanged : (before after : State) (seat : ℕ) (call : Call) (refusal : Refusal) → HasAnswered before after seat call (Err refusal) → after ≡ before
+unchanged before after seat call refusal answers =
+    let journal : after.journal ≡ before.journal = sym (reverse-reverse after.journal) ∙ (ap past (kept_of before.max_entries seat (past before.journal) (past after.journal) call refusal answers.answer) ∙ reverse-reverse before.journal) in
+    ap (λ (j : List Entry). record { journal = j; max_entries = after.max_entries }) journal ∙ ap (λ (m : ℕ). record { journal = before.journal; max_entries = m }) answers.most
+
 -- the history before the newest entry is that of the desk as it was taken out
-pub before_newest : (rested : Seated) (seat number : ℕ) (before after : State) (call : Call) (reply : Reply) → after ≡ with_entry before number call reply
+pub before_newest : (rested : Seated) (seat number : ℕ) (before after : State) (call : Call) (reply : Reply) → HasAnswered before after number call (Ok reply)
     → rested ≡ (seat_view seat (past after.journal) after.max_entries, []) → drop 1 (seen_in rested) ≡ past before.journal
-before_newest rested seat number before after call reply is rests =
-    ap (λ (h : List Entry). drop 1 h) (ap seen_in rests ∙ (ap (λ (d : State). past d.journal) is ∙ past_snoc before.journal (entry_of number call reply)))
+before_newest rested seat number before after call reply answers rests =
+    ap (λ (h : List Entry). drop 1 h) (ap seen_in rests ∙ newest before after number call reply answers)
 
-register_by : (slot : Option ℕ) (i : ℕ) (lawful : ℕ → Bool) (old new : SeatState) (refusal : Refusal) (entries most : ℕ) → length new.seen ≡ entries → new.most ≡ most → entries ≤ most → slot ≡ Some i
-    → ((refusal ≡ BadRule) ↔ (lawful i ≡ false)) → ((refusal ≡ Full) ↔ ((lawful i ≡ true) × (entries ≡ most))) → refusal ≢ NotListed → IsRefusedFor slot lawful old new refusal
-register_by slot i lawful old new BadRule entries most long most_is room listed bad full known = (i, listed, bad.0 refl)
-register_by slot i lawful old new Full entries most long most_is room listed bad full known =
-    let why = full.0 refl in
-    (i, listed, why.0, omega (arith, why.1, long, most_is))
-register_by slot i lawful old new NoMemory entries most long most_is room listed bad full known =
-    let fits : lawful i ≡ true = true_from_ne_false (lawful i) (λ not. let never : NoMemory ≡ BadRule = bad.1 not in cc) in
-    let apart : entries ≢ most = λ same. let never : NoMemory ≡ Full = full.1 (fits, same) in cc in
-    (i, listed, fits, omega (arith, room, apart, long, most_is))
-register_by slot i lawful old new NotListed entries most long most_is room listed bad full known = absurd (known refl)
+-- a seat that made a change counts it
+pub seat_taken : (me waiting rested : Seated) (number made counted seat : ℕ) (before after : State) (call : Call) (reply : Reply) → InHand me waiting number made before
+    → HasAnswered before after number call (Ok reply) → seat ≡ number → rested ≡ (seat_view seat (past after.journal) after.max_entries, []) → counted ≡ made + 1
+    → IsLegal (past after.journal) → IsSeat rested number counted
+seat_taken me waiting rested number made counted seat before after call reply hand answers seat_is rests counts legal =
+    let own : calls_by (past before.journal) number ≡ calls_by (seen_in me) number =
+    subst (λ (n : ℕ). calls_by (past before.journal) n ≡ calls_by (seen_in me) n) (number_is me number made hand.seat) hand.follows.own in
+    let grown : calls_by (past after.journal) number ≡ entry_of number call reply ∷ calls_by (past before.journal) number =
+    ap (λ (h : List Entry). calls_by h number) (newest before after number call reply answers) ∙ own_call (entry_of number call reply) (past before.journal) number refl in
+    let made_is : counted ≡ length (calls_by (past after.journal) number) = omega (arith, counts, hand.seat.made_is, ap length own, ap length grown) in
+    rw (rests, seat_is) (record { rests = refl; made_is = made_is; legal = legal })
 
--- a registration was refused for this
-pub refused_register : (slot : Option ℕ) (i : ℕ) (lawful : ℕ → Bool) (old : SeatState) (refusal : Refusal) (later : TableId) (rested : Seated) (number seat : ℕ) (before after : State) → after ≡ before
-    → rested ≡ (seat_view seat (past after.journal) after.max_entries, []) → length before.journal ≤ before.max_entries → slot ≡ Some i → ((refusal ≡ BadRule) ↔ (lawful i ≡ false))
-    → ((refusal ≡ Full) ↔ ((lawful i ≡ true) × (length before.journal ≡ before.max_entries))) → refusal ≢ NotListed → IsRefusedFor slot lawful old (seat_of later rested number) refusal
-refused_register slot i lawful old refusal later rested number seat before after is rests room listed bad full known =
-    let seen : seen_in rested ≡ past before.journal = ap seen_in rests ∙ ap (λ (d : State). past d.journal) is in
-    let most : rested.0.most ≡ before.max_entries = ap (λ (m : Seated). m.0.most) rests ∙ ap (λ (d : State). d.max_entries) is in
-    let long : length (seen_in rested) ≡ length before.journal = ap length seen ∙ length-reverse before.journal in
-    register_by slot i lawful old (seat_of later rested number) refusal (length before.journal) before.max_entries long most room listed bad full known
+-- one whose change was refused counts none
+pub seat_kept : (me waiting rested : Seated) (number made : ℕ) (before after : State) (call : Call) (refusal : Refusal) → InHand me waiting number made before
+    → HasAnswered before after number call (Err refusal) → rested ≡ (seat_view (number_in waiting) (past after.journal) after.max_entries, []) → IsSeat rested number made
+seat_kept me waiting rested number made before after call refusal hand answers rests =
+    let same : past after.journal ≡ past before.journal = ap (λ (d : State). past d.journal) (unchanged before after number call refusal answers) in
+    let numbered : number_in waiting ≡ number = ap number_in hand.has.1 ∙ number_is me number made hand.seat in
+    let own : calls_by (past before.journal) number ≡ calls_by (seen_in me) number =
+    subst (λ (n : ℕ). calls_by (past before.journal) n ≡ calls_by (seen_in me) n) (number_is me number made hand.seat) hand.follows.own in
+    rw (rests, numbered, same) (record { rests = refl; made_is = hand.seat.made_is ∙ sym (ap length own); legal = hand.follows.legal })

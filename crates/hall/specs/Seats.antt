@@ -1,18 +1,14 @@
 -- What contracts see of a hall, its seats and their notes, and what a call leaves of a seat. Histories have their newest entry
 -- first, so a history goes on by entries in front of it.
-use Rattle.std.specs.Prelude.{◌≡◌, ℕ, ◌<◌, Bool, true, false, Option, Some, None, List, [], ◌∷◌, length, map, drop}
+use Rattle.std.specs.Prelude.{◌≡◌, ℕ, Option, None, List, [], map, Result}
 use Rattle.std.specs.List.{range_with_len}
 use Rattle.atomic_table.specs.Seated.{TableId}
-use Rattle.probe_core.specs.declared.rule.Rule.{Rule}
 use Rattle.desk_core.specs.declared.call.Call.{Call}
 use Rattle.desk_core.specs.declared.entry.Entry.{Entry}
 use Rattle.desk_core.specs.declared.refusal.Refusal.{Refusal}
-use Rattle.desk_core.specs.declared.refusal.Refusal.TheVariants.{BadRule, Full, NoMemory, NotListed}
 use Rattle.desk_core.specs.declared.reply.Reply.{Reply}
-use Rattle.desk_core.specs.Catalogue.{slot_of}
-use Rattle.desk_core.specs.Desk.{probe_at}
 use Rattle.desk_core.specs.Legal.{IsLegal}
-use Rattle.desk_core.specs.Reply.{reply_to}
+use Rattle.desk_core.specs.Mutation.{IsAnswered}
 use Rattle.desk_core.specs.Seats.{calls_by}
 use Rattle.desk_core.specs.Watch.{IsOlder}
 use Rattle.hall.specs.declared.view.Held.{Held}
@@ -56,46 +52,16 @@ pub record GoesOn (old new : SeatState) : Type 0 where
   pub begins : IsOlder old.seen new.seen
   pub legal : IsLegal new.seen
 
--- the entry of a change
-abbrev pub entry_of : ℕ → Call → Reply → Entry
-entry_of seat call reply = record { seat = seat; call = call; reply = reply }
-
--- A change that was taken: its entry is the newest, once, in the seat's name, with the reply that the history before it gives;
--- the journal had room, and the seat's other entries are those that it had made
-pub record Makes (old new : SeatState) (call : Call) (reply : Reply) : Type 0 where
+-- How a mutation that a seat is asked for is answered, among those of other seats: from a history that goes on where the one that the
+-- seat had seen ends, with no more entries of the seat. One whose name is not listed leaves the seat as it is
+pub record IsCarriedOut (old new : SeatState) (call : Option Call) (result : Result Reply Refusal) : Type 0 where
   pub before : List Entry
-  pub last : new.seen ≡ entry_of old.number call reply ∷ before
-  pub reply_is : reply ≡ reply_to before call
   pub begins : IsOlder old.seen before
-  pub room : length before < old.most
-  pub own : own_calls new ≡ entry_of old.number call reply ∷ own_calls old
-
--- a change of a listed service was taken
-pub record MakesAt (names : List (List ℕ)) (name : List ℕ) (call : ℕ → Call) (old new : SeatState) (reply : Reply) : Type 0 where
-  pub slot : ℕ
-  pub listed : slot_of names name ≡ Some slot
-  pub makes : Makes old new (call slot) reply
-
--- Full is answered at a full journal, and want of memory at one that is not full; nothing else is
-abbrev pub IsOutOfRoom : SeatState → Refusal → Type 0
-IsOutOfRoom new Full = length new.seen ≡ new.most
-IsOutOfRoom new NoMemory = length new.seen < new.most
-IsOutOfRoom new BadRule = ⊥
-IsOutOfRoom new NotListed = ⊥
-
--- Why a change of a service was refused, in the order in which it is tested; the causes shut each other out. A seat that asks
--- for a name that is not listed makes no step
-abbrev pub IsRefusedFor : Option ℕ → (ℕ → Bool) → SeatState → SeatState → Refusal → Type 0
-IsRefusedFor slot lawful old new NotListed = (slot ≡ None) × (new ≡ old)
-IsRefusedFor slot lawful old new BadRule = (i : ℕ) × (slot ≡ Some i) × (lawful i ≡ false)
-IsRefusedFor slot lawful old new Full = (i : ℕ) × (slot ≡ Some i) × (lawful i ≡ true) × IsOutOfRoom new Full
-IsRefusedFor slot lawful old new NoMemory = (i : ℕ) × (slot ≡ Some i) × (lawful i ≡ true) × IsOutOfRoom new NoMemory
-
--- the probe that a change of a listed service gave back, if it did: the one that stood in the slot before it
-pub record GivesBack (names : List (List ℕ)) (name : List ℕ) (new : SeatState) (probe : Option (Rule × ℕ)) : Type 0 where
-  pub slot : ℕ
-  pub listed : slot_of names name ≡ Some slot
-  pub probe_is : probe ≡ probe_at (drop 1 new.seen) slot
+  pub own : calls_by before old.number ≡ own_calls old
+  pub legal : IsLegal before
+  pub same : new ≡ with_seen old new.seen
+  pub answer : IsAnswered old.most old.number before new.seen call result
+  pub unlisted : call ≡ None → new ≡ old
 
 -- the history goes on from what the seat saw, and has no more entries of the seat
 pub record IsSeenIn (history : List Entry) (seat : SeatState) : Type 0 where

@@ -1,5 +1,5 @@
 ghost use Rattle.std.specs.Prelude.{◌≡◌};
-ghost use Rattle.hall.specs.Seats.{entry_of};
+ghost use Rattle.desk_core.specs.Mutation.{entry_of};
 
 use crate::gate::{enter, finish, leave};
 use crate::hall::Hall;
@@ -10,12 +10,48 @@ use std::sync::Wait;
 
 /// The changes. Each waits for the seat's turn, but that of a name that is not listed.
 impl<P: Probe> Hall<P> {
-    ghost use Rattle.std.specs.Prelude.{◌≡◌, true, IfOk, IfErr, OnErr};
+    ghost use Rattle.std.specs.Prelude.{◌≡◌, None, Some, Ok, Err, IfSome, IfOk, IfErr, MatchResult, drop};
     ghost use Rattle.std.specs.Option.{option_map};
-    ghost use Rattle.desk_core.specs.declared.call.Call.{Call};
+    ghost use Rattle.desk_core.specs.declared.call.Call.TheVariants as calls;
     ghost use Rattle.desk_core.specs.Catalogue.{slot_of};
-    ghost use Rattle.desk_core.specs.Present.{is_lawful};
-    ghost use Rattle.hall.specs.Seats.{IsOf, GoesOn, Makes, MakesAt, GivesBack, IsOutOfRoom, IsRefusedFor, own_calls};
+    ghost use Rattle.desk_core.specs.Desk.{probe_at, probe_of};
+    ghost use Rattle.desk_core.specs.Mutation.{rule_of};
+    ghost use Rattle.desk_core.specs.Order.{call_at};
+    ghost use Rattle.hall.specs.Seats.{IsOf, IsCarriedOut};
+
+    /// Makes a change, with the probe that it registers, in its opening state, if it registers one. There is no call where its name
+    /// is not listed. Gives back the probe that it takes out, or where it is refused the one that was handed in.
+    pub fn change<R: Wait>(
+        &self,
+        rt: &R,
+        seat: &mut Seat<P>,
+        call: Option<Call>,
+        probe: Option<P>,
+    ) -> Result<(Reply, Option<P>), (Refusal, Option<P>)>
+        requires ours { IsOf self.now seat.old }
+        requires ruled { IfSome call (λ c. option_map P.rule probe ≡ rule_of c) }
+        ensures answered { MatchResult result (λ taken. IsCarriedOut seat.old seat.new call (Ok taken.0)) (λ refused. IsCarriedOut seat.old seat.new call (Err refused.0)) }
+        ensures old { IfOk result (λ taken. IfSome call (λ c. option_map (λ p. (P.rule p, P.memory p)) taken.1 ≡ probe_of (drop 1 seat.new.seen) c)) }
+        ensures handed_back { IfErr result (λ refused. refused.1 ≡ probe) }
+    {
+        let number = seat.number;
+        let Some(call) = &call else {
+            return Err((Refusal::NotListed, probe));
+        };
+        let shared = &self.table.shared;
+        let mut desk = enter(rt, shared, &mut seat.place);
+        match desk.change(number, *call, probe) {
+            Ok((reply, old)) => {
+                let entry = entry(number, call, reply);
+                finish(shared, &mut seat.place, &mut seat.made, desk, entry);
+                Ok((reply, old))
+            }
+            Err(refused) => {
+                leave(shared, &mut seat.place, desk);
+                Err(refused)
+            }
+        }
+    }
 
     /// Puts a probe, in its opening state, under the name.
     pub fn register<R: Wait>(
@@ -26,33 +62,21 @@ impl<P: Probe> Hall<P> {
         probe: P,
     ) -> Result<Registered<P>, Handed<P>>
         requires { IsOf self.now seat.old }
-        ensures goes_on { GoesOn seat.old seat.new }
-        ensures made { IfOk result (λ taken. MakesAt self.now.names name.now (λ slot. Call.Register slot (P.rule probe)) seat.old seat.new taken.reply) }
-        ensures old { IfOk result (λ taken. GivesBack self.now.names name.now seat.new (option_map (λ p. (P.rule p, P.memory p)) taken.old)) }
-        ensures refused { IfErr result (λ handed. IsRefusedFor (slot_of self.now.names name.now) (λ slot. is_lawful slot (P.rule probe)) seat.old seat.new handed.refusal) }
+        ensures answered { MatchResult result (λ taken. IsCarriedOut seat.old seat.new (call_at self.now.names (λ slot. calls.Register slot (P.rule probe)) name.now) (Ok taken.reply)) (λ handed. IsCarriedOut seat.old seat.new (call_at self.now.names (λ slot. calls.Register slot (P.rule probe)) name.now) (Err handed.refusal)) }
+        ensures old { IfOk result (λ taken. IfSome (slot_of self.now.names name.now) (λ slot. option_map (λ p. (P.rule p, P.memory p)) taken.old ≡ probe_at (drop 1 seat.new.seen) slot)) }
         ensures handed_back { IfErr result (λ handed. handed.probe ≡ probe) }
-        ensures kept { OnErr result (own_calls seat.new ≡ own_calls seat.old) }
     {
-        let number = seat.number;
-        let Some(slot) = self.catalogue.slot(name) else {
-            return Err(Handed {
-                refusal: Refusal::NotListed,
-                probe,
-            });
-        };
         let rule = probe.rule();
-        let shared = &self.table.shared;
-        let mut desk = enter(rt, shared, &mut seat.place);
-        match desk.register(number, slot, probe) {
-            Ok(registered) => {
-                let entry = entry(number, Call::Register(slot, rule), registered.reply);
-                finish(shared, &mut seat.place, &mut seat.made, desk, entry);
-                Ok(registered)
-            }
-            Err(handed) => {
-                leave(shared, &mut seat.place, desk);
-                Err(handed)
-            }
+        let call = self
+            .catalogue
+            .slot(name)
+            .map(|slot| Call::Register(slot, rule));
+        match self.change(rt, seat, call, Some(probe)) {
+            Ok((reply, old)) => Ok(Registered { reply, old }),
+            Err((refusal, probe)) => Err(Handed {
+                refusal,
+                probe: probe.unwrap(),
+            }),
         }
     }
 
@@ -64,28 +88,13 @@ impl<P: Probe> Hall<P> {
         name: &str,
     ) -> Result<(Reply, Option<P>), Refusal>
         requires { IsOf self.now seat.old }
-        ensures goes_on { GoesOn seat.old seat.new }
-        ensures made { IfOk result (λ taken. MakesAt self.now.names name.now (λ slot. Call.Retire slot) seat.old seat.new taken.0) }
-        ensures old { IfOk result (λ taken. GivesBack self.now.names name.now seat.new (option_map (λ p. (P.rule p, P.memory p)) taken.1)) }
-        ensures refused { IfErr result (λ refusal. IsRefusedFor (slot_of self.now.names name.now) (λ slot. true) seat.old seat.new refusal) }
-        ensures kept { OnErr result (own_calls seat.new ≡ own_calls seat.old) }
+        ensures answered { MatchResult result (λ taken. IsCarriedOut seat.old seat.new (call_at self.now.names (λ slot. calls.Retire slot) name.now) (Ok taken.0)) (λ refusal. IsCarriedOut seat.old seat.new (call_at self.now.names (λ slot. calls.Retire slot) name.now) (Err refusal)) }
+        ensures old { IfOk result (λ taken. IfSome (slot_of self.now.names name.now) (λ slot. option_map (λ p. (P.rule p, P.memory p)) taken.1 ≡ probe_at (drop 1 seat.new.seen) slot)) }
     {
-        let number = seat.number;
-        let Some(slot) = self.catalogue.slot(name) else {
-            return Err(Refusal::NotListed);
-        };
-        let shared = &self.table.shared;
-        let mut desk = enter(rt, shared, &mut seat.place);
-        match desk.retire(number, slot) {
-            Ok((reply, old)) => {
-                let entry = entry(number, Call::Retire(slot), reply);
-                finish(shared, &mut seat.place, &mut seat.made, desk, entry);
-                Ok((reply, old))
-            }
-            Err(refusal) => {
-                leave(shared, &mut seat.place, desk);
-                Err(refusal)
-            }
+        let call = self.catalogue.slot(name).map(|slot| Call::Retire(slot));
+        match self.change(rt, seat, call, None) {
+            Ok(taken) => Ok(taken),
+            Err((refusal, _)) => Err(refusal),
         }
     }
 
@@ -98,28 +107,13 @@ impl<P: Probe> Hall<P> {
         finding: Finding,
     ) -> Result<Reply, Refusal>
         requires { IsOf self.now seat.old }
-        ensures goes_on { GoesOn seat.old seat.new }
-        ensures made { IfOk result (λ reply. MakesAt self.now.names name.now (λ slot. Call.Observe slot finding) seat.old seat.new reply) }
-        ensures refused { IfErr result (λ refusal. IsRefusedFor (slot_of self.now.names name.now) (λ slot. true) seat.old seat.new refusal) }
-        ensures kept { OnErr result (own_calls seat.new ≡ own_calls seat.old) }
+        ensures answered { IsCarriedOut seat.old seat.new (call_at self.now.names (λ slot. calls.Observe slot finding) name.now) result }
     {
-        let number = seat.number;
-        let Some(slot) = self.catalogue.slot(name) else {
-            return Err(Refusal::NotListed);
-        };
-        let shared = &self.table.shared;
-        let mut desk = enter(rt, shared, &mut seat.place);
-        match desk.observe(number, slot, finding) {
-            Ok(reply) => {
-                let entry = entry(number, Call::Observe(slot, finding), reply);
-                finish(shared, &mut seat.place, &mut seat.made, desk, entry);
-                Ok(reply)
-            }
-            Err(refusal) => {
-                leave(shared, &mut seat.place, desk);
-                Err(refusal)
-            }
-        }
+        let call = self
+            .catalogue
+            .slot(name)
+            .map(|slot| Call::Observe(slot, finding));
+        self.make(rt, seat, call)
     }
 
     /// Lets the service hear what somebody set it to.
@@ -131,81 +125,55 @@ impl<P: Probe> Hall<P> {
         setting: Setting,
     ) -> Result<Reply, Refusal>
         requires { IsOf self.now seat.old }
-        ensures goes_on { GoesOn seat.old seat.new }
-        ensures made { IfOk result (λ reply. MakesAt self.now.names name.now (λ slot. Call.Set slot setting) seat.old seat.new reply) }
-        ensures refused { IfErr result (λ refusal. IsRefusedFor (slot_of self.now.names name.now) (λ slot. true) seat.old seat.new refusal) }
-        ensures kept { OnErr result (own_calls seat.new ≡ own_calls seat.old) }
+        ensures answered { IsCarriedOut seat.old seat.new (call_at self.now.names (λ slot. calls.Set slot setting) name.now) result }
     {
-        let number = seat.number;
-        let Some(slot) = self.catalogue.slot(name) else {
-            return Err(Refusal::NotListed);
-        };
-        let shared = &self.table.shared;
-        let mut desk = enter(rt, shared, &mut seat.place);
-        match desk.set(number, slot, setting) {
-            Ok(reply) => {
-                let entry = entry(number, Call::Set(slot, setting), reply);
-                finish(shared, &mut seat.place, &mut seat.made, desk, entry);
-                Ok(reply)
-            }
-            Err(refusal) => {
-                leave(shared, &mut seat.place, desk);
-                Err(refusal)
-            }
-        }
+        let call = self
+            .catalogue
+            .slot(name)
+            .map(|slot| Call::Set(slot, setting));
+        self.make(rt, seat, call)
     }
 
     /// Shows every registered service as not serving, until the next resume.
     pub fn shutdown<R: Wait>(&self, rt: &R, seat: &mut Seat<P>) -> Result<Reply, Refusal>
         requires { IsOf self.now seat.old }
-        ensures goes_on { GoesOn seat.old seat.new }
-        ensures made { IfOk result (λ reply. Makes seat.old seat.new Call.Shutdown reply) }
-        ensures refused { IfErr result (λ refusal. IsOutOfRoom seat.new refusal) }
-        ensures kept { OnErr result (own_calls seat.new ≡ own_calls seat.old) }
+        ensures answered { IsCarriedOut seat.old seat.new (Some calls.Shutdown) result }
     {
-        let number = seat.number;
-        let shared = &self.table.shared;
-        let mut desk = enter(rt, shared, &mut seat.place);
-        match desk.shutdown(number) {
-            Ok(reply) => {
-                let entry = entry(number, Call::Shutdown, reply);
-                finish(shared, &mut seat.place, &mut seat.made, desk, entry);
-                Ok(reply)
-            }
-            Err(refusal) => {
-                leave(shared, &mut seat.place, desk);
-                Err(refusal)
-            }
-        }
+        self.make(rt, seat, Some(Call::Shutdown))
     }
 
     /// Takes every probe back to its opening state, also where nothing was shut down.
     pub fn resume<R: Wait>(&self, rt: &R, seat: &mut Seat<P>) -> Result<Reply, Refusal>
         requires { IsOf self.now seat.old }
-        ensures goes_on { GoesOn seat.old seat.new }
-        ensures made { IfOk result (λ reply. Makes seat.old seat.new Call.Resume reply) }
-        ensures refused { IfErr result (λ refusal. IsOutOfRoom seat.new refusal) }
-        ensures kept { OnErr result (own_calls seat.new ≡ own_calls seat.old) }
+        ensures answered { IsCarriedOut seat.old seat.new (Some calls.Resume) result }
     {
-        let number = seat.number;
-        let shared = &self.table.shared;
-        let mut desk = enter(rt, shared, &mut seat.place);
-        match desk.resume(number) {
-            Ok(reply) => {
-                let entry = entry(number, Call::Resume, reply);
-                finish(shared, &mut seat.place, &mut seat.made, desk, entry);
-                Ok(reply)
-            }
-            Err(refusal) => {
-                leave(shared, &mut seat.place, desk);
-                Err(refusal)
-            }
+        self.make(rt, seat, Some(Call::Resume))
+    }
+
+    /// Makes a change that registers nothing.
+    fn make<R: Wait>(
+        &self,
+        rt: &R,
+        seat: &mut Seat<P>,
+        call: Option<Call>,
+    ) -> Result<Reply, Refusal>
+        requires ours { IsOf self.now seat.old }
+        requires ruled { IfSome call (λ c. rule_of c ≡ None) }
+        ensures answered { IsCarriedOut seat.old seat.new call result }
+    {
+        match self.change(rt, seat, call, None) {
+            Ok((reply, _)) => Ok(reply),
+            Err((refusal, _)) => Err(refusal),
         }
     }
 }
 
-fn entry(seat: u16, call: Call, reply: Reply) -> Entry
-    ensures { result ≡ entry_of seat call reply }
+fn entry(seat: u16, call: &Call, reply: Reply) -> Entry
+    ensures { result ≡ entry_of seat call.now reply }
 {
-    Entry { seat, call, reply }
+    Entry {
+        seat,
+        call: *call,
+        reply,
+    }
 }

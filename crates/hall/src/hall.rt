@@ -67,6 +67,13 @@ impl<P: Probe> Hall<P> {
             dealt,
         ))
     }
+
+    /// The names of the services.
+    pub fn catalogue(&self) -> &Catalogue
+        ensures { result.now ≡ self.now.names }
+    {
+        &self.catalogue
+    }
 }
 
 /// A table with the desk at home, and the view that deals out the seats.

@@ -5,7 +5,7 @@ use crate::fault::Fault;
 use crate::input::read;
 use clap::ArgMatches;
 use probe_core::{Probe, Rule};
-use script::{Mode, copy_of_orders, read_script};
+use script::{Mode, read_script};
 use server::{Capacity, hall_of, serve};
 use std::alloc::{AllocError, Global};
 use std::io;
@@ -74,18 +74,9 @@ where
 {
     let script = read_script(alloc, bytes, Mode::Serve)?;
     let seats = capacity.workers.min(MAX_WORKERS) + MORE_SEATS;
-    let orders = copy_of_orders(alloc, script.orders())?;
-    let set_up = hall_of(rt, alloc, &script, make, seats)?;
+    let made = hall_of(rt, alloc, script, make, seats)?;
     let listener = listen(rt, port)?;
-    let served = serve(
-        rt,
-        alloc,
-        set_up.hall,
-        set_up.seats,
-        orders,
-        &listener,
-        capacity,
-    )?;
+    let served = serve(rt, alloc, made, &listener, capacity)?;
     let mut output = String::new(alloc);
     served.put(&mut output)?;
     Ok(output)

@@ -1,4 +1,4 @@
-pub mod CopyLemmas
+pub mod ChangeLemmas
 pub mod LineCuts
 pub mod LineLemmas
 pub mod LineRunLemmas
@@ -7,8 +7,8 @@ pub mod NumberLemmas
 pub mod OneLine
 pub mod OneScript
 pub mod OpeningLemmas
+pub mod ReplayLemmas
 pub mod RuleLemmas
-pub mod RunLemmas
-pub mod RunningLemmas
 pub mod ScriptLemmas
+pub mod SetupLemmas
 pub mod WordLemmas

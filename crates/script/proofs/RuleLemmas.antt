@@ -1,9 +1,9 @@
 -- Probes for the lines of a script.
-use Rattle.std.proofs.Common.{◌≡◌, ℕ, ◌+◌, ◌<◌, ◌↔◌, All, IsSome, Option, None, Some, Result, Ok, List, [], ◌∷◌, ◌++◌, length, map, take, get_or, refl, sym, ap, subst, ◌∙◌, arith}
+use Rattle.std.proofs.Common.{◌≡◌, ℕ, ◌+◌, ◌<◌, All, Option, None, Some, Result, Ok, List, [], ◌∷◌, ◌++◌, length, map, take, drop, get_or, refl, sym, ap, subst, ◌∙◌}
 use Rattle.std.specs.List.{cons_option}
-use Rattle.std.specs.Option.{option_map, option_to_list}
+use Rattle.std.specs.Option.{option_to_list}
 use Rattle.std.specs.declared.alloc.AllocError.{AllocError}
-use Rattle.std.proofs.lemmas.List.{map-append, take_more, append-nil}
+use Rattle.std.proofs.lemmas.List.{map-append, take_more, drop_more, append-nil}
 use Rattle.std.proofs.lemmas.List.Elements.{All-push, filter_map-append}
 use Rattle.probe_core.specs.declared.rule.Rule.{Rule}
 use Rattle.probe_core.specs.Made.{IsAsked}
@@ -15,6 +15,10 @@ use Rattle.script.specs.Rules.{rule_in, rules_in}
 pub record AreMade {P : Type 0} (rule_of : P → Rule) (memory_of : P → ℕ) (lines : List Line) (probes : List P) : Type 0 where
   pub rules : map rule_of probes ≡ rules_in lines
   pub memories : All (λ probe. memory_of probe ≡ opening_memory (rule_of probe)) probes
+
+-- the lines that are left begin with the one whose turn it is
+pub left_is : (lines : List Line) (i : ℕ) (line : Line) → i < length lines → line ≡ get_or lines i line → drop i lines ≡ line ∷ drop (i + 1) lines
+left_is lines i line below is = drop_more lines i line below ∙ ap (λ (l : Line). l ∷ drop (i + 1) lines) (sym is)
 
 -- the rules of one line more
 rules_more : (lines : List Line) (i : ℕ) (line : Line) → i < length lines → line ≡ get_or lines i line → rules_in (take (i + 1) lines) ≡ rules_in (take i lines) ++ cons_option (rule_in line) []
@@ -42,21 +46,20 @@ made_none rule_of memory_of lines i line found probes below is looked none befor
   memories = before.memories;
 }
 
--- the probe of the first line, where it registers a service, and those for the other lines
-pub supplied : {P : Type 0} (rule_of : P → Rule) (line : Line) (lines : List Line) (probe : Option P) (probes left : List P) → IsSome probe ↔ IsSome (rule_in line) → probes ≡ option_to_list probe ++ left → map rule_of probes ≡ rules_in (line ∷ lines) → (option_map rule_of probe ≡ rule_in line) × (map rule_of left ≡ rules_in lines)
-supplied {P} rule_of line lines probe probes left there taken rules = by_rule (rule_in line) probe there (ap (map rule_of) (sym taken) ∙ rules)
-  where
-    by_rule : (rule : Option Rule) (probe : Option P) → IsSome probe ↔ IsSome rule → map rule_of (option_to_list probe ++ left) ≡ cons_option rule (rules_in lines) → (option_map rule_of probe ≡ rule) × (map rule_of left ≡ rules_in lines)
-    by_rule None None there rules = (refl, rules)
-    by_rule None (Some own) there rules = let none = there.0 refl in cc
-    by_rule (Some rule) None there rules = let none = there.1 refl in cc
-    by_rule (Some rule) (Some own) there rules = (cc, cc)
+-- a value in front of a list, where there is one
+cons_option-list : {X : Type 0} (value : Option X) (others : List X) → cons_option value others ≡ option_to_list value ++ others
+cons_option-list None others = refl
+cons_option-list (Some value) others = refl
 
--- a line that registers a service finds a probe
-pub some_left : {P : Type 0} (rule_of : P → Rule) (line : Line) (lines : List Line) (probes : List P) → map rule_of probes ≡ rules_in (line ∷ lines) → IsSome (rule_in line) → 0 < length probes
-some_left {P} rule_of line lines probes rules some = by_rule (rule_in line) probes some rules
-  where
-    by_rule : (rule : Option Rule) (probes : List P) → IsSome rule → map rule_of probes ≡ cons_option rule (rules_in lines) → 0 < length probes
-    by_rule None probes some rules = cc
-    by_rule (Some rule) [] some rules = cc
-    by_rule (Some rule) (own ∷ probes) some rules = omega arith
+-- what stands behind the value is one list
+others_same : {X : Type 0} (value : Option X) (others more : List X) → option_to_list value ++ others ≡ option_to_list value ++ more → others ≡ more
+others_same None others more same = same
+others_same (Some value) others more same = cc
+
+-- of the rules of lines that of the first line stands first
+pub rules_first : (line : Line) (lines : List Line) (rules : List Rule) → rules ≡ rules_in (line ∷ lines) → rules ≡ option_to_list (rule_in line) ++ rules_in lines
+rules_first line lines rules are = are ∙ cons_option-list (rule_in line) (rules_in lines)
+
+-- and behind it stand those of the others
+pub rules_behind : (line : Line) (lines : List Line) (rules after : List Rule) → rules ≡ rules_in (line ∷ lines) → rules ≡ option_to_list (rule_in line) ++ after → after ≡ rules_in lines
+rules_behind line lines rules after are taken = others_same (rule_in line) after (rules_in lines) (sym taken ∙ rules_first line lines rules are)

@@ -1,3 +1,4 @@
+pub mod Change
 pub mod Line
 pub mod Lines
 pub mod Opening

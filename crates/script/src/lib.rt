@@ -1,7 +1,6 @@
 //! Scripts: lines of text that set a registry up, change it and ask it.
 #![tactic(auto)]
 
-mod copies;
 mod laws;
 mod line;
 mod lines;
@@ -12,22 +11,23 @@ mod order;
 mod outcome;
 mod probes;
 mod reading;
+mod replay;
 mod rule;
 mod run;
-mod running;
 mod script;
 mod script_fault;
+mod setup;
 mod texts;
 mod words;
 
-pub use copies::{copy_of_catalogue, copy_of_orders};
 pub use laws::one_script;
 pub use line::Line;
 pub use probes::probes_for;
 pub use reading::read_script;
-pub use running::run_script;
+pub use replay::run_script;
 pub use script::{Mode, Script};
 pub use script_fault::ScriptFault;
+pub use setup::set_up;
 
 #[cfg(test)]
 mod tests;

@@ -9,7 +9,7 @@ use crate::order::order_of;
 use crate::rule::rule_of;
 use crate::script::Mode;
 use crate::words::words_of;
-use desk_core::{Catalogue, Name, Order};
+use desk_core::{Call, Catalogue, Name, Order};
 use probe_core::Rule;
 use std::alloc::{AllocError, Global};
 
@@ -27,7 +27,9 @@ pub enum Line {
 }
 
 impl Line {
-    ghost use Rattle.std.specs.Prelude.{◌≡◌, ◌+◌, ◌^◌, ◌<◌, ◌↔◌, IsTrue};
+    ghost use Rattle.std.specs.Prelude.{◌≡◌, ◌+◌, ◌^◌, ◌<◌, ◌↔◌, IsTrue, IfSome};
+    ghost use Rattle.desk_core.specs.Mutation.{rule_of};
+    ghost use Rattle.script.specs.Change.{line_change};
     ghost use Rattle.script.specs.Rules.{rule_in};
     ghost use Rattle.script.specs.Script.{IsAllowed, watches_after};
 
@@ -38,6 +40,22 @@ impl Line {
         match self {
             Line::Register(_, rule) => Some(*rule),
             _ => None,
+        }
+    }
+
+    /// The change that the line asks for, if it asks for one; the change is none where its name is not listed.
+    pub fn call(&self, catalogue: &Catalogue) -> Option<Option<Call>>
+        ensures change { result ≡ line_change catalogue.now self.now }
+        ensures ruled { IfSome result (λ change. IfSome change (λ call. rule_of call ≡ rule_in self.now)) }
+    {
+        match self {
+            Line::Register(name, rule) => {
+                let slot = catalogue.slot(name.as_str());
+                Some(slot.map(|slot| Call::Register(slot, *rule)))
+            }
+            Line::Retire(name) => Some(catalogue.slot(name.as_str()).map(Call::Retire)),
+            Line::Order(order) => Some(order.call(catalogue)),
+            Line::Check(_) | Line::Open(_) | Line::Step(_) | Line::Board => None,
         }
     }
 

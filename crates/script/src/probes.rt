@@ -1,11 +1,15 @@
-ghost use Rattle.std.specs.Prelude.{◌≡◌, map, All, IfOk};
+ghost use Rattle.std.specs.Prelude.{◌≡◌, ◌++◌, List, map, All, IfOk};
+ghost use Rattle.std.specs.Option.{option_map, option_to_list};
+ghost use Rattle.std.specs.Vec.Iter.{into_iter_items};
+ghost use Rattle.probe_core.specs.declared.rule.Rule.{Rule};
 ghost use Rattle.probe_core.specs.Made.{MakesAsked};
 ghost use Rattle.probe_core.specs.Rule.{opening_memory};
-ghost use Rattle.script.specs.Rules.{rules_in};
+ghost use Rattle.script.specs.Rules.{rule_in, rules_in};
 
 use crate::line::Line;
 use probe_core::{Probe, Rule};
 use std::alloc::{AllocError, Global};
+use std::vec::IntoIter;
 
 /// A probe for each of the lines that register one, in their order.
 pub fn probes_for<P: Probe, F: Fn(Rule) -> Result<P, AllocError>>(
@@ -25,4 +29,16 @@ pub fn probes_for<P: Probe, F: Fn(Rule) -> Result<P, AllocError>>(
         }
     }
     Ok(probes)
+}
+
+/// The next probe, where the line registers one.
+pub(crate) fn probe_of<P: Probe>(line: &Line, probes: &mut IntoIter<P>) -> Option<P>
+    requires handed_in { (others : List Rule) × (map P.rule (into_iter_items probes.old) ≡ option_to_list (rule_in line.now) ++ others) }
+    ensures ruled { option_map P.rule result ≡ rule_in line.now }
+    ensures left { map P.rule (into_iter_items probes.old) ≡ option_to_list (rule_in line.now) ++ map P.rule (into_iter_items probes.new) }
+{
+    match line.rule() {
+        Some(_) => probes.next(),
+        None => None,
+    }
 }

@@ -1,9 +1,6 @@
-ghost use Rattle.std.specs.Prelude.{◌≡◌, ok_or};
-ghost use Rattle.desk_core.specs.Catalogue.{slot_of};
-
 use crate::line::Line;
 use crate::outcome::Outcome;
-use desk_core::{Catalogue, Desk, Name, Order, Refusal, Reply, Slot, Watch};
+use desk_core::{Call, Catalogue, Desk, Refusal, Registrar, Reply, Slot, Watch};
 use health_wire::Serving;
 use probe_core::Probe;
 use std::alloc::{AllocError, Global};
@@ -15,6 +12,7 @@ const SEAT: u16 = 0;
 /// A registry of one thread that meets the lines of a script, and the watches that they opened, in order.
 #[derive(Drop)]
 pub struct Run<P: Probe> {
+    catalogue: Catalogue,
     desk: Desk<P>,
     watches: Vec<Watch>,
 }
@@ -25,90 +23,50 @@ impl<P: Probe> Model for Run<P> {
 
     ghost Value = { RunState };
 
-    ghost view = { λ run. record { max_entries = run.desk.max_entries; entries = past run.desk.journal; watches = run.watches.items } };
+    ghost view = { λ run. record { names = run.catalogue; max_entries = run.desk.max_entries; entries = past run.desk.journal; watches = run.watches.items } };
 }
 
 impl<P: Probe> Run<P> {
-    ghost use Rattle.std.specs.Prelude.{◌≡◌, ◌<◌, [], ◌∷◌, ◌++◌, length, Some, IfOk, OnOk};
+    ghost use Rattle.std.specs.Prelude.{◌≡◌, ◌<◌, [], ◌∷◌, ◌++◌, length, IfOk, OnOk};
     ghost use Rattle.std.specs.Option.{option_map};
-    ghost use Rattle.desk_core.specs.declared.call.Call.TheVariants as calls;
     ghost use Rattle.desk_core.specs.Changes.{changes_of};
     ghost use Rattle.desk_core.specs.Status.{shown};
     ghost use Rattle.desk_core.specs.Watch.{opened};
-    ghost use Rattle.desk_core.specs.Order.{call_at, ordered};
-    ghost use Rattle.script.specs.Run.{opening, with_watches, IsChanged, IsStepped, IsLineRun};
+    ghost use Rattle.script.specs.Run.{opening, with_watches, IsStepped, IsLineRun};
     ghost use Rattle.script.specs.Rules.{rule_in};
     ghost use Rattle.script.specs.Script.{IsStepOfOpened};
 
-    pub fn new(alloc: Global, max_entries: u32) -> Run<P>
-        ensures { result ≡ opening max_entries }
+    pub fn new(alloc: Global, catalogue: Catalogue, max_entries: u32) -> Run<P>
+        ensures { result ≡ opening catalogue max_entries }
     {
         Run {
+            catalogue,
             desk: Desk::new(alloc, max_entries),
             watches: Vec::new(alloc),
         }
     }
 
     /// Does what a line says, with a probe of its rule where it registers one.
-    pub fn meet(
-        &mut self,
-        catalogue: &Catalogue,
-        line: &Line,
-        probe: Option<P>,
-    ) -> Result<Outcome, AllocError>
+    pub fn meet(&mut self, line: &Line, probe: Option<P>) -> Result<Outcome, AllocError>
         requires opened { IsStepOfOpened line.now (length self.old.watches) }
         requires ruled { option_map P.rule probe ≡ rule_in line.now }
-        ensures { IfOk result (λ outcome. IsLineRun catalogue.now self.old line.now self.new outcome) }
+        ensures { IfOk result (λ outcome. IsLineRun self.old line.now self.new outcome) }
     {
         match line {
-            Line::Register(name, _) => {
-                let probe = probe.unwrap();
-                Ok(Outcome::Changed(self.register(catalogue, name, probe)))
+            Line::Register(..) | Line::Retire(_) | Line::Order(_) => {
+                let call = line.call(&self.catalogue).unwrap();
+                Ok(Outcome::Changed(self.change(call, probe)))
             }
-            Line::Retire(name) => Ok(Outcome::Changed(self.retire(catalogue, name))),
-            Line::Order(order) => Ok(Outcome::Changed(self.order(catalogue, order))),
             Line::Check(name) => {
-                let slot = catalogue.slot(name.as_str());
+                let slot = self.catalogue.slot(name.as_str());
                 Ok(Outcome::Checked(self.desk.check(slot)))
             }
-            Line::Open(name) => self.open(catalogue.slot(name.as_str())),
+            Line::Open(name) => {
+                let slot = self.catalogue.slot(name.as_str());
+                self.open(slot)
+            }
             Line::Step(number) => Ok(Outcome::Stepped(self.step(*number as usize))),
             Line::Board => Ok(Outcome::Board(self.desk.board())),
-        }
-    }
-
-    fn register(&mut self, catalogue: &Catalogue, name: &Name, probe: P) -> Result<Reply, Refusal>
-        ensures { IsChanged self.old (call_at catalogue.now (λ slot. calls.Register slot (P.rule probe)) name.now) self.new result }
-    {
-        let slot = listed(catalogue, name)?;
-        match self.desk.register(SEAT, slot, probe) {
-            Ok(taken) => Ok(taken.reply),
-            Err(handed) => Err(handed.refusal),
-        }
-    }
-
-    fn retire(&mut self, catalogue: &Catalogue, name: &Name) -> Result<Reply, Refusal>
-        ensures { IsChanged self.old (call_at catalogue.now (λ slot. calls.Retire slot) name.now) self.new result }
-    {
-        let slot = listed(catalogue, name)?;
-        let (reply, _) = self.desk.retire(SEAT, slot)?;
-        Ok(reply)
-    }
-
-    fn order(&mut self, catalogue: &Catalogue, order: &Order) -> Result<Reply, Refusal>
-        ensures { IsChanged self.old (ordered catalogue.now order.now) self.new result }
-    {
-        match order {
-            Order::Observe(name, finding) => {
-                let slot = listed(catalogue, name)?;
-                self.desk.observe(SEAT, slot, *finding)
-            }
-            Order::Set(name, setting) => {
-                let slot = listed(catalogue, name)?;
-                self.desk.set(SEAT, slot, *setting)
-            }
-            Order::Shutdown => self.desk.shutdown(SEAT),
-            Order::Resume => self.desk.resume(SEAT),
         }
     }
 
@@ -131,8 +89,31 @@ impl<P: Probe> Run<P> {
     }
 }
 
-fn listed(catalogue: &Catalogue, name: &Name) -> Result<Slot, Refusal>
-    ensures { result ≡ ok_or (slot_of catalogue.now name.now) Refusal.NotListed }
-{
-    catalogue.slot(name.as_str()).ok_or(Refusal::NotListed)
+impl<P: Probe> Registrar<P> for Run<P> {
+    ghost use Rattle.std.specs.Prelude.{◌≡◌, IfSome};
+    ghost use Rattle.std.specs.Option.{option_map};
+    ghost use Rattle.desk_core.specs.Mutation.{rule_of};
+    ghost use Rattle.script.specs.Run.{IsChanged};
+
+    ghost names = { λ run. run.names };
+
+    ghost answers = { IsChanged };
+
+    fn catalogue(&self) -> &Catalogue {
+        &self.catalogue
+    }
+
+    fn change(&mut self, call: Option<Call>, probe: Option<P>) -> Result<Reply, Refusal>
+        requires ruled { IfSome call (λ c. option_map P.rule probe ≡ rule_of c) }
+        ensures names { self.new.names ≡ self.old.names }
+        ensures answered { IsChanged self.old self.new call result }
+    {
+        let Some(call) = call else {
+            return Err(Refusal::NotListed);
+        };
+        match self.desk.change(SEAT, call, probe) {
+            Ok((reply, _)) => Ok(reply),
+            Err((refusal, _)) => Err(refusal),
+        }
+    }
 }

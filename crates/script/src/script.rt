@@ -50,6 +50,17 @@ impl Script {
         }
     }
 
+    /// The catalogue, how many entries the journal may have, the lines and the orders.
+    pub fn into_parts(self) -> (Catalogue, u32, Vec<Line>, Vec<Order>)
+        ensures catalogue { result.0 ≡ self.names }
+        ensures max { result.1 ≡ self.max }
+        ensures lines { result.2.items ≡ self.lines }
+        ensures orders { result.3.items ≡ self.orders }
+        ensures steps { StepsFollow 0 self.lines }
+    {
+        (self.catalogue, self.max, self.lines, self.orders)
+    }
+
     /// How many entries the journal may have.
     pub fn max(&self) -> u32
         ensures { result ≡ self.now.max }

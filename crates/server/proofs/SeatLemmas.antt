@@ -9,7 +9,7 @@ use Rattle.desk_core.specs.declared.call.Call.{Call}
 use Rattle.desk_core.specs.declared.refusal.Refusal.{Refusal}
 use Rattle.desk_core.specs.declared.reply.Reply.{Reply}
 use Rattle.hall.specs.Seats.{HallState, SeatState, IsOf, new_seats}
-use Rattle.crew.specs.Errand.{HasCarriedOut}
+use Rattle.crew.specs.CarriedOut.{HasCarriedOut}
 use Rattle.crew.proofs.CarryingOut.{are_ours}
 use Rattle.server.specs.Setup.{AreSetUp}
 
@@ -23,7 +23,7 @@ pub carried_ours : (hall : HallState) (old new : SeatState) (calls : List (Optio
 carried_ours hall old new calls results ours carried = are_ours hall old new calls results ours carried.done
 
 -- they are as many as were asked for
-new_len : (hall : HallState) (most count : ℕ) (seats : List SeatState) → seats ≡ new_seats hall.table most count → length seats ≡ count
+pub new_len : (hall : HallState) (most count : ℕ) (seats : List SeatState) → seats ≡ new_seats hall.table most count → length seats ≡ count
 new_len hall most count seats are = ap length are ∙ length-map-range_with_len _ 0 count
 
 -- the first of them

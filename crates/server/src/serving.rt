@@ -1,7 +1,7 @@
 ghost use Rattle.std.specs.Prelude.{◌≡◌, ◌≢◌, ◌⊎◌, ◌+◌, ◌∷◌, [], Err, length, IfOk, IfSome, IfNone, IsErrOf, is_ok, vec_len};
-ghost use Rattle.std.specs.List.{All, sum_by, count_by};
+ghost use Rattle.std.specs.List.{sum_by, count_by};
 ghost use Rattle.desk_core.specs.Past.{past};
-ghost use Rattle.hall.specs.Seats.{IsOf, own_calls};
+ghost use Rattle.hall.specs.Seats.{own_calls};
 ghost use Rattle.crew.specs.declared.crew_why.CrewWhy.{CrewWhy};
 ghost use Rattle.crew.specs.CrewWhy.{crew_fault, IsOtherReason};
 ghost use Rattle.crew.specs.Serve.{lists_in};
@@ -9,10 +9,11 @@ ghost use Rattle.server.specs.Serving.{HasServedOrders};
 
 use crate::serve_fault::ServeFault;
 use crate::served::Served;
+use crate::setup::SetUpHall;
 use crate::socket::Accept;
 use crew::{OpenTurnstile, Report, serve_all};
 use desk_core::{Order, Refusal, Reply};
-use hall::{Closed, Hall, Seat};
+use hall::Closed;
 use probe_core::Probe;
 use std::alloc::{AllocError, Global};
 use std::net::TcpListener;
@@ -30,34 +31,37 @@ pub struct Capacity {
     pub calls: u16,
 }
 
-/// Serves so many connections to the listener while the orders are made, and then closes the hall.
+/// Serves so many connections to the listener while the orders that a script left are made, and then closes the hall.
 ///
 /// It needs all seats of the hall: one for each worker, of which there is at least one, and one for the orders. It waits for the
 /// last of the connections, however long that takes.
 pub fn serve<R, P: Probe + Send>(
     rt: &R,
     alloc: Global,
-    hall: Hall<P>,
-    seats: Vec<Seat<P>>,
-    orders: Vec<Order>,
+    made: SetUpHall<P>,
     listener: &TcpListener,
     capacity: Capacity,
 ) -> Result<Served<P>, ServeFault>
 where
     R: Wait + Threads + Sync,
-    requires { All (IsOf hall) seats.items }
     // A crew that has too few seats, or no workers, is refused, and no other for that; of which other fault there is, tests show.
-    ensures refused { IfSome (crew_fault capacity.workers 1 (vec_len seats)) (λ why. (result ≡ Err (ServeFault.Crew why)) ⊎ (result ≡ Err ServeFault.NoMemory)) }
-    ensures failed { IfNone (crew_fault capacity.workers 1 (vec_len seats)) ((why : CrewWhy) → IsErrOf result (ServeFault.Crew why) → IsOtherReason capacity.calls why) }
+    ensures refused { IfSome (crew_fault capacity.workers 1 (length made.seats)) (λ why. (result ≡ Err (ServeFault.Crew why)) ⊎ (result ≡ Err ServeFault.NoMemory)) }
+    ensures failed { IfNone (crew_fault capacity.workers 1 (length made.seats)) ((why : CrewWhy) → IsErrOf result (ServeFault.Crew why) → IsOtherReason capacity.calls why) }
     ensures calls { IfOk result (λ served. vec_len served.calls ≡ capacity.calls) }
 
     // The journal that is left is one legal history of what all seats saw and made.
-    ensures served { IfOk result (λ served. HasServedOrders hall capacity.workers orders.items served.orders.items seats.items (past served.desk.journal)) }
-    ensures entries { IfOk result (λ served. length served.desk.journal ≡ sum_by (λ seat. length (own_calls seat)) seats.items + count_by is_ok served.orders.items) }
-    ensures most { IfOk result (λ served. served.desk.max_entries ≡ hall.most) }
+    ensures served { IfOk result (λ served. HasServedOrders made.hall capacity.workers made.orders served.orders.items made.seats (past served.desk.journal)) }
+    ensures entries { IfOk result (λ served. length served.desk.journal ≡ sum_by (λ seat. length (own_calls seat)) made.seats + count_by is_ok served.orders.items) }
+    ensures most { IfOk result (λ served. served.desk.max_entries ≡ made.hall.most) }
 
-    ensures missing { IsErrOf result ServeFault.SeatsMissing → vec_len seats ≢ hall.seats }
+    ensures missing { IsErrOf result ServeFault.SeatsMissing → length made.seats ≢ made.hall.seats }
 {
+    let SetUpHall {
+        hall,
+        seats,
+        results: _,
+        orders,
+    } = made;
     let Ok((jobs, lists)) = work_of(alloc, listener, capacity.calls, orders) else {
         return Err(ServeFault::NoMemory);
     };

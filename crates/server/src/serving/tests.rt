@@ -1,6 +1,4 @@
-ghost use Rattle.std.specs.Prelude.{◌≤◌, length, IfOk};
-ghost use Rattle.std.specs.List.{All};
-ghost use Rattle.hall.specs.Seats.{IsOf};
+ghost use Rattle.std.specs.Prelude.{◌≤◌, length};
 ghost use Rattle.probe_core.specs.Made.{IsAsked, MakesAsked};
 
 use super::*;
@@ -9,7 +7,7 @@ use client::{Told, ask};
 use crew::{CallEnd, CrewWhy};
 use grpc_frame::Code;
 use probe_core::{Depends, Manual, Rule, Threshold};
-use script::{Mode, Script, copy_of_orders, read_script};
+use script::{Mode, read_script};
 use std::io::{BufReader, Read, Write};
 use std::net::{Net, TcpStream};
 use std::test::Fail;
@@ -20,12 +18,10 @@ use web_call::{Method, Outcome, Why};
 
 const HOST: &str = "127.0.0.1";
 
-/// A hall, the orders for it, and a port that is listened to.
+/// A hall that was set up, and a port that is listened to.
 #[derive(Drop)]
 struct Opened<P: Probe> {
-    hall: Hall<P>,
-    seats: Vec<Seat<P>>,
-    orders: Vec<Order>,
+    made: SetUpHall<P>,
     listener: TcpListener,
     port: u16,
 }
@@ -35,14 +31,13 @@ type Taken = Result<Reply, Refusal>;
 
 const DONE: Taken = Ok(Reply::Done);
 
-/// Sets a hall up by the script, whose changes have to come to this.
+/// Sets a hall up by the script, and listens to a port.
 fn open<R, P: Probe, F: Fn(Rule) -> Result<P, AllocError>>(
     rt: &R,
     alloc: Global,
-    script: &Script,
+    script: &str,
     make: &F,
     seats: u16,
-    results: &[Taken],
 ) -> Result<Opened<P>, Fail>
 where
     R: Wait + Net<Listener = TcpListener, Stream = TcpStream>,
@@ -50,25 +45,21 @@ where
     requires asked { MakesAsked P.rule P.memory (F.post make.now) }
     requires some { 1 ≤ seats }
     requires not_too_many { seats ≤ 1024 }
-    ensures { IfOk result (λ opened. All (IsOf opened.hall) opened.seats.items) }
 {
-    let orders = copy_of_orders(alloc, script.orders())?;
-    let made = hall_of(rt, alloc, script, make, seats)?;
-    same(&made.results.as_slice(), &results, &"setup")?;
     let listener = TcpListener::bind(rt, (HOST, 0u16))?;
     let port = listener.local_addr()?.port();
-    let SetUpHall {
-        hall,
-        seats,
-        results: _,
-    } = made;
+    let script = read_script(alloc, script.as_bytes(), Mode::Serve)?;
+    let made = hall_of(rt, alloc, script, make, seats)?;
     Ok(Opened {
-        hall,
-        seats,
-        orders,
+        made,
         listener,
         port,
     })
+}
+
+/// The changes of the setup have to come to this.
+fn expect_results<P: Probe>(opened: &Opened<P>, results: &[Taken]) -> Result<(), Fail> {
+    same(&opened.made.results(), &results, &"setup")
 }
 
 /// Serves so many calls by so many workers, and then lets the port go, so that no client waits for a server that failed.
@@ -81,17 +72,14 @@ fn serve_opened<R, P: Probe + Send>(
 ) -> Result<Served<P>, ServeFault>
 where
     R: Wait + Threads + Sync,
-    requires { All (IsOf opened.hall) opened.seats.items }
 {
     let Opened {
-        hall,
-        seats,
-        orders,
+        made,
         listener,
         port: _,
     } = opened;
     let capacity = Capacity { workers, calls };
-    serve(rt, alloc, hall, seats, orders, &listener, capacity)
+    serve(rt, alloc, made, &listener, capacity)
 }
 
 /// A connection to the port that waits ten seconds for each read: no test takes so long, and a server waits three times as long.
@@ -149,14 +137,11 @@ fn serve_and_ask<R, P: Probe + Send>(
 ) -> (Result<Served<P>, ServeFault>, (Option<Told>, Option<Told>))
 where
     R: Wait + Threads + Sync + Net<Stream = TcpStream>,
-    requires { All (IsOf opened.hall) opened.seats.items }
 {
     let port = opened.port;
     thread::join(
         rt,
-        move || -> Result<Served<P>, ServeFault>
-            requires { All (IsOf opened.hall) opened.seats.items }
-        { serve_opened(rt, alloc, opened, 2, 2) },
+        move || -> Result<Served<P>, ServeFault> { serve_opened(rt, alloc, opened, 2, 2) },
         move || {
             let known = told_of(rt, alloc, port, Method::Check, "a");
             (known, told_of(rt, alloc, port, Method::Check, "zz"))
@@ -170,7 +155,26 @@ register a manual
 register - depends a
 ";
 
-/// Serves by the script, and compares what was told and how the calls ended.
+/// What two Checks by clients of a server were told, how the calls ended, and how many orders and entries there were.
+fn expect_checked<P: Probe>(
+    served: Result<Served<P>, ServeFault>,
+    known: Option<Told>,
+    unknown: Option<Told>,
+) -> Result<(), Fail> {
+    expect_told(known, &[1], 0, b"")?;
+    expect_told(unknown, &[], 5, b"unknown service")?;
+    let served = served?;
+    let found = (
+        served.calls.len(),
+        count_of(&served.calls, Code::Ok),
+        count_of(&served.calls, Code::NotFound),
+        served.orders.len(),
+        served.desk.journal().len(),
+    );
+    same(&found, &(2, 1, 1, 0, 2), &"the report")
+}
+
+/// Serves by the script with such probes, and asks.
 fn expect_served<R, P: Probe + Send, F: Fn(Rule) -> Result<P, AllocError>>(
     rt: &R,
     alloc: Global,
@@ -181,17 +185,10 @@ where
     requires callable { F.IsAlwaysCallable make.now }
     requires asked { MakesAsked P.rule P.memory (F.post make.now) }
 {
-    let script = read_script(alloc, SCRIPT.as_bytes(), Mode::Serve)?;
-    let opened = open(rt, alloc, &script, make, 4, &[DONE, DONE])?;
+    let opened = open(rt, alloc, SCRIPT, make, 4)?;
+    expect_results(&opened, &[DONE, DONE])?;
     let (served, (known, unknown)) = serve_and_ask(rt, alloc, opened);
-    expect_told(known, &[1], 0, b"")?;
-    expect_told(unknown, &[], 5, b"unknown service")?;
-    let served = served?;
-    same(&served.calls.len(), &2, &"calls")?;
-    same(&count_of(&served.calls, Code::Ok), &1, &"Ok")?;
-    same(&count_of(&served.calls, Code::NotFound), &1, &"NotFound")?;
-    same(&served.orders.len(), &0, &"orders")?;
-    same(&served.desk.journal().len(), &2, &"entries")
+    expect_checked(served, known, unknown)
 }
 
 #[test]
@@ -269,14 +266,11 @@ fn serve_and_disturb<R>(
 ) -> (Result<Served<Manual>, ServeFault>, Heard)
 where
     R: Wait + Threads + Sync + Net<Stream = TcpStream>,
-    requires { All (IsOf opened.hall) opened.seats.items }
 {
     let port = opened.port;
     thread::join(
         rt,
-        move || -> Result<Served<Manual>, ServeFault>
-            requires { All (IsOf opened.hall) opened.seats.items }
-        { serve_opened(rt, alloc, opened, 2, 3) },
+        move || -> Result<Served<Manual>, ServeFault> { serve_opened(rt, alloc, opened, 2, 3) },
         move || disturb(rt, alloc, port),
     )
 }
@@ -329,8 +323,8 @@ fn serves_a_watch_beside_orders_and_a_refusal_beside_a_silent_client(
     rt: HostRuntime,
 ) -> Result<(), Fail> {
     let alloc = rt.alloc();
-    let script = read_script(alloc, CHANGING.as_bytes(), Mode::Serve)?;
-    let opened = open(&rt, alloc, &script, &|rule| manual(rule), 4, &[DONE])?;
+    let opened = open(&rt, alloc, CHANGING, &|rule| manual(rule), 4)?;
+    expect_results(&opened, &[DONE])?;
     let (served, heard) = serve_and_disturb(&rt, alloc, opened);
     expect_heard(heard)?;
     let served = served?;
@@ -375,8 +369,8 @@ const ORDERED: [Taken; 8] = [
 #[test]
 fn makes_each_order_and_tells_what_came_of_it(rt: HostRuntime) -> Result<(), Fail> {
     let alloc = rt.alloc();
-    let script = read_script(alloc, ORDERS.as_bytes(), Mode::Serve)?;
-    let opened = open(&rt, alloc, &script, &|rule| manual(rule), 2, &[DONE])?;
+    let opened = open(&rt, alloc, ORDERS, &|rule| manual(rule), 2)?;
+    expect_results(&opened, &[DONE])?;
     let served = serve_opened(&rt, alloc, opened, 1, 0)?;
     same(&served.calls.len(), &0, &"calls")?;
     same(&served.orders.as_slice(), &ORDERED.as_slice(), &"orders")?;
@@ -394,44 +388,41 @@ down a
 up a
 ";
 
-/// How many of the orders got a reply, with so many steps of memory left, if there was room for a report. The others were refused
-/// for want of memory, and the journal has the changes of those with a reply.
-fn replies_in<R>(
-    rt: &R,
-    alloc: Global,
-    script: &Script,
-    steps: usize,
-) -> Result<Option<usize>, Fail>
+/// How many of two orders got a reply, if there was room for a report. The others were refused for want of memory, and the journal
+/// has the changes of those with a reply, and one of the setup.
+fn replies_of<P: Probe>(served: Result<Served<P>, ServeFault>) -> Result<Option<usize>, Fail> {
+    let served = match served {
+        Ok(served) => served,
+        Err(fault) => {
+            same(&fault, &ServeFault::NoMemory, &"the fault")?;
+            return Ok(None);
+        }
+    };
+    let replies = served.orders.iter().filter(|order| order.is_ok()).count();
+    let refused = served
+        .orders
+        .iter()
+        .filter(|order| **order == Err(Refusal::NoMemory))
+        .count();
+    let entries = served.desk.journal().len();
+    let expected = (2usize.wrapping_sub(replies), replies.wrapping_add(1));
+    same(&(refused, entries), &expected, &"the orders")?;
+    Ok(Some(replies))
+}
+
+/// The same of a server with so many steps of memory left.
+fn replies_in<R>(rt: &R, alloc: Global, steps: usize) -> Result<Option<usize>, Fail>
 where
     R: Wait + Threads + Sync + Net<Listener = TcpListener, Stream = TcpStream>,
 {
-    let opened = open(rt, alloc, script, &|rule| manual(rule), 2, &[DONE])?;
+    let opened = open(rt, alloc, SETTING, &|rule| manual(rule), 2)?;
+    expect_results(&opened, &[DONE])?;
     let scarcity = Scarcity::new(alloc, ROOM)?;
     let filler = scarcity.leave_steps(steps)?;
     let served = serve_opened(rt, alloc, opened, 1, 0);
     drop(filler);
     drop(scarcity);
-    let served = match served {
-        Ok(served) => served,
-        Err(fault) => {
-            same(&fault, &ServeFault::NoMemory, &steps)?;
-            return Ok(None);
-        }
-    };
-    let mut replies = 0usize;
-    for result in &served.orders {
-        match result {
-            Ok(_) => replies = replies.wrapping_add(1),
-            Err(refusal) => same(refusal, &Refusal::NoMemory, &steps)?,
-        }
-    }
-    same(&served.orders.len(), &2, &steps)?;
-    same(
-        &served.desk.journal().len(),
-        &replies.wrapping_add(1),
-        &steps,
-    )?;
-    Ok(Some(replies))
+    replies_of(served)
 }
 
 /// With more and more memory left, up to where it suffices. It is tried with half the room first: once the C library has looked for a
@@ -439,15 +430,14 @@ where
 #[test]
 fn tells_what_was_made_where_memory_is_wanting(rt: HostRuntime) -> Result<(), Fail> {
     let alloc = rt.alloc();
-    let script = read_script(alloc, SETTING.as_bytes(), Mode::Serve)?;
     same(
-        &replies_in(&rt, alloc, &script, ROOM / 32)?,
+        &replies_in(&rt, alloc, ROOM / 32)?,
         &Some(2),
         &"half the room",
     )?;
     let (mut untold, mut fewer, mut all) = (0u32, 0u32, 0u32);
     for steps in 0..ROOM / 32 {
-        match replies_in(&rt, alloc, &script, steps)? {
+        match replies_in(&rt, alloc, steps)? {
             None => untold = untold.wrapping_add(1),
             Some(2) => {
                 all = 1;
@@ -470,9 +460,8 @@ const REFUSED: [(u16, u16, CrewWhy); 3] = [
 #[test]
 fn refuses_what_makes_no_crew(rt: HostRuntime) -> Result<(), Fail> {
     let alloc = rt.alloc();
-    let script = read_script(alloc, ORDERS.as_bytes(), Mode::Serve)?;
     for (workers, seats, why) in REFUSED {
-        let opened = open(&rt, alloc, &script, &|rule| manual(rule), seats, &[DONE])?;
+        let opened = open(&rt, alloc, ORDERS, &|rule| manual(rule), seats)?;
         let fault = serve_opened(&rt, alloc, opened, workers, 0).err();
         same(&fault, &Some(ServeFault::Crew(why)), &workers)?;
     }

@@ -69,14 +69,8 @@ fn expect_results(results: &[Result<Reply, Refusal>], lines: &[(&str, Taken)]) -
 }
 
 /// How many changes each of the seats has made, and how many their hall's journal has.
-fn expect_seats<P: Probe>(made: SetUpHall<P>) -> Result<(), Fail>
-    requires { All (IsOf made.hall) made.seats.items }
-{
-    let SetUpHall {
-        hall,
-        seats,
-        results: _,
-    } = made;
+fn expect_seats<P: Probe>(made: SetUpHall<P>) -> Result<(), Fail> {
+    let SetUpHall { hall, seats, .. } = made;
     let changes: [u64; 3] = [4, 0, 0];
     same(&seats.len(), &3, &"seats")?;
     for (seat, made) in seats.iter().zip(changes) {
@@ -99,7 +93,7 @@ fn expect_setup<R: Wait, P: Probe, F: Fn(Rule) -> Result<P, AllocError>>(
     requires asked { MakesAsked P.rule P.memory (F.post make.now) }
 {
     let (hall, mut seat) = one_seat(alloc)?;
-    let results = run_setup(rt, alloc, &hall, &mut seat, script, make)?;
+    let results = run_setup(rt, alloc, &hall, &mut seat, script.lines(), make)?;
     expect_results(&results, &LINES)?;
     same(&seat.made(), &4, &"changes")
 }
@@ -108,7 +102,7 @@ fn expect_setup<R: Wait, P: Probe, F: Fn(Rule) -> Result<P, AllocError>>(
 fn expect_hall<R: Wait, P: Probe, F: Fn(Rule) -> Result<P, AllocError>>(
     rt: &R,
     alloc: Global,
-    script: &Script,
+    script: Script,
     make: &F,
 ) -> Result<(), Fail>
     requires callable { F.IsAlwaysCallable make.now }
@@ -134,7 +128,7 @@ fn makes_the_change_of_each_line(rt: HostRuntime) -> Result<(), Fail> {
     };
     let script = script_of(alloc, &LINES)?;
     expect_setup(&rt, alloc, &script, &make)?;
-    expect_hall(&rt, alloc, &script, &make)
+    expect_hall(&rt, alloc, script, &make)
 }
 
 /// Lines that register one service, by hand.
@@ -209,7 +203,15 @@ fn replies_in<R: Wait>(
     let (hall, mut seat) = one_seat::<Manual>(alloc)?;
     let scarcity = Scarcity::with_small_room(alloc)?;
     let filler = scarcity.leave_steps(steps)?;
-    let results = run_setup(rt, alloc, &hall, &mut seat, script, &|rule| manual(rule)).ok();
+    let results = run_setup(
+        rt,
+        alloc,
+        &hall,
+        &mut seat,
+        script.lines(),
+        &|rule| manual(rule),
+    )
+    .ok();
     drop(filler);
     drop(scarcity);
     replies_of(results.as_ref().map(|all| all.as_slice()), seat.made())
@@ -230,12 +232,8 @@ fn goes_on_behind_each_growth_that_is_refused(rt: HostRuntime) -> Result<(), Fai
 }
 
 /// What comes of the lines in a hall that is made with so many steps of memory left. Its first seat alone has made changes.
-fn hall_in<R: Wait>(
-    rt: &R,
-    alloc: Global,
-    script: &Script,
-    steps: usize,
-) -> Result<Option<u64>, Fail> {
+fn hall_in<R: Wait>(rt: &R, alloc: Global, steps: usize) -> Result<Option<u64>, Fail> {
+    let script = script_of(alloc, &LINES_OF_A)?;
     let scarcity = Scarcity::with_small_room(alloc)?;
     let filler = scarcity.leave_steps(steps)?;
     let made = hall_of(rt, alloc, script, &|rule| manual(rule), 3);
@@ -254,10 +252,9 @@ fn hall_in<R: Wait>(
 
 #[test]
 fn refuses_each_growth_of_a_hall(rt: HostRuntime) -> Result<(), Fail> {
-    let script = script_of(rt.alloc(), &LINES_OF_A)?;
     let mut tally = Tally::new();
     for steps in 0..256usize {
-        tally.count(hall_in(&rt, rt.alloc(), &script, steps)?);
+        tally.count(hall_in(&rt, rt.alloc(), steps)?);
     }
     assert!(rt; tally.unmet > 1 && tally.all > 0, "{tally:?}");
     Ok(())

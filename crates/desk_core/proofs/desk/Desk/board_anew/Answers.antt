@@ -8,10 +8,10 @@ use Rattle.desk_core.proofs.desk.Desk.board_anew.Goals as goal
 
 pub returns-clause-word : goal.returns-clause-word
 returns-clause-word g c =
-    let journal = c.self.inside.book.journal.items in
+    let journal = c.self.inside.history.journal.items in
     let small : c.statuses.result < 4294967296 = search rules in
-    let len : c.len.result ≡ length c.self.inside.book.journal.items = search rules in
-    let word : c.statuses.result ≡ packed (status_at (past c.self.inside.book.journal.items)) 16 =
+    let len : length c.journal.result.now ≡ length journal = ap length c.journal.ensures in
+    let word : c.statuses.result ≡ packed (status_at (past c.self.inside.history.journal.items)) 16 =
     sym (word_is c.statuses.result small)
     ∙ packed_same (status_in c.statuses.result) (status_at (past journal)) 16 (c.statuses.ensures journal c.self.inside.max_entries c.self.invariant.parts) in
     c.word_of.ensures

@@ -1,0 +1,107 @@
+ghost use Rattle.std.specs.Prelude.{◌≡◌};
+ghost use Rattle.desk_core.specs.Slots.{touched};
+
+use crate::cache::Cache;
+use crate::call::Call;
+use crate::change::{Change, tell};
+use crate::entry::Entry;
+use crate::reply::Reply;
+use crate::slot::Slot;
+use crate::slots::Slots;
+use crate::statuses::Statuses;
+use probe_core::{Probe, memory_tells_status};
+use std::alloc::{AllocError, Global};
+
+/// The journal of all changes, what they changed for watchers, and the statuses that they led to.
+#[derive(Drop)]
+pub(crate) struct History {
+    journal: Vec<Entry>,
+    changes: Vec<Change>,
+    cache: Cache,
+}
+
+impl History {
+    ghost use Rattle.std.specs.Prelude.{◌≡◌, ◌+◌, ◌^◌, ◌<◌, ◌≤◌, [], ◌∷◌, ◌++◌, length, replicate, IfOk, OnOk, OnErr};
+    ghost use Rattle.std.specs.Vec.{vec_len, vec_capacity};
+    ghost use Rattle.desk_core.specs.Cache.{IsRelated};
+    ghost use Rattle.desk_core.specs.Changes.{changed};
+    ghost use Rattle.desk_core.specs.Mutation.{entry_of};
+    ghost use Rattle.desk_core.specs.Slots.{shown_in, touched};
+    ghost use Rattle.desk_core.specs.Desk.{IsShown};
+
+    pub(crate) fn new(alloc: Global) -> History
+        ensures journal { result.journal.items ≡ [] }
+        ensures changes { result.changes.items ≡ [] }
+        ensures statuses { result.cache.statuses ≡ 0 }
+        ensures dependents { result.cache.dependents ≡ replicate 16 0 }
+    {
+        History {
+            journal: Vec::new(alloc),
+            changes: Vec::new(alloc),
+            cache: Cache::new(),
+        }
+    }
+
+    pub(crate) fn journal(&self) -> &[Entry]
+        ensures { result.now ≡ self.now.journal.items }
+    {
+        self.journal.as_slice()
+    }
+
+    pub(crate) fn changes(&self) -> &[Change]
+        ensures { result.now ≡ self.now.changes.items }
+    {
+        self.changes.as_slice()
+    }
+
+    pub(crate) fn statuses(&self) -> Statuses
+        ensures { result ≡ self.now.cache.statuses }
+    {
+        self.cache.statuses()
+    }
+
+    /// Adds an entry at the end, once there is room for what it may change, and answers its place.
+    pub(crate) fn append(&mut self, seat: u16, call: Call, reply: Reply) -> Result<u32, AllocError>
+        requires { length self.old.journal.items < 2 ^ 32 }
+        ensures ok { OnOk result (self.new.journal.items ≡ self.old.journal.items ++ entry_of seat call reply ∷ []) }
+        ensures at { IfOk result (λ at. at ≡ length self.old.journal.items) }
+        ensures err { OnErr result (self.new.journal.items ≡ self.old.journal.items) }
+        ensures changes { self.new.changes.items ≡ self.old.changes.items }
+        ensures cache { self.new.cache ≡ self.old.cache }
+        ensures room { OnOk result (vec_len self.new.changes + 16 ≤ vec_capacity self.new.changes) }
+    {
+        let at = self.journal.len() as u32;
+        self.changes.reserve(usize::from(Slot::COUNT))?;
+        self.journal.push(Entry { seat, call, reply })?;
+        Ok(at)
+    }
+
+    /// Computes anew the statuses that the call touched, and those of the slots that depend on them, and lists what the entry at
+    /// this place changed.
+    pub(crate) fn show<P: Probe>(&mut self, slots: &Slots<P>, is_shut: bool, call: &Call, at: u32)
+        requires { vec_len self.old.changes + 16 ≤ vec_capacity self.old.changes }
+        ensures journal { self.new.journal.items ≡ self.old.journal.items }
+        ensures changes { self.new.changes.items ≡ self.old.changes.items ++ changed at (shown_in self.old.cache.statuses) (shown_in self.new.cache.statuses) 16 }
+        ensures statuses { IsShown (touched call.now) slots.now.places.items is_shut self.new.cache.dependents self.old.cache.statuses self.new.cache.statuses }
+        ensures dependents { IsRelated call.now self.old.cache.dependents self.new.cache.dependents }
+    {
+        memory_tells_status();
+        let before = self.cache.statuses();
+        self.cache.follow(call);
+        self.cache.refresh(slots, is_shut, touched(call));
+        tell(&mut self.changes, at, before, self.cache.statuses());
+    }
+}
+
+/// The slots whose status a call may change by itself, as the bits of a mask.
+fn touched(call: &Call) -> u16
+    ensures { result ≡ touched call.now }
+{
+    match call {
+        Call::Register(slot, _)
+        | Call::Retire(slot)
+        | Call::Observe(slot, _)
+        | Call::Set(slot, _) => 1 << slot.number(),
+        Call::Shutdown | Call::Resume => u16::MAX,
+    }
+}

@@ -1,0 +1,46 @@
+ghost use Rattle.std.specs.Prelude.{◌≡◌};
+ghost use Rattle.desk_core.specs.Order.{ordered};
+
+use crate::call::Call;
+use crate::catalogue::Catalogue;
+use crate::order::Order;
+use crate::refusal::Refusal;
+use crate::reply::Reply;
+use probe_core::Probe;
+
+/// Whoever can be asked for changes: a registry of one thread, or one that threads share.
+///
+/// `names` are those of its catalogue, and `answers` says how it comes out of a change with a reply or a refusal.
+pub trait Registrar<P: Probe> {
+    ghost use Rattle.std.specs.Prelude.{◌≡◌, ℕ, List, Option, Result, IfSome};
+    ghost use Rattle.std.specs.Option.{option_map};
+    ghost use Rattle.desk_core.specs.declared.call.Call.{Call};
+    ghost use Rattle.desk_core.specs.declared.refusal.Refusal.{Refusal};
+    ghost use Rattle.desk_core.specs.declared.reply.Reply.{Reply};
+    ghost use Rattle.desk_core.specs.Mutation.{rule_of};
+
+    ghost names: { Self → List (List ℕ) };
+
+    ghost answers: { Self → Self → Option Call → Result Reply Refusal → Type 0 };
+
+    fn catalogue(&self) -> &Catalogue
+        ensures { result.now ≡ names self.now };
+
+    /// Makes the change, with the probe that it registers if it registers one. There is no call where its name is not listed.
+    fn change(&mut self, call: Option<Call>, probe: Option<P>) -> Result<Reply, Refusal>
+        requires ruled { IfSome call (λ c. option_map P.rule probe ≡ rule_of c) }
+        ensures names { names self.new ≡ names self.old }
+        ensures answered { answers self.old self.new call result };
+}
+
+/// Makes the change that an order asks for.
+pub fn carry_out<P: Probe, D: Registrar<P>>(
+    registrar: &mut D,
+    order: &Order,
+) -> Result<Reply, Refusal>
+    ensures names { D.names registrar.new ≡ D.names registrar.old }
+    ensures answered { D.answers registrar.old registrar.new (ordered (D.names registrar.old) order.now) result }
+{
+    let call = order.call(registrar.catalogue());
+    registrar.change(call, None)
+}
