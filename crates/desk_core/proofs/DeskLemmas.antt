@@ -8,7 +8,7 @@ use Rattle.health_wire.specs.declared.serving.Serving.{Serving}
 use Rattle.health_wire.specs.declared.serving.Serving.TheVariants.{NotServing, ServiceUnknown, Serving as IsServing}
 use Rattle.probe_core.specs.declared.event.Event.{Event}
 use Rattle.probe_core.specs.declared.rule.Rule.{Rule}
-use Rattle.probe_core.specs.Rule.{is_up_at, relied_on, opening_memory}
+use Rattle.probe_core.specs.Rule.{is_in_range, is_up_at, relied_on, opening_memory}
 use Rattle.probe_core.specs.Events.{all_fit, is_up, memory_after}
 use Rattle.desk_core.specs.declared.call.Call.{Call}
 use Rattle.desk_core.specs.declared.call.Call.TheVariants.{Register, Retire, Observe, Set, Shutdown, Resume}
@@ -31,7 +31,8 @@ use Rattle.desk_core.specs.Slots.{covers_below, status_from, shown_in, noted, to
 use Rattle.desk_core.specs.Cache.{relies_on, rule_in, IsMapOf, LooksBack, HasDependents, IsRelated, Leaves, HasRule}
 use Rattle.desk_core.specs.Desk.{State, HasAnswered, Keeps, IsDesk, IsShown, probe_at}
 use Rattle.desk_core.proofs.HistoryLemmas.{past_more, rule_of_probe, keeps_room, keeps_change}
-use Rattle.desk_core.proofs.StatusLemmas.{status_of_probe, lawful_rule, relied_below}
+use Rattle.desk_core.proofs.StatusLemmas.{status_of_probe}
+use Rattle.desk_core.proofs.LawfulLemmas.{lawful_rule, relied_below}
 use Rattle.desk_core.proofs.BoardLemmas.{IsKept, status_in_packed}
 use Rattle.desk_core.proofs.ChangeLemmas.{changed_same}
 
@@ -68,7 +69,7 @@ pub rule_of_parts : (slots : List (Option (Rule × ℕ))) (shut : Bool) (journal
 rule_of_parts slots shut journal max_entries i keeps few = ap (option_map (λ (state : Rule × ℕ). state.0)) (keeps.each i few) ∙ rule_of_probe (past journal) i
 
 -- the statuses of the journal are those of the probes
-pub map_of_parts : ((rule : Rule) (events : List Event) → all_fit rule events ≡ true → is_up_at rule (memory_after rule events) ≡ is_up rule events)
+pub map_of_parts : ((rule : Rule) (events : List Event) → is_in_range rule ≡ true → all_fit rule events ≡ true → is_up_at rule (memory_after rule events) ≡ is_up rule events)
     → (slots : List (Option (Rule × ℕ))) (shut : Bool) (journal : List Entry) (max_entries : ℕ) → Keeps slots shut journal max_entries
     → IsMapOf slots shut (status_at (past journal))
 map_of_parts tells slots shut journal max_entries keeps i few =

@@ -3,10 +3,10 @@ use Rattle.std.specs.Option.{option_map, option_or}
 use Rattle.std.proofs.lemmas.List.{reverse-append, length_push, get_or-set_same, get_or-set_other, set_past, get_or_past}
 use Rattle.std.proofs.lemmas.Bool.{eqb-true, eqb-false, cases_lt}
 use Rattle.probe_core.specs.declared.event.Event.{Event}
-use Rattle.probe_core.specs.declared.event.Event.TheVariants.{Pass, Fail, Up, Down}
 use Rattle.probe_core.specs.declared.rule.Rule.{Rule}
-use Rattle.probe_core.specs.declared.rule.Rule.TheVariants.{Threshold, Manual, Depends}
-use Rattle.probe_core.specs.Rule.{fits, memory_next, opening_memory}
+use Rattle.probe_core.specs.Rule.{fits, is_in_range, memory_next, opening_memory}
+use Rattle.probe_core.proofs.EventLemmas.{memory_opens, memory_more}
+use Rattle.desk_core.proofs.LawfulLemmas.{rule_in_range}
 use Rattle.probe_core.specs.Events.{memory_after}
 use Rattle.desk_core.specs.declared.call.Call.{Call}
 use Rattle.desk_core.specs.declared.call.Call.TheVariants.{Register, Retire, Observe, Set, Shutdown, Resume}
@@ -58,11 +58,6 @@ probe_at-register seat slot i rule reply older = by_test (slot == i)
     by_test true = refl
     by_test false = refl
 
-opening_state : (rule : Rule) → memory_after rule [] ≡ opening_memory rule
-opening_state (Threshold fall) = omega arith
-opening_state Manual = refl
-opening_state (Depends mask) = refl
-
 keeps_register : (slots after : List (Option (Rule × ℕ))) (shut : Bool) (journal new : List Entry) (max_entries seat slot : ℕ) (rule : Rule) (reply : Reply)
     → Keeps slots shut journal max_entries → length journal < max_entries → slot < length slots
     → is_lawful slot rule ≡ true → reply ≡ reply_to (past journal) (Register slot rule)
@@ -73,7 +68,7 @@ keeps_register slots after shut journal new max_entries seat slot rule reply kee
     (λ i few.
     ap (λ xs. get_or xs i None) write
     ∙ set_cases slots slot i (Some (rule, opening_memory rule)) within
-    ∙ ap (λ m. if slot == i then Some (rule, m) else get_or slots i None) (sym (opening_state rule))
+    ∙ ap (λ m. if slot == i then Some (rule, m) else get_or slots i None) (sym (memory_opens rule))
     ∙ ap (λ o. if slot == i then Some (rule, memory_after rule []) else o) (keeps.each i few)
     ∙ sym (probe_at-register seat slot i rule reply (past journal)))
 
@@ -109,7 +104,7 @@ probe_at-resume seat i reply older = by_rule (rule_at older i)
   where
     by_rule : (o : Option Rule) → option_map (λ r. (r, memory_after r [])) o ≡ was_reset (option_map (λ r. (r, memory_after r (heard older i r))) o)
     by_rule None = refl
-    by_rule (Some rule) = ap (λ m. Some (rule, m)) (opening_state rule)
+    by_rule (Some rule) = ap (λ m. Some (rule, m)) (memory_opens rule)
 
 -- a shutdown leaves all probes as they are
 keeps_shutdown : (slots after : List (Option (Rule × ℕ))) (shut : Bool) (journal new : List Entry) (max_entries seat : ℕ) (reply : Reply)
@@ -146,18 +141,6 @@ keeps_resume slots after shut journal new max_entries seat reply keeps below rep
     keeps_more slots after shut false journal new max_entries (entry_of seat Resume reply) keeps below is reply_is tt refl
     (λ i few. ap (λ xs. get_or xs i None) reset ∙ reset_at slots i ∙ ap was_reset (keeps.each i few) ∙ sym (probe_at-resume seat i reply (past journal)))
 
--- one more event that fits is one more step of the memory
-memory_more : (rule : Rule) (event : Event) (events : List Event) → fits rule event ≡ true → memory_after rule (event ∷ events) ≡ memory_next rule event (memory_after rule events)
-memory_more (Threshold fall) Pass events fit = omega arith
-memory_more (Threshold fall) Fail events fit = omega arith
-memory_more (Threshold fall) Up events fit = let never : false ≡ true = fit in cc
-memory_more (Threshold fall) Down events fit = let never : false ≡ true = fit in cc
-memory_more Manual Pass events fit = let never : false ≡ true = fit in cc
-memory_more Manual Fail events fit = let never : false ≡ true = fit in cc
-memory_more Manual Up events fit = refl
-memory_more Manual Down events fit = refl
-memory_more (Depends mask) event events fit = let never : false ≡ true = fit in cc
-
 -- the probe of a slot of this rule that heard these events
 abbrev pub state_of : Rule → List Event → Rule × ℕ
 state_of rule events = (rule, memory_after rule events)
@@ -166,21 +149,21 @@ abbrev states : (Rule → List Event) → Option Rule → Option (Rule × ℕ)
 states events o = option_map (λ rule. state_of rule (events rule)) o
 
 -- an event that is answered Done is heard by its slot alone
-heard_done : (slot i : ℕ) (event : Event) (older : List Entry) → reply_to_event (rule_at older slot) (is_shut older) event ≡ Done
+heard_done : (slot i : ℕ) (event : Event) (older : List Entry) → IsLegal older → reply_to_event (rule_at older slot) (is_shut older) event ≡ Done
     → states (λ r. with_event r (is_shut older) (if slot == i then Some event else None) (heard older i r)) (rule_at older i) ≡ (if slot == i then noted event (probe_at older i) else probe_at older i)
-heard_done slot i event older replied = by_test (slot == i) refl
+heard_done slot i event older legal replied = by_test (slot == i) refl
   where
-    by_fit : (rule : Rule) (fit shut : Bool) → fits rule event ≡ fit → (if fit then (if shut then Ignored else Done) else WrongKind) ≡ Done → state_of rule (if not shut && fit then event ∷ heard older i rule else heard older i rule) ≡ (rule, memory_next rule event (memory_after rule (heard older i rule)))
-    by_fit rule true true fit_is is = cc
-    by_fit rule true false fit_is is = ap (λ m. (rule, m)) (memory_more rule event (heard older i rule) fit_is)
-    by_fit rule false shut fit_is is = cc
+    by_fit : (rule : Rule) (fit shut : Bool) → is_in_range rule ≡ true → fits rule event ≡ fit → (if fit then (if shut then Ignored else Done) else WrongKind) ≡ Done → state_of rule (if not shut && fit then event ∷ heard older i rule else heard older i rule) ≡ (rule, memory_next rule event (memory_after rule (heard older i rule)))
+    by_fit rule true true counts fit_is is = cc
+    by_fit rule true false counts fit_is is = ap (λ m. (rule, m)) (memory_more rule event (heard older i rule) counts fit_is)
+    by_fit rule false shut counts fit_is is = cc
 
-    at_slot : (o : Option Rule) (shut : Bool) → reply_to_event o shut event ≡ Done → states (λ r. with_event r shut (Some event) (heard older i r)) o ≡ noted event (states (heard older i) o)
-    at_slot None shut is = refl
-    at_slot (Some rule) shut is = ap Some (by_fit rule (fits rule event) shut refl is)
+    at_slot : (o : Option Rule) (shut : Bool) → rule_at older i ≡ o → reply_to_event o shut event ≡ Done → states (λ r. with_event r shut (Some event) (heard older i r)) o ≡ noted event (states (heard older i) o)
+    at_slot None shut said is = refl
+    at_slot (Some rule) shut said is = ap Some (by_fit rule (fits rule event) shut (rule_in_range older i rule legal said) refl is)
 
     by_test : (b : Bool) → (slot == i) ≡ b → states (λ r. with_event r (is_shut older) (if b then Some event else None) (heard older i r)) (rule_at older i) ≡ (if b then noted event (probe_at older i) else probe_at older i)
-    by_test true is = let same : slot ≡ i = eqb-true slot i is in at_slot (rule_at older i) (is_shut older) (rw (← same) replied)
+    by_test true is = let same : slot ≡ i = eqb-true slot i is in at_slot (rule_at older i) (is_shut older) refl (rw (← same) replied)
     by_test false is = refl
 
 -- an event with another answer is heard by none
@@ -226,7 +209,7 @@ keeps_event slots after shut journal new max_entries slot event entry keeps belo
         ap (λ xs. get_or xs i None) (hears.done said)
         ∙ set_by_cases (noted event) refl slots slot i
         ∙ ap (λ o. if slot == i then noted event o else o) (keeps.each i few)
-        ∙ sym (heard_done slot i event (past journal) (sym answers ∙ sym reply_is ∙ said))
+        ∙ sym (heard_done slot i event (past journal) keeps.legal (sym answers ∙ sym reply_is ∙ said))
         ∙ sym (brings i)
 
     heard_none : (entry.reply ≡ Done → ⊥) → (i : ℕ) → i < 16 → get_or after i None ≡ probe_at (entry ∷ past journal) i

@@ -16,7 +16,8 @@ use Rattle.desk_core.specs.Reply.{reply_to}
 use Rattle.desk_core.specs.Status.{all_serving, status_by, status_at, has_slot, is_serving, serving_if, AllServe}
 use Rattle.desk_core.proofs.HistoryLemmas.{past_more}
 use Rattle.desk_core.proofs.SlotLemmas.{covers-nothing}
-use Rattle.desk_core.proofs.StatusLemmas.{all_serving-covers, and_true, lawful_rule, relied_below, no_slot_above}
+use Rattle.desk_core.proofs.StatusLemmas.{all_serving-covers, and_true, no_slot_above}
+use Rattle.desk_core.proofs.LawfulLemmas.{lawful_rule, relied_below}
 use Rattle.desk_core.specs.Legal.{IsLegal, IsLawfulCall}
 
 -- each slot of the mask is serving, of the slots below the n-th

@@ -6,6 +6,7 @@ pub mod CatalogueLemmas
 pub mod DeskLemmas
 pub mod HistoryLemmas
 pub mod KeyLemmas
+pub mod LawfulLemmas
 pub mod LawLemmas
 pub mod ReadingLemmas
 pub mod RefreshLemmas

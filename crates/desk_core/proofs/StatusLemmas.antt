@@ -1,26 +1,25 @@
-use Rattle.std.proofs.Common.{◌≡◌, ℕ, zero, suc, ◌+◌, ◌-◌, ◌^◌, ◌<◌, ◌==◌, ◌&&◌, ◌||◌, not, if◌then◌else◌, Bool, true, false, Option, None, Some, unwrap_or, List, [], ◌∷◌, get_or, inl, inr, ◌⊎◌, ◌≤◌, refl, sym, ap, subst, ◌∙◌, arith, ltb-true}
-use Rattle.std.specs.Option.{option_map, option_or}
+use Rattle.std.proofs.Common.{◌≡◌, ℕ, zero, suc, ◌+◌, ◌-◌, ◌^◌, ◌<◌, ◌&&◌, ◌||◌, not, if◌then◌else◌, Bool, true, false, Option, None, Some, List, [], ◌∷◌, get_or, inl, inr, ◌⊎◌, ◌≤◌, refl, sym, ap, ◌∙◌, arith}
+use Rattle.std.specs.Option.{option_map}
 use Rattle.std.proofs.Math.Nat.{div-eq_of_lt}
-use Rattle.std.proofs.lemmas.Bool.{eqb-true, cases_lt}
+use Rattle.std.proofs.lemmas.Bool.{cases_lt}
 use Rattle.health_wire.specs.declared.serving.Serving.{Serving}
 use Rattle.health_wire.specs.declared.serving.Serving.TheVariants.{NotServing}
 use Rattle.probe_core.specs.declared.event.Event.{Event}
 use Rattle.probe_core.specs.declared.rule.Rule.{Rule}
 use Rattle.probe_core.specs.Rule.{fits, is_up_at, relied_on, is_in_range}
 use Rattle.probe_core.specs.Events.{all_fit, is_up, memory_after}
-use Rattle.desk_core.specs.declared.call.Call.{Call}
-use Rattle.desk_core.specs.declared.call.Call.TheVariants.{Register, Retire, Observe, Set, Shutdown, Resume}
 use Rattle.desk_core.specs.declared.entry.Entry.{Entry}
 use Rattle.desk_core.specs.Shut.{is_shut}
-use Rattle.desk_core.specs.Past.{past, last_said}
-use Rattle.desk_core.specs.Present.{says_rule, rule_at, IsLawful}
+use Rattle.desk_core.specs.Past.{past}
+use Rattle.desk_core.specs.Present.{rule_at}
 use Rattle.desk_core.specs.Heard.{heard, with_event, forgets, event_for}
 use Rattle.desk_core.specs.Status.{status_by, status_at, all_serving, has_slot, is_serving, serving_if, opinion}
-use Rattle.desk_core.specs.Legal.{IsLegal, IsLawfulCall}
+use Rattle.desk_core.specs.Legal.{IsLegal}
 use Rattle.desk_core.specs.Board.{packed, status_in}
 use Rattle.desk_core.specs.Slots.{covers_below, opinion_at, status_from, with_status}
 use Rattle.desk_core.specs.Desk.{Keeps, probe_at}
 use Rattle.desk_core.proofs.HistoryLemmas.{state_of}
+use Rattle.desk_core.proofs.LawfulLemmas.{lawful_rule, relied_below, rule_in_range}
 use Rattle.desk_core.proofs.BoardLemmas.{IsKept, read_same, read_other}
 
 -- every slot of a mask below the n-th is serving where their statuses say so
@@ -61,42 +60,6 @@ covers_short f n (suc more) mask small =
     let clear : has_slot mask (n + more) ≡ false = no_slot_above mask (n + more) (pow_more n more mask small) in
     rw next (rw clear (and_true (covers_below f (n + more) mask) ∙ covers_short f n more mask small))
 
--- one more call keeps the rule in force lawful
-lawful_more : (i : ℕ) (rule : Rule) (call : Call) (before : Option (Option Rule)) → (unwrap_or before None ≡ Some rule → IsLawful i rule) → IsLawfulCall call → unwrap_or (option_or (says_rule i call) before) None ≡ Some rule → IsLawful i rule
-lawful_more i rule (Register slot other) before until lawful named = by_test (slot == i) refl named
-  where
-    by_test : (b : Bool) → (slot == i) ≡ b → unwrap_or (option_or (if b then Some (Some other) else None) before) None ≡ Some rule → IsLawful i rule
-    by_test true at said =
-        let same : slot ≡ i = eqb-true slot i at in
-        let rules : other ≡ rule = (let both : Some other ≡ Some rule = said in cc) in
-        let At : ℕ → Type 0 = λ s. IsLawful s other in
-        let Of : Rule → Type 0 = λ r. IsLawful i r in
-        subst Of rules (subst At same lawful)
-    by_test false at said = until said
-lawful_more i rule (Retire slot) before until lawful named = by_test (slot == i) named
-  where
-    by_test : (b : Bool) → unwrap_or (option_or (if b then Some None else None) before) None ≡ Some rule → IsLawful i rule
-    by_test true said = let none : None ≡ Some rule = said in cc
-    by_test false said = until said
-lawful_more i rule (Observe slot finding) before until lawful named = until named
-lawful_more i rule (Set slot setting) before until lawful named = until named
-lawful_more i rule Shutdown before until lawful named = until named
-lawful_more i rule Resume before until lawful named = until named
-
--- the rule in force of a legal history is lawful
-pub lawful_rule : (entries : List Entry) (i : ℕ) (rule : Rule) → IsLegal entries → rule_at entries i ≡ Some rule → IsLawful i rule
-lawful_rule [] i rule legal is = let none : None ≡ Some rule = is in cc
-lawful_rule (entry ∷ older) i rule legal is =
-    lawful_more i rule entry.call (last_said (says_rule i) older) (λ before. lawful_rule older i rule legal.0 before) legal.2 is
-
-right_true : (a b : Bool) → (a && b) ≡ true → b ≡ true
-right_true true b both = both
-right_true false b both = let never : false ≡ true = both in cc
-
--- a lawful rule relies on slots before its own
-pub relied_below : (i : ℕ) (rule : Rule) → IsLawful i rule → relied_on rule < 2 ^ i
-relied_below i rule lawful = ltb-true (relied_on rule) (2 ^ i) (right_true (is_in_range rule) _ lawful)
-
 -- one more event keeps what was heard to what fits
 fits_more : (rule : Rule) (events : List Event) (event : Event) (fit shut : Bool) → all_fit rule events ≡ true → fits rule event ≡ fit → all_fit rule (if not shut && fit then event ∷ events else events) ≡ true
 fits_more rule events event true true until is = until
@@ -115,7 +78,7 @@ heard_fits [] i rule = refl
 heard_fits (entry ∷ older) i rule = fits_with rule (heard older i rule) (forgets i entry.call) (event_for i entry.call) (is_shut older) (heard_fits older i rule)
 
 -- the probe of a slot gives its status, by the statuses of the slots before it
-pub status_of_probe : ((rule : Rule) (events : List Event) → all_fit rule events ≡ true → is_up_at rule (memory_after rule events) ≡ is_up rule events)
+pub status_of_probe : ((rule : Rule) (events : List Event) → is_in_range rule ≡ true → all_fit rule events ≡ true → is_up_at rule (memory_after rule events) ≡ is_up rule events)
     → (entries : List Entry) (i : ℕ) (below : ℕ → Option Serving) → IsLegal entries → i < 16 → ((j : ℕ) → j < i → below j ≡ status_at entries j)
     → option_map (status_from (covers_below below 16) (is_shut entries)) (probe_at entries i) ≡ status_at entries i
 status_of_probe tells entries i below legal in_range known = by_rule (rule_at entries i) refl
@@ -130,7 +93,7 @@ status_of_probe tells entries i below legal in_range known = by_rule (rule_at en
 
     opinion_of : (rule : Rule) → rule_at entries i ≡ Some rule → opinion_at (covers_below below 16) rule (memory_after rule (heard entries i rule)) ≡ opinion (all_serving entries i) (heard entries i rule) rule
     opinion_of rule is =
-        ap (λ b. serving_if (b && covers_below below 16 (relied_on rule))) (tells rule (heard entries i rule) (heard_fits entries i rule))
+        ap (λ b. serving_if (b && covers_below below 16 (relied_on rule))) (tells rule (heard entries i rule) (rule_in_range entries i rule legal is) (heard_fits entries i rule))
         ∙ ap (λ b. serving_if (is_up rule (heard entries i rule) && b)) (covered (relied_on rule) (relied_below i rule (lawful_rule entries i rule legal is)))
 
     by_rule : (o : Option Rule) → rule_at entries i ≡ o → option_map (status_from (covers_below below 16) (is_shut entries)) (option_map (λ rule. state_of rule (heard entries i rule)) o) ≡ status_by (all_serving entries i) entries i o
@@ -138,7 +101,7 @@ status_of_probe tells entries i below legal in_range known = by_rule (rule_at en
     by_rule (Some rule) is = ap (λ status. Some (if is_shut entries then NotServing else status)) (opinion_of rule is)
 
 -- the parts of a desk give the status that its journal gives
-pub status_of_parts : ((rule : Rule) (events : List Event) → all_fit rule events ≡ true → is_up_at rule (memory_after rule events) ≡ is_up rule events)
+pub status_of_parts : ((rule : Rule) (events : List Event) → is_in_range rule ≡ true → all_fit rule events ≡ true → is_up_at rule (memory_after rule events) ≡ is_up rule events)
     → (slots : List (Option (Rule × ℕ))) (shut : Bool) (journal : List Entry) (max_entries slot : ℕ) (below : ℕ → Option Serving) (status : Option Serving)
     → Keeps slots shut journal max_entries → slot < 16 → ((j : ℕ) → j < slot → below j ≡ status_at (past journal) j)
     → status ≡ option_map (status_from (covers_below below 16) shut) (get_or slots slot None)

@@ -4,7 +4,7 @@ use std::fmt;
 /// Why a change was not taken. It leaves no entry, and changes nothing.
 #[derive(Clone, Copy, Debug, PartialEq, Eq, Hash)]
 pub enum Refusal {
-    /// A threshold is outside 1 to 1,000, or a mask has the service's own slot or a later one.
+    /// A number of a threshold is outside 1 to 1,000, or a mask has the service's own slot or a later one.
     BadRule = 1,
     /// The journal has as many entries as it may have.
     Full = 2,

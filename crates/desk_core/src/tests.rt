@@ -49,7 +49,7 @@ fn expect_of_three<P: Probe>(alloc: Global, a: P, b: P, c: P, rows: &[Row]) -> R
 /// Goes through the rows at a desk with a threshold of 2 in the slot 0, a service that is set in the slot 1, and one in
 /// the slot 2 that depends on both.
 fn expect_at_three(alloc: Global, rows: &[Row]) -> Result<(), Fail> {
-    let a: Box<dyn Probe + Send> = boxed(alloc, Threshold::new(2))?;
+    let a: Box<dyn Probe + Send> = boxed(alloc, Threshold::new(2, 1))?;
     let b: Box<dyn Probe + Send> = boxed(alloc, Manual::new())?;
     let c: Box<dyn Probe + Send> = boxed(alloc, Depends::new(3))?;
     expect_of_three(alloc, a, b, c, rows)
@@ -76,11 +76,11 @@ fn replaces<P: Probe>(
 
 /// Goes through the rows at such a desk, where a probe of this rule takes the place of the one in the slot 1.
 fn expect_replaced(alloc: Global, rule: Rule, rows: Replaced) -> Result<(), Fail> {
-    let a: Box<dyn Probe + Send> = boxed(alloc, Threshold::new(2))?;
+    let a: Box<dyn Probe + Send> = boxed(alloc, Threshold::new(2, 1))?;
     let b: Box<dyn Probe + Send> = boxed(alloc, Manual::new())?;
     let c: Box<dyn Probe + Send> = boxed(alloc, Depends::new(3))?;
     let other: Box<dyn Probe + Send> = match rule {
-        Rule::Threshold(fall) => boxed(alloc, Threshold::new(fall))?,
+        Rule::Threshold(fall, rise) => boxed(alloc, Threshold::new(fall, rise))?,
         Rule::Manual => boxed(alloc, Manual::new())?,
         Rule::Depends(mask) => boxed(alloc, Depends::new(mask))?,
     };
@@ -118,6 +118,27 @@ static HEARD: [Row; 19] = [
 #[test]
 fn shows_a_threshold_and_who_depends_on_it(rt: HostRuntime) -> Result<(), Fail> {
     expect_at_three(rt.alloc(), &HEARD)
+}
+
+/// A threshold that falls after two failures and rises after two passes.
+static RISEN: [Row; 12] = [
+    Row::Change(FAIL, DONE),
+    Row::Status(0, SERVING),
+    Row::Change(FAIL, DONE),
+    Row::Status(0, NOT_SERVING),
+    Row::Change(PASS, DONE),
+    Row::Status(0, NOT_SERVING),
+    Row::Change(FAIL, DONE),
+    Row::Status(0, NOT_SERVING),
+    Row::Change(PASS, DONE),
+    Row::Status(0, NOT_SERVING),
+    Row::Change(PASS, DONE),
+    Row::Status(0, SERVING),
+];
+
+#[test]
+fn rises_after_a_whole_run_of_passes(rt: HostRuntime) -> Result<(), Fail> {
+    expect_of_one(rt.alloc(), Threshold::new(2, 2), &RISEN)
 }
 
 static BOARDS: [Row; 4] = [
@@ -158,7 +179,7 @@ static SHUT_DOWN: [Row; 7] = [
 #[test]
 fn hears_nothing_while_shut_down(rt: HostRuntime) -> Result<(), Fail> {
     let alloc = rt.alloc();
-    let a: Box<dyn Probe + Send> = boxed(alloc, Threshold::new(2))?;
+    let a: Box<dyn Probe + Send> = boxed(alloc, Threshold::new(2, 1))?;
     expect_of_one(alloc, a, &SHUT_DOWN)
 }
 
@@ -172,6 +193,6 @@ static RESUMED: [Row; 4] = [
 #[test]
 fn forgets_at_a_resume_without_a_shutdown(rt: HostRuntime) -> Result<(), Fail> {
     let alloc = rt.alloc();
-    let a: Box<dyn Probe + Send> = boxed(alloc, Threshold::new(1))?;
+    let a: Box<dyn Probe + Send> = boxed(alloc, Threshold::new(1, 1))?;
     expect_of_one(alloc, a, &RESUMED)
 }

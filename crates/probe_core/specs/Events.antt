@@ -1,6 +1,6 @@
 -- What a rule makes of all events that a service heard: events that fit, for no other is heard. A list has the newest first.
-use Rattle.std.specs.Prelude.{ℕ, ◌&&◌, min, nat_le, not, Bool, true, false, List, [], ◌∷◌, length, take}
-use Rattle.std.specs.List.{list_all, prefix_len}
+use Rattle.std.specs.Prelude.{ℕ, ◌+◌, ◌&&◌, ◌||◌, nat_le, not, Bool, true, false, if◌then◌else◌, List, [], ◌∷◌, length, take, drop}
+use Rattle.std.specs.List.{list_all, list_any, prefix_len, range_with_len}
 use Rattle.probe_core.specs.declared.event.Event.{Event}
 use Rattle.probe_core.specs.declared.event.Event.TheVariants.{Pass, Fail, Up, Down}
 use Rattle.probe_core.specs.declared.rule.Rule.{Rule}
@@ -14,6 +14,13 @@ is_fail Fail = true
 is_fail Up = false
 is_fail Down = false
 
+-- a passed check
+abbrev pub is_pass : Event → Bool
+is_pass Pass = true
+is_pass Fail = false
+is_pass Up = false
+is_pass Down = false
+
 -- a setting to up
 abbrev pub is_up_setting : Event → Bool
 is_up_setting Pass = false
@@ -25,17 +32,33 @@ is_up_setting Down = false
 abbrev pub all_fit : Rule → List Event → Bool
 all_fit rule events = list_all (fits rule) events
 
--- a threshold is down where it heard at least so many events and the newest so many are all failures; a manual rule where the
+-- the newest so many events are all of this kind
+abbrev pub newest_are : (Event → Bool) → ℕ → List Event → Bool
+newest_are is count events = nat_le count (length events) && list_all is (take count events)
+
+-- so many passes in a row stand somewhere among the events
+unfoldable pub has_run : ℕ → List Event → Bool
+has_run rise [] = nat_le rise 0
+has_run rise (newest ∷ older) = newest_are is_pass rise (newest ∷ older) || has_run rise older
+
+-- there is a point where the newest `fall` events were all failures, and after which there were no `rise` passes in a row: behind
+-- the newest k events, for some k
+abbrev pub is_down : ℕ → ℕ → List Event → Bool
+is_down fall rise events =
+    list_any (λ k. newest_are is_fail fall (drop k events) && not (has_run rise (take k events))) (range_with_len 0 (length events + 1))
+
+-- a threshold is down from so many failures in a row until so many passes in a row after them; a manual rule is down where the
 -- newest setting is down; one that depends on others is up by itself
 abbrev pub is_up : Rule → List Event → Bool
-is_up (Threshold fall) events = not (nat_le fall (length events) && list_all is_fail (take fall events))
+is_up (Threshold fall rise) events = not (is_down fall rise events)
 is_up Manual [] = true
 is_up Manual (newest ∷ older) = is_up_setting newest
 is_up (Depends mask) events = true
 
--- how many failures stand in a row at the newest end, up to the threshold; 1 where the newest setting is down
+-- of a threshold that is up, how many failures stand in a row at the newest end; of one that is down, its `fall` and how many passes
+-- do; 1 where the newest setting is down
 abbrev pub memory_after : Rule → List Event → ℕ
-memory_after (Threshold fall) events = min fall (prefix_len is_fail events)
+memory_after (Threshold fall rise) events = if is_down fall rise events then fall + prefix_len is_pass events else prefix_len is_fail events
 memory_after Manual [] = 0
 memory_after Manual (Pass ∷ older) = 0
 memory_after Manual (Fail ∷ older) = 0

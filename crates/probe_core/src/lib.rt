@@ -12,7 +12,7 @@ pub mod tracked;
 
 pub use depends::Depends;
 pub use event::Event;
-pub use laws::memory_tells_status;
+pub use laws::{memory_tells_status, plain_threshold};
 pub use manual::Manual;
 pub use probe::Probe;
 pub use rule::Rule;

@@ -1,4 +1,5 @@
 ghost use Rattle.std.specs.Prelude.{◌≡◌};
+ghost use Rattle.probe_core.specs.Rule.{is_count};
 
 use crate::event::Event;
 
@@ -8,8 +9,8 @@ const MAX_COUNT: u32 = 1_000;
 /// By what rule a service's status follows from its events.
 #[derive(Clone, Copy, Debug, PartialEq, Eq, Hash)]
 pub enum Rule {
-    /// Down after so many failures in a row, and up again at the first pass.
-    Threshold(u32),
+    /// Down after so many failures in a row, and up again after so many passes in a row: the `fall` and `rise` of HAProxy.
+    Threshold(u32, u32),
     /// Up or down as it was last set.
     Manual,
     /// Up where the services of this mask are serving: bit i is slot i.
@@ -24,7 +25,7 @@ impl Rule {
         ensures { result ≡ fits self event }
     {
         match self {
-            Rule::Threshold(_) => matches!(event, Event::Pass | Event::Fail),
+            Rule::Threshold(..) => matches!(event, Event::Pass | Event::Fail),
             Rule::Manual => matches!(event, Event::Up | Event::Down),
             Rule::Depends(_) => false,
         }
@@ -36,17 +37,23 @@ impl Rule {
     {
         match self {
             Rule::Depends(mask) => mask,
-            Rule::Threshold(_) | Rule::Manual => 0,
+            Rule::Threshold(..) | Rule::Manual => 0,
         }
     }
 
-    /// Whether what the rule counts to is from 1 to 1,000.
+    /// Whether each number that the rule counts to is from 1 to 1,000.
     pub fn is_in_range(self) -> bool
         ensures { result ≡ is_in_range self }
     {
         match self {
-            Rule::Threshold(fall) => 1 <= fall && fall <= MAX_COUNT,
+            Rule::Threshold(fall, rise) => is_count(fall) && is_count(rise),
             Rule::Manual | Rule::Depends(_) => true,
         }
     }
+}
+
+fn is_count(number: u32) -> bool
+    ensures { result ≡ is_count number }
+{
+    1 <= number && number <= MAX_COUNT
 }

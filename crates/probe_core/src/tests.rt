@@ -23,17 +23,38 @@ const FALL_OF_TWO: [Heard; 6] = [
     (Event::Up, false, false),
 ];
 
-/// What the memories of a threshold of two are in that row. No run can read them.
+/// What the memories of a threshold of two are in that row.
 fn memories_of_two()
-    ensures first { memory_after (rules.Threshold 2) (events.Fail ∷ []) ≡ 1 }
-    ensures second { memory_after (rules.Threshold 2) (events.Pass ∷ events.Fail ∷ []) ≡ 0 }
-    ensures third { memory_after (rules.Threshold 2) (events.Fail ∷ events.Pass ∷ events.Fail ∷ []) ≡ 1 }
-    ensures fourth { memory_after (rules.Threshold 2) (events.Fail ∷ events.Fail ∷ events.Pass ∷ events.Fail ∷ []) ≡ 2 }
-    ensures up { is_up (rules.Threshold 2) (events.Fail ∷ events.Pass ∷ events.Fail ∷ []) ≡ true }
-    ensures down { is_up (rules.Threshold 2) (events.Fail ∷ events.Fail ∷ events.Pass ∷ events.Fail ∷ []) ≡ false }
-    ensures down_at { is_up_at (rules.Threshold 2) 2 ≡ false }
-    ensures more { memory_next (rules.Threshold 2) events.Fail 2 ≡ 2 }
-    ensures other { memory_next (rules.Threshold 2) events.Up 2 ≡ 2 }
+    ensures first { memory_after (rules.Threshold 2 1) (events.Fail ∷ []) ≡ 1 }
+    ensures second { memory_after (rules.Threshold 2 1) (events.Pass ∷ events.Fail ∷ []) ≡ 0 }
+    ensures third { memory_after (rules.Threshold 2 1) (events.Fail ∷ events.Pass ∷ events.Fail ∷ []) ≡ 1 }
+    ensures fourth { memory_after (rules.Threshold 2 1) (events.Fail ∷ events.Fail ∷ events.Pass ∷ events.Fail ∷ []) ≡ 2 }
+    ensures up { is_up (rules.Threshold 2 1) (events.Fail ∷ events.Pass ∷ events.Fail ∷ []) ≡ true }
+    ensures down { is_up (rules.Threshold 2 1) (events.Fail ∷ events.Fail ∷ events.Pass ∷ events.Fail ∷ []) ≡ false }
+    ensures down_at { is_up_at (rules.Threshold 2 1) 2 ≡ false }
+    ensures more { memory_next (rules.Threshold 2 1) events.Fail 2 ≡ 2 }
+    ensures other { memory_next (rules.Threshold 2 1) events.Up 2 ≡ 2 }
+{}
+
+const FALL_AND_RISE_OF_TWO: [Heard; 6] = [
+    (Event::Fail, true, true),
+    (Event::Fail, true, false),
+    (Event::Pass, true, false),
+    (Event::Fail, true, false),
+    (Event::Pass, true, false),
+    (Event::Pass, true, true),
+];
+
+/// What the memories are in that row.
+fn memories_of_two_and_two()
+    ensures first { memory_after (rules.Threshold 2 2) (events.Fail ∷ []) ≡ 1 }
+    ensures second { memory_after (rules.Threshold 2 2) (events.Fail ∷ events.Fail ∷ []) ≡ 2 }
+    ensures third { memory_after (rules.Threshold 2 2) (events.Pass ∷ events.Fail ∷ events.Fail ∷ []) ≡ 3 }
+    ensures fourth { memory_after (rules.Threshold 2 2) (events.Fail ∷ events.Pass ∷ events.Fail ∷ events.Fail ∷ []) ≡ 2 }
+    ensures fifth { memory_after (rules.Threshold 2 2) (events.Pass ∷ events.Fail ∷ events.Pass ∷ events.Fail ∷ events.Fail ∷ []) ≡ 3 }
+    ensures sixth { memory_after (rules.Threshold 2 2) (events.Pass ∷ events.Pass ∷ events.Fail ∷ events.Pass ∷ events.Fail ∷ events.Fail ∷ []) ≡ 0 }
+    ensures still_down { is_up (rules.Threshold 2 2) (events.Pass ∷ events.Fail ∷ events.Pass ∷ events.Fail ∷ events.Fail ∷ []) ≡ false }
+    ensures up_again { is_up (rules.Threshold 2 2) (events.Pass ∷ events.Pass ∷ events.Fail ∷ events.Pass ∷ events.Fail ∷ events.Fail ∷ []) ≡ true }
 {}
 
 const FALL_OF_ONE: [Heard; 3] = [
@@ -78,8 +99,21 @@ fn expect_heard<P: Probe>(probe: &mut P, rule: Rule, heard: &[Heard]) -> Result<
 #[test]
 fn hears_what_fits_its_rule(rt: HostRuntime) -> Result<(), Fail> {
     let drops = Arc::new(rt.alloc(), AtomicU64::new(0))?;
-    expect_heard(&mut Threshold::new(2), Rule::Threshold(2), &FALL_OF_TWO)?;
-    expect_heard(&mut Threshold::new(1), Rule::Threshold(1), &FALL_OF_ONE)?;
+    expect_heard(
+        &mut Threshold::new(2, 1),
+        Rule::Threshold(2, 1),
+        &FALL_OF_TWO,
+    )?;
+    expect_heard(
+        &mut Threshold::new(1, 1),
+        Rule::Threshold(1, 1),
+        &FALL_OF_ONE,
+    )?;
+    expect_heard(
+        &mut Threshold::new(2, 2),
+        Rule::Threshold(2, 2),
+        &FALL_AND_RISE_OF_TWO,
+    )?;
     expect_heard(&mut Manual::new(), Rule::Manual, &SETTINGS)?;
     expect_heard(&mut Depends::new(1), Rule::Depends(1), &NOTHING_FITS)?;
     expect_heard(&mut Tracked::new(drops), Rule::Manual, &SETTINGS)
@@ -89,8 +123,8 @@ fn hears_what_fits_its_rule(rt: HostRuntime) -> Result<(), Fail> {
 fn hears_through_a_box(rt: HostRuntime) -> Result<(), Fail> {
     let alloc = rt.alloc();
     let drops = Arc::new(alloc, AtomicU64::new(0))?;
-    let mut probe: Box<dyn Probe + Send> = Box::new(alloc, Threshold::new(2))?;
-    expect_heard(&mut probe, Rule::Threshold(2), &FALL_OF_TWO)?;
+    let mut probe: Box<dyn Probe + Send> = Box::new(alloc, Threshold::new(2, 1))?;
+    expect_heard(&mut probe, Rule::Threshold(2, 1), &FALL_OF_TWO)?;
     let mut probe: Box<dyn Probe + Send> = Box::new(alloc, Manual::new())?;
     expect_heard(&mut probe, Rule::Manual, &SETTINGS)?;
     let mut probe: Box<dyn Probe + Send> = Box::new(alloc, Depends::new(1))?;
@@ -106,7 +140,7 @@ fn goes_down(probe: &mut dyn Probe) -> bool {
 #[test]
 fn hears_through_a_reference_to_any_kind() -> Result<(), Fail> {
     same(&goes_down(&mut Manual::new()), &true, &"manual")?;
-    same(&goes_down(&mut Threshold::new(1)), &false, &"threshold")?;
+    same(&goes_down(&mut Threshold::new(1, 1)), &false, &"threshold")?;
     same(&goes_down(&mut Depends::new(1)), &false, &"depends")
 }
 

@@ -9,7 +9,7 @@ use Rattle.desk_core.specs.declared.order.Order.{Order as OrderOf}
 use Rattle.script.specs.declared.line.Line.{Line}
 use Rattle.script.specs.declared.line.Line.TheVariants.{Register, Order, Step}
 use Rattle.script.specs.Line.{IsMaskOf, IsRule, IsOrder, IsLine, IsOrderText, IsLineText}
-use Rattle.script.specs.Line.IsRule.{ThresholdRule, ManualRule, DependsRule}
+use Rattle.script.specs.Line.IsRule.{ThresholdRule, RiseRule, ManualRule, DependsRule}
 use Rattle.script.specs.Line.IsOrder.{PassOrder, FailOrder, UpOrder, DownOrder, ShutdownOrder, ResumeOrder}
 use Rattle.script.specs.Line.IsLine.{RegisterLine, RetireLine, OrderLine, CheckLine, OpenLine, StepLine, BoardLine}
 use Rattle.script.specs.Word.{name_of, IsNumber}
@@ -31,7 +31,9 @@ one_mask names words m n a b =
     same_from_bits m n (λ i. same_bit (bit_at m i) (bit_at n i) (bit_at-lt m i) (bit_at-lt n i) (λ set. (b.bits i).1 ((a.bits i).0 set)) (λ set. (a.bits i).1 ((b.bits i).0 set)))
 
 pub one_rule : (names words : List (List ℕ)) (a b : Rule) → IsRule names words a → IsRule names words b → a ≡ b
-one_rule names words a b (ThresholdRule word m is_m) (ThresholdRule same n is_n) = ap Threshold (one_number word m n is_m is_n)
+one_rule names words a b (ThresholdRule word m is_m) (ThresholdRule same n is_n) = ap (λ fall. Threshold fall 1) (one_number word m n is_m is_n)
+one_rule names words a b (RiseRule word other m r is_m is_r) (RiseRule same also n q is_n is_q) =
+    ap (λ fall. Threshold fall r) (one_number word m n is_m is_n) ∙ ap (Threshold n) (one_number other r q is_r is_q)
 one_rule names words a b ManualRule ManualRule = refl
 one_rule names words a b (DependsRule others m is_m) (DependsRule same n is_n) = ap Depends (one_mask names others m n is_m is_n)
 

@@ -19,9 +19,10 @@ pub record IsMaskOf (names words : List (List ℕ)) (mask : ℕ) : Type 0 where
   pub bits : (slot : ℕ) → (has_slot mask slot ≡ true) ↔ Any (λ word. slot_of names (name_of word) ≡ Some slot) words
   pub fits : mask < 2 ^ 16
 
--- the words give a rule, where the catalogue has these names
+-- the words give a rule, where the catalogue has these names; a threshold without a second number has a rise of one
 pub data IsRule (names : List (List ℕ)) : List (List ℕ) → Rule → Type 0 where
-  ThresholdRule : (word : List ℕ) (fall : ℕ) → IsNumber word fall → IsRule names (codes "threshold" ∷ word ∷ []) (Threshold fall)
+  ThresholdRule : (word : List ℕ) (fall : ℕ) → IsNumber word fall → IsRule names (codes "threshold" ∷ word ∷ []) (Threshold fall 1)
+  RiseRule : (word other : List ℕ) (fall rise : ℕ) → IsNumber word fall → IsNumber other rise → IsRule names (codes "threshold" ∷ word ∷ other ∷ []) (Threshold fall rise)
   ManualRule : IsRule names (codes "manual" ∷ []) Manual
   DependsRule : (words : List (List ℕ)) (mask : ℕ) → IsMaskOf names words mask → IsRule names (codes "depends" ∷ words) (Depends mask)
 

@@ -15,7 +15,8 @@ pub(crate) fn rule_of(catalogue: &Catalogue, words: &[&str]) -> Option<Rule>
         return Some(Rule::Depends(mask_of(catalogue, names)?));
     }
     match words {
-        ["threshold", word] => Some(Rule::Threshold(number_of(word)?)),
+        ["threshold", fall] => Some(Rule::Threshold(number_of(fall)?, 1)),
+        ["threshold", fall, rise] => Some(Rule::Threshold(number_of(fall)?, number_of(rise)?)),
         ["manual"] => Some(Rule::Manual),
         _ => None,
     }

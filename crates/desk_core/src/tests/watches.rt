@@ -67,7 +67,7 @@ fn expect_cascade<P: Probe>(alloc: Global, a: P, b: P, c: P) -> Result<(), Fail>
 #[test]
 fn lists_what_a_failure_changes(rt: HostRuntime) -> Result<(), Fail> {
     let alloc = rt.alloc();
-    let a: Box<dyn Probe + Send> = boxed(alloc, Threshold::new(2))?;
+    let a: Box<dyn Probe + Send> = boxed(alloc, Threshold::new(2, 1))?;
     let b: Box<dyn Probe + Send> = boxed(alloc, Manual::new())?;
     let c: Box<dyn Probe + Send> = boxed(alloc, Depends::new(3))?;
     expect_cascade(alloc, a, b, c)
@@ -86,7 +86,7 @@ fn watches<P: Probe>(alloc: Global, a: P, b: P, c: P, watched: Watched) -> Resul
 }
 
 fn expect_watched(alloc: Global, watched: Watched) -> Result<(), Fail> {
-    let a: Box<dyn Probe + Send> = boxed(alloc, Threshold::new(2))?;
+    let a: Box<dyn Probe + Send> = boxed(alloc, Threshold::new(2, 1))?;
     let b: Box<dyn Probe + Send> = boxed(alloc, Manual::new())?;
     let c: Box<dyn Probe + Send> = boxed(alloc, Depends::new(3))?;
     watches(alloc, a, b, c, watched)

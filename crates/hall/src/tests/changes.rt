@@ -41,11 +41,11 @@ static CHANGES: [Row; 14] = [
     (Step::Check("a"), Found::Check(6, SERVING)),
     (
         Step::Register("a"),
-        Found::Change(Ok(Reply::Replaced), Some((Rule::Threshold(1), true))),
+        Found::Change(Ok(Reply::Replaced), Some((Rule::Threshold(1, 1), true))),
     ),
     (
         Step::Retire("a"),
-        Found::Change(Ok(Reply::Done), Some((Rule::Threshold(2), true))),
+        Found::Change(Ok(Reply::Done), Some((Rule::Threshold(2, 1), true))),
     ),
     (Step::Check("a"), Found::Check(8, None)),
     (Step::Made, Found::Made(8)),
@@ -54,8 +54,8 @@ static CHANGES: [Row; 14] = [
 #[test]
 fn makes_each_change(rt: HostRuntime) -> Result<(), Fail> {
     let alloc = rt.alloc();
-    let probe: Box<dyn Probe + Send> = Box::new(alloc, Threshold::new(1))?;
-    let other: Box<dyn Probe + Send> = Box::new(alloc, Threshold::new(2))?;
+    let probe: Box<dyn Probe + Send> = Box::new(alloc, Threshold::new(1, 1))?;
+    let other: Box<dyn Probe + Send> = Box::new(alloc, Threshold::new(2, 1))?;
     let probes = Vec::from_array(alloc, [other, probe])?;
     expect_of_one_seat(&rt, alloc, probes, &CHANGES)
 }
@@ -65,7 +65,10 @@ const NOT_LISTED: Found = Found::Change(Err(Refusal::NotListed), None);
 static NAME_NOT_LISTED: [Row; 6] = [
     (
         Step::Register("zz"),
-        Found::Change(Err(Refusal::NotListed), Some((Rule::Threshold(0), false))),
+        Found::Change(
+            Err(Refusal::NotListed),
+            Some((Rule::Threshold(0, 1), false)),
+        ),
     ),
     (Step::Observe("zz", Finding::Fail), NOT_LISTED),
     (Step::Set("zz", Setting::Down), NOT_LISTED),
@@ -77,7 +80,7 @@ static NAME_NOT_LISTED: [Row; 6] = [
 #[test]
 fn refuses_a_name_that_is_not_listed(rt: HostRuntime) -> Result<(), Fail> {
     let alloc = rt.alloc();
-    let probe: Box<dyn Probe + Send> = Box::new(alloc, Threshold::new(0))?;
+    let probe: Box<dyn Probe + Send> = Box::new(alloc, Threshold::new(0, 1))?;
     expect_of_one_seat(
         &rt,
         alloc,

@@ -49,7 +49,7 @@ static FULL_JOURNAL: Race = Race {
 #[test]
 fn refuses_changes_of_a_full_journal(rt: HostRuntime) -> Result<(), Fail> {
     let alloc = rt.alloc();
-    let a: Box<dyn Probe + Send> = Box::new(alloc, Threshold::new(2))?;
+    let a: Box<dyn Probe + Send> = Box::new(alloc, Threshold::new(2, 1))?;
     let b: Box<dyn Probe + Send> = Box::new(alloc, Manual::new())?;
     let all: Box<dyn Probe + Send> = Box::new(alloc, Depends::new(3))?;
     let one: Box<dyn Probe + Send> = Box::new(alloc, Manual::new())?;

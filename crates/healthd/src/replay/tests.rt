@@ -84,7 +84,7 @@ fn replayed(alloc: Global, bytes: &[u8]) -> Result<Vec<u8>, Fault> {
         ensures { IsAsked (λ probe. (Probe-box probe).rule probe.value) (λ probe. (Probe-box probe).memory probe.value) rule result }
     {
         let probe: Box<dyn Probe + Send> = match rule {
-            Rule::Threshold(fall) => Box::new(alloc, Threshold::new(fall))?,
+            Rule::Threshold(fall, rise) => Box::new(alloc, Threshold::new(fall, rise))?,
             Rule::Manual => Box::new(alloc, Manual::new())?,
             Rule::Depends(mask) => Box::new(alloc, Depends::new(mask))?,
         };

@@ -43,22 +43,30 @@ fn said_by(line: &Line) -> Said<'_> {
 }
 
 /// The lines of a script, behind an opening whose slots are 0 for `a`, 1 for `b` and 2 for the empty name, and an opened watch.
-static FORMS: [(&str, Said<'static>); 22] = [
+static FORMS: [(&str, Said<'static>); 24] = [
     (
         "register a threshold 2",
-        Said::Register("a", Rule::Threshold(2)),
+        Said::Register("a", Rule::Threshold(2, 1)),
     ),
     (
         "register zz threshold 0",
-        Said::Register("zz", Rule::Threshold(0)),
+        Said::Register("zz", Rule::Threshold(0, 1)),
     ),
     (
         "register a threshold 0000000007",
-        Said::Register("a", Rule::Threshold(7)),
+        Said::Register("a", Rule::Threshold(7, 1)),
     ),
     (
         "register a threshold 4294967295",
-        Said::Register("a", Rule::Threshold(4_294_967_295)),
+        Said::Register("a", Rule::Threshold(4_294_967_295, 1)),
+    ),
+    (
+        "register a threshold 2 3",
+        Said::Register("a", Rule::Threshold(2, 3)),
+    ),
+    (
+        "register a threshold 1001 0",
+        Said::Register("a", Rule::Threshold(1_001, 0)),
     ),
     ("register b manual", Said::Register("b", Rule::Manual)),
     (
@@ -130,7 +138,12 @@ fn reads_each_form_of_a_line(rt: HostRuntime) -> Result<(), Fail> {
 }
 
 /// What is bad as the fourth line, behind an opened watch.
-const BAD_LINES: [&str; 33] = [
+const BAD_LINES: [&str; 37] = [
+    "register a threshold 1 4294967296",
+    "register a threshold 1 00000000001",
+    "register a threshold 1 2 3",
+    "register a threshold 1 x",
+    "register a threshold x 1",
     "go",
     " ",
     " board",
@@ -157,7 +170,6 @@ const BAD_LINES: [&str; 33] = [
     "register a threshold",
     "register a threshold 4294967296",
     "register a threshold 00000000001",
-    "register a threshold 1 2",
     "register a manual 1",
     "register a depends zz",
     "register a depends a zz",

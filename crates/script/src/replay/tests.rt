@@ -14,7 +14,31 @@ mod memory;
 /// The first two lines of a script, and its others with what each prints.
 type Run = (&'static str, &'static [(&'static str, &'static str)]);
 
-static RUNS: [Run; 8] = [
+static RUNS: [Run; 9] = [
+    (
+        "catalogue a -\nmax 100\n",
+        &[
+            ("register a threshold 2 2", "done"),
+            ("open a", "watch 0 serving"),
+            ("fail a", "done"),
+            ("check a", "serving"),
+            ("fail a", "done"),
+            ("check a", "not serving"),
+            ("pass a", "done"),
+            ("check a", "not serving"),
+            ("fail a", "done"),
+            ("check a", "not serving"),
+            ("pass a", "done"),
+            ("check a", "not serving"),
+            ("pass a", "done"),
+            ("check a", "serving"),
+            ("step 0", "not serving"),
+            ("step 0", "serving"),
+            ("step 0", "none"),
+            ("register a threshold 1 0", "refused bad rule"),
+            ("register a threshold 1 1001", "refused bad rule"),
+        ],
+    ),
     (
         "catalogue a b -\nmax 100\n",
         &[
@@ -175,7 +199,7 @@ fn printed(alloc: Global, script: Script) -> Result<Vec<u8>, AllocError>
         ensures { IsAsked (λ probe. (Probe-box probe).rule probe.value) (λ probe. (Probe-box probe).memory probe.value) rule result }
     {
         let probe: Box<dyn Probe + Send> = match rule {
-            Rule::Threshold(fall) => Box::new(alloc, Threshold::new(fall))?,
+            Rule::Threshold(fall, rise) => Box::new(alloc, Threshold::new(fall, rise))?,
             Rule::Manual => Box::new(alloc, Manual::new())?,
             Rule::Depends(mask) => Box::new(alloc, Depends::new(mask))?,
         };

@@ -120,7 +120,7 @@ fn makes_the_change_of_each_line(rt: HostRuntime) -> Result<(), Fail> {
         ensures { IsAsked (λ probe. (Probe-box probe).rule probe.value) (λ probe. (Probe-box probe).memory probe.value) rule result }
     {
         let probe: Box<dyn Probe + Send> = match rule {
-            Rule::Threshold(fall) => Box::new(alloc, Threshold::new(fall))?,
+            Rule::Threshold(fall, rise) => Box::new(alloc, Threshold::new(fall, rise))?,
             Rule::Manual => Box::new(alloc, Manual::new())?,
             Rule::Depends(mask) => Box::new(alloc, Depends::new(mask))?,
         };
@@ -144,7 +144,7 @@ fn manual(rule: Rule) -> Result<Manual, AllocError>
 {
     match rule {
         Rule::Manual => Ok(Manual::new()),
-        Rule::Threshold(_) | Rule::Depends(_) => Err(AllocError),
+        Rule::Threshold(..) | Rule::Depends(_) => Err(AllocError),
     }
 }
 

@@ -1,0 +1,98 @@
+use super::*;
+use std::test::Fail;
+use test_support::same;
+
+const MOST: u64 = 4_294_967_295;
+
+/// The greatest memory is the sum of both numbers less one. No run gets there.
+#[test]
+fn counts_up_to_the_sum_of_both_numbers() -> Result<(), Fail> {
+    let mut probe = Threshold {
+        fall: u32::MAX,
+        rise: u32::MAX,
+        memory: MOST + MOST - 2,
+    };
+    let passed = (probe.note(Event::Pass), probe.memory, probe.is_up());
+    same(&passed, &(true, MOST + MOST - 1, false), &"a pass")?;
+    let failed = (probe.note(Event::Fail), probe.memory, probe.is_up());
+    same(&failed, &(true, MOST, false), &"a failure")?;
+    probe.memory = MOST + MOST - 1;
+    let risen = (probe.note(Event::Pass), probe.memory, probe.is_up());
+    same(&risen, &(true, 0, true), &"the last pass")
+}
+
+/// Numbers that look random, and are the same in each run.
+#[derive(Drop)]
+struct Numbers {
+    state: u64,
+}
+
+impl Numbers {
+    ghost use Rattle.std.specs.Prelude.{◌<◌};
+
+    /// A number below this one.
+    fn next(&mut self, below: u64) -> u64
+        requires { 0 < below }
+        ensures { result < below }
+    {
+        self.state = self
+            .state
+            .wrapping_mul(6_364_136_223_846_793_005)
+            .wrapping_add(1);
+        (self.state >> 33) % below
+    }
+}
+
+/// Whether a service is up that heard these findings, the oldest first: there is no point before which the last `fall` failed, and
+/// after which no `rise` in a row passed. `true` is a failure.
+fn looks_up(failures: &[bool], fall: usize, rise: usize) -> bool {
+    for point in 0..failures.len() {
+        let (before, after) = failures.split_at(point + 1);
+        if ends_with_failures(before, fall) && longest_run(after) < rise {
+            return false;
+        }
+    }
+    true
+}
+
+fn ends_with_failures(before: &[bool], fall: usize) -> bool {
+    fall <= before.len() && before[before.len() - fall..].iter().all(|failed| *failed)
+}
+
+/// How many passes stand in a row at most.
+fn longest_run(after: &[bool]) -> usize {
+    let (mut longest, mut run) = (0usize, 0usize);
+    for failed in after {
+        run = if *failed { 0 } else { run.wrapping_add(1) };
+        longest = longest.max(run);
+    }
+    longest
+}
+
+/// The first event after which a probe and a look back over all events differ.
+fn first_wrong(fall: u32, rise: u32, failures: &[bool]) -> Option<usize> {
+    let mut probe = Threshold::new(fall, rise);
+    for (place, failed) in failures.iter().enumerate() {
+        probe.note(if *failed { Event::Fail } else { Event::Pass });
+        let (heard, _) = failures.split_at(place + 1);
+        if probe.is_up() != looks_up(heard, fall as usize, rise as usize) {
+            return Some(place);
+        }
+    }
+    None
+}
+
+#[test]
+fn tells_what_a_look_back_over_all_events_tells() -> Result<(), Fail> {
+    let mut numbers = Numbers { state: 1 };
+    for round in 0..10_000u32 {
+        let (fall, rise) = (1 + numbers.next(5) as u32, 1 + numbers.next(5) as u32);
+        let mut failures = [false; 24];
+        for place in 0..24usize {
+            failures[place] = numbers.next(2) == 1;
+        }
+        let wrong = first_wrong(fall, rise, &failures);
+        same(&wrong, &None, &(round, fall, rise))?;
+    }
+    Ok(())
+}
