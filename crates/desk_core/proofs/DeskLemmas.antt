@@ -5,11 +5,11 @@ use Rattle.std.proofs.lemmas.Bool.{eqb-true, eqb-false, eq-eqb, cases_lt}
 use Rattle.std.proofs.lemmas.List.{length-reverse, get_or-set_other}
 use Rattle.std.proofs.lemmas.Nat.Bits.{bit_at-zero, bit_at-pow_same, bit_at_ones, bit_at_above}
 use Rattle.health_wire.specs.declared.serving.Serving.{Serving}
-use Rattle.health_wire.specs.declared.serving.Serving.TheVariants.{NotServing, ServiceUnknown, Serving as IsServing}
+use Rattle.health_wire.specs.declared.serving.Serving.TheVariants.{Unknown, NotServing, ServiceUnknown, Serving as IsServing}
 use Rattle.probe_core.specs.declared.event.Event.{Event}
 use Rattle.probe_core.specs.declared.rule.Rule.{Rule}
-use Rattle.probe_core.specs.Rule.{is_in_range, is_up_at, relied_on, opening_memory}
-use Rattle.probe_core.specs.Events.{all_fit, is_up, memory_after}
+use Rattle.probe_core.specs.Rule.{relied_on, opening_memory}
+use Rattle.probe_core.specs.Events.{is_unknown, is_up}
 use Rattle.desk_core.specs.declared.call.Call.{Call}
 use Rattle.desk_core.specs.declared.call.Call.TheVariants.{Register, Retire, Observe, Set, Shutdown, Resume}
 use Rattle.desk_core.specs.declared.change.Change.{Change}
@@ -31,21 +31,25 @@ use Rattle.desk_core.specs.Slots.{covers_below, status_from, shown_in, noted, to
 use Rattle.desk_core.specs.Cache.{relies_on, rule_in, IsMapOf, LooksBack, HasDependents, IsRelated, Leaves, HasRule}
 use Rattle.desk_core.specs.Desk.{State, HasAnswered, Keeps, IsDesk, IsShown, probe_at}
 use Rattle.desk_core.proofs.HistoryLemmas.{past_more, rule_of_probe, keeps_room, keeps_change}
-use Rattle.desk_core.proofs.StatusLemmas.{status_of_probe}
+use Rattle.desk_core.proofs.StatusLemmas.{Tells, status_of_probe}
 use Rattle.desk_core.proofs.LawfulLemmas.{lawful_rule, relied_below}
 use Rattle.desk_core.proofs.BoardLemmas.{IsKept, status_in_packed}
 use Rattle.desk_core.proofs.ChangeLemmas.{changed_same}
 
--- what holds of no status, of serving and of not serving holds of each status of a history
-pub each_status : (P : Option Serving → Type 0) → P None → P (Some IsServing) → P (Some NotServing) → (entries : List Entry) (i : ℕ) → P (status_at entries i)
-each_status P none up down entries i = by_rule (rule_at entries i)
+-- what holds of no status, of unknown, of serving and of not serving holds of each status of a history
+each_status : (P : Option Serving → Type 0) → P None → P (Some Unknown) → P (Some IsServing) → P (Some NotServing) → (entries : List Entry) (i : ℕ) → P (status_at entries i)
+each_status P none unheard up down entries i = by_rule (rule_at entries i)
   where
     by_serving : (b : Bool) → P (Some (serving_if b))
     by_serving true = up
     by_serving false = down
 
+    by_unknown : (unknown up : Bool) → P (Some (if unknown then Unknown else serving_if up))
+    by_unknown true up = unheard
+    by_unknown false up = by_serving up
+
     by_opinion : (events : List Event) (rule : Rule) → P (Some (opinion (all_serving entries i) events rule))
-    by_opinion events rule = by_serving (is_up rule events && all_serving entries i (relied_on rule))
+    by_opinion events rule = by_unknown (is_unknown rule events) (is_up rule events && all_serving entries i (relied_on rule))
 
     by_shut : (b : Bool) (rule : Rule) → P (Some (if b then NotServing else opinion (all_serving entries i) (heard entries i rule) rule))
     by_shut true rule = down
@@ -57,7 +61,7 @@ each_status P none up down entries i = by_rule (rule_at entries i)
 
 -- each status of a history can stand in a word
 pub kept_status : (entries : List Entry) (i : ℕ) → IsKept (status_at entries i)
-kept_status entries i = each_status (λ status. IsKept status) refl refl refl entries i
+kept_status entries i = each_status (λ status. IsKept status) refl refl refl refl entries i
 
 -- a history's statuses are read from its word
 pub read_status : (entries : List Entry) (word i : ℕ) → word ≡ packed (status_at entries) 16 → i < 16 → status_in word i ≡ status_at entries i
@@ -69,7 +73,7 @@ pub rule_of_parts : (slots : List (Option (Rule × ℕ))) (shut : Bool) (journal
 rule_of_parts slots shut journal max_entries i keeps few = ap (option_map (λ (state : Rule × ℕ). state.0)) (keeps.each i few) ∙ rule_of_probe (past journal) i
 
 -- the statuses of the journal are those of the probes
-pub map_of_parts : ((rule : Rule) (events : List Event) → is_in_range rule ≡ true → all_fit rule events ≡ true → is_up_at rule (memory_after rule events) ≡ is_up rule events)
+pub map_of_parts : Tells
     → (slots : List (Option (Rule × ℕ))) (shut : Bool) (journal : List Entry) (max_entries : ℕ) → Keeps slots shut journal max_entries
     → IsMapOf slots shut (status_at (past journal))
 map_of_parts tells slots shut journal max_entries keeps i few =

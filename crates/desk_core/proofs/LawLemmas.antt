@@ -4,10 +4,10 @@ use Rattle.std.proofs.lemmas.List.{reverse-append}
 use Rattle.desk_core.specs.declared.entry.Entry.{Entry}
 use Rattle.desk_core.specs.Past.{past}
 use Rattle.std.proofs.Math.Nat.{pow-le-pow_right}
-use Rattle.health_wire.specs.declared.serving.Serving.TheVariants.{NotServing, Serving as IsServing}
+use Rattle.health_wire.specs.declared.serving.Serving.TheVariants.{Unknown, NotServing, Serving as IsServing}
 use Rattle.probe_core.specs.declared.rule.Rule.{Rule}
 use Rattle.probe_core.specs.declared.rule.Rule.TheVariants.{Depends}
-use Rattle.probe_core.specs.Events.{is_up}
+use Rattle.probe_core.specs.Events.{is_unknown, is_up}
 use Rattle.probe_core.specs.Rule.{relied_on}
 use Rattle.desk_core.specs.Heard.{heard}
 use Rattle.desk_core.specs.Shut.{is_shut}
@@ -78,14 +78,15 @@ depends_on entries i mask legal rule resumed =
     up false is = cc
 
 -- a rule that relies on no slot leaves the status to the events
-pub by_events : (entries : List Entry) (i : ℕ) (rule : Rule) → rule_at entries i ≡ Some rule → relied_on rule ≡ 0 → is_shut entries ≡ false → status_at entries i ≡ Some (serving_if (is_up rule (heard entries i rule)))
+pub by_events : (entries : List Entry) (i : ℕ) (rule : Rule) → rule_at entries i ≡ Some rule → relied_on rule ≡ 0 → is_shut entries ≡ false → status_at entries i ≡ Some (if is_unknown rule (heard entries i rule) then Unknown else serving_if (is_up rule (heard entries i rule)))
 by_events entries i rule is none resumed =
     let up = is_up rule (heard entries i rule) in
+    let unknown = is_unknown rule (heard entries i rule) in
     let covered : all_serving entries i (relied_on rule) ≡ true = ap (all_serving entries i) none ∙ all_serving-covers entries i 0 ∙ covers-nothing (status_at entries) i in
     ap (status_by (all_serving entries i) entries i) is
-    ∙ ap (λ b. Some (if b then NotServing else serving_if (up && all_serving entries i (relied_on rule)))) resumed
-    ∙ ap (λ b. Some (serving_if (up && b))) covered
-    ∙ ap (λ b. Some (serving_if b)) (and_true up)
+    ∙ ap (λ b. Some (if b then NotServing else (if unknown then Unknown else serving_if (up && all_serving entries i (relied_on rule))))) resumed
+    ∙ ap (λ b. Some (if unknown then Unknown else serving_if (up && b))) covered
+    ∙ ap (λ b. Some (if unknown then Unknown else serving_if b)) (and_true up)
 
 pub legal_grown : (journal : List Entry) (entry : Entry) → IsLegal (past journal) → entry.reply ≡ reply_to (past journal) entry.call → IsLawfulCall entry.call → IsLegal (past (journal ++ entry ∷ []))
 legal_grown journal entry legal reply lawful =

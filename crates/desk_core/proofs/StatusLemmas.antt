@@ -3,11 +3,11 @@ use Rattle.std.specs.Option.{option_map}
 use Rattle.std.proofs.Math.Nat.{div-eq_of_lt}
 use Rattle.std.proofs.lemmas.Bool.{cases_lt}
 use Rattle.health_wire.specs.declared.serving.Serving.{Serving}
-use Rattle.health_wire.specs.declared.serving.Serving.TheVariants.{NotServing}
+use Rattle.health_wire.specs.declared.serving.Serving.TheVariants.{Unknown, NotServing}
 use Rattle.probe_core.specs.declared.event.Event.{Event}
 use Rattle.probe_core.specs.declared.rule.Rule.{Rule}
-use Rattle.probe_core.specs.Rule.{fits, is_up_at, relied_on, is_in_range}
-use Rattle.probe_core.specs.Events.{all_fit, is_up, memory_after}
+use Rattle.probe_core.specs.Rule.{fits, is_unknown_at, is_up_at, relied_on, is_in_range}
+use Rattle.probe_core.specs.Events.{all_fit, is_unknown, is_up, memory_after}
 use Rattle.desk_core.specs.declared.entry.Entry.{Entry}
 use Rattle.desk_core.specs.Shut.{is_shut}
 use Rattle.desk_core.specs.Past.{past}
@@ -77,8 +77,20 @@ heard_fits : (entries : List Entry) (i : ℕ) (rule : Rule) → all_fit rule (he
 heard_fits [] i rule = refl
 heard_fits (entry ∷ older) i rule = fits_with rule (heard older i rule) (forgets i entry.call) (event_for i entry.call) (is_shut older) (heard_fits older i rule)
 
+-- what the memory of a lawful rule tells of the events: whether the service is up, and whether it is unknown
+pub record Tells : Type 0 where
+  pub up : (rule : Rule) (events : List Event) → is_in_range rule ≡ true → all_fit rule events ≡ true
+      → is_up_at rule (memory_after rule events) ≡ (is_up rule events && not (is_unknown rule events))
+  pub unknown : (rule : Rule) (events : List Event) → is_in_range rule ≡ true → all_fit rule events ≡ true
+      → is_unknown_at rule (memory_after rule events) ≡ is_unknown rule events
+
+same_opinion : (unknown up covered : Bool) → (if unknown then Unknown else serving_if ((up && not unknown) && covered)) ≡ (if unknown then Unknown else serving_if (up && covered))
+same_opinion true up covered = refl
+same_opinion false true covered = refl
+same_opinion false false covered = refl
+
 -- the probe of a slot gives its status, by the statuses of the slots before it
-pub status_of_probe : ((rule : Rule) (events : List Event) → is_in_range rule ≡ true → all_fit rule events ≡ true → is_up_at rule (memory_after rule events) ≡ is_up rule events)
+pub status_of_probe : Tells
     → (entries : List Entry) (i : ℕ) (below : ℕ → Option Serving) → IsLegal entries → i < 16 → ((j : ℕ) → j < i → below j ≡ status_at entries j)
     → option_map (status_from (covers_below below 16) (is_shut entries)) (probe_at entries i) ≡ status_at entries i
 status_of_probe tells entries i below legal in_range known = by_rule (rule_at entries i) refl
@@ -93,15 +105,21 @@ status_of_probe tells entries i below legal in_range known = by_rule (rule_at en
 
     opinion_of : (rule : Rule) → rule_at entries i ≡ Some rule → opinion_at (covers_below below 16) rule (memory_after rule (heard entries i rule)) ≡ opinion (all_serving entries i) (heard entries i rule) rule
     opinion_of rule is =
-        ap (λ b. serving_if (b && covers_below below 16 (relied_on rule))) (tells rule (heard entries i rule) (rule_in_range entries i rule legal is) (heard_fits entries i rule))
-        ∙ ap (λ b. serving_if (is_up rule (heard entries i rule) && b)) (covered (relied_on rule) (relied_below i rule (lawful_rule entries i rule legal is)))
+        let events = heard entries i rule in
+        let covers = covers_below below 16 (relied_on rule) in
+        let counts = rule_in_range entries i rule legal is in
+        let fit = heard_fits entries i rule in
+        ap (λ b. if b then Unknown else serving_if (is_up_at rule (memory_after rule events) && covers)) (tells.unknown rule events counts fit)
+        ∙ ap (λ b. if is_unknown rule events then Unknown else serving_if (b && covers)) (tells.up rule events counts fit)
+        ∙ same_opinion (is_unknown rule events) (is_up rule events) covers
+        ∙ ap (λ b. if is_unknown rule events then Unknown else serving_if (is_up rule events && b)) (covered (relied_on rule) (relied_below i rule (lawful_rule entries i rule legal is)))
 
     by_rule : (o : Option Rule) → rule_at entries i ≡ o → option_map (status_from (covers_below below 16) (is_shut entries)) (option_map (λ rule. state_of rule (heard entries i rule)) o) ≡ status_by (all_serving entries i) entries i o
     by_rule None is = refl
     by_rule (Some rule) is = ap (λ status. Some (if is_shut entries then NotServing else status)) (opinion_of rule is)
 
 -- the parts of a desk give the status that its journal gives
-pub status_of_parts : ((rule : Rule) (events : List Event) → is_in_range rule ≡ true → all_fit rule events ≡ true → is_up_at rule (memory_after rule events) ≡ is_up rule events)
+pub status_of_parts : Tells
     → (slots : List (Option (Rule × ℕ))) (shut : Bool) (journal : List Entry) (max_entries slot : ℕ) (below : ℕ → Option Serving) (status : Option Serving)
     → Keeps slots shut journal max_entries → slot < 16 → ((j : ℕ) → j < slot → below j ≡ status_at (past journal) j)
     → status ≡ option_map (status_from (covers_below below 16) shut) (get_or slots slot None)
@@ -116,11 +134,12 @@ status_of_parts tells slots shut journal max_entries slot below status keeps in_
 pub kept_from : (covers : ℕ → Bool) (shut : Bool) (o : Option (Rule × ℕ)) → IsKept (option_map (status_from covers shut) o)
 kept_from covers shut None = refl
 kept_from covers true (Some state) = refl
-kept_from covers false (Some state) = by_opinion (is_up_at state.0 state.1 && covers (relied_on state.0))
+kept_from covers false (Some state) = by_opinion (is_unknown_at state.0 state.1) (is_up_at state.0 state.1 && covers (relied_on state.0))
   where
-    by_opinion : (b : Bool) → IsKept (Some (serving_if b))
-    by_opinion true = refl
-    by_opinion false = refl
+    by_opinion : (unknown up : Bool) → IsKept (Some (if unknown then Unknown else serving_if up))
+    by_opinion true up = refl
+    by_opinion false true = refl
+    by_opinion false false = refl
 
 -- statuses known below a slot, and that of the slot
 pub known_more : (old new n : ℕ) (status : Option Serving) (wanted : ℕ → Option Serving) → n < 16 → IsKept status

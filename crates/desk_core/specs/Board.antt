@@ -5,7 +5,7 @@ use Rattle.health_wire.specs.declared.serving.Serving.TheVariants.{Unknown, NotS
 use Rattle.desk_core.specs.declared.entry.Entry.{Entry}
 use Rattle.desk_core.specs.Status.{status_at}
 
--- two bits for a status; no slot has the status of an unknown service
+-- two bits for a status; no slot has SERVICE_UNKNOWN
 abbrev pub code_of : Option Serving → ℕ
 code_of None = 0
 code_of (Some IsServing) = 1
@@ -36,15 +36,3 @@ board_of entries = length entries * 2 ^ 32 + packed (status_at entries) 16
 -- how many entries a board counts: its upper half
 abbrev pub entries_in : ℕ → ℕ
 entries_in word = word / 2 ^ 32
-
--- a status, but none for Unknown, which no history gives a slot
-abbrev pub unless_unknown : Option Serving → Option Serving
-unless_unknown None = None
-unless_unknown (Some IsServing) = Some IsServing
-unless_unknown (Some NotServing) = Some NotServing
-unless_unknown (Some Unknown) = None
-unless_unknown (Some ServiceUnknown) = Some ServiceUnknown
-
--- the status of a slot on a board, whose code 3 stands for none
-abbrev pub status_on : ℕ → ℕ → Option Serving
-status_on word i = unless_unknown (status_in word i)

@@ -2,10 +2,10 @@
 -- a desk keeps what it promises, and no part of the promise.
 use Rattle.std.specs.Prelude.{◌≡◌, ◌≢◌, ℕ, zero, suc, ◌^◌, ◌<◌, ◌==◌, ◌&&◌, ◌||◌, not, Bool, true, if◌then◌else◌, Option, None, Some, unwrap_or, List, map, length, slice_index_or, slice_set}
 use Rattle.health_wire.specs.declared.serving.Serving.{Serving}
-use Rattle.health_wire.specs.declared.serving.Serving.TheVariants.{NotServing, ServiceUnknown}
+use Rattle.health_wire.specs.declared.serving.Serving.TheVariants.{Unknown, NotServing, ServiceUnknown}
 use Rattle.probe_core.specs.declared.event.Event.{Event}
 use Rattle.probe_core.specs.declared.rule.Rule.{Rule}
-use Rattle.probe_core.specs.Rule.{is_up_at, memory_next, opening_memory, relied_on}
+use Rattle.probe_core.specs.Rule.{is_unknown_at, is_up_at, memory_next, opening_memory, relied_on}
 use Rattle.desk_core.specs.declared.call.Call.{Call}
 use Rattle.desk_core.specs.declared.call.Call.TheVariants.{Register, Retire, Observe, Set, Shutdown, Resume}
 use Rattle.desk_core.specs.declared.reply.Reply.{Reply}
@@ -65,9 +65,10 @@ unfoldable pub covers_below : (ℕ → Option Serving) → ℕ → ℕ → Bool
 covers_below statuses zero mask = true
 covers_below statuses (suc n) mask = covers_below statuses n mask && (not (has_slot mask n) || is_serving (statuses n))
 
--- what a service's rule says of it, by the memory of its probe and by whether the slots of a mask are all serving
+-- what a service's rule says of it, by the memory of its probe and by whether the slots of a mask are all serving: that it is unknown,
+-- serving, or not serving
 abbrev pub opinion_at : (ℕ → Bool) → Rule → ℕ → Serving
-opinion_at covers rule memory = serving_if (is_up_at rule memory && covers (relied_on rule))
+opinion_at covers rule memory = if is_unknown_at rule memory then Unknown else serving_if (is_up_at rule memory && covers (relied_on rule))
 
 -- the status of a registered service, by its probe
 abbrev pub status_from : (ℕ → Bool) → Bool → Rule × ℕ → Serving

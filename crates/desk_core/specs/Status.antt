@@ -5,7 +5,7 @@ use Rattle.health_wire.specs.declared.serving.Serving.TheVariants.{Unknown, NotS
 use Rattle.probe_core.specs.declared.event.Event.{Event}
 use Rattle.probe_core.specs.declared.rule.Rule.{Rule}
 use Rattle.probe_core.specs.Rule.{relied_on}
-use Rattle.probe_core.specs.Events.{is_up}
+use Rattle.probe_core.specs.Events.{is_up, is_unknown}
 use Rattle.desk_core.specs.declared.entry.Entry.{Entry}
 use Rattle.desk_core.specs.Shut.{is_shut}
 use Rattle.desk_core.specs.Present.{rule_at}
@@ -28,10 +28,11 @@ has_slot mask i = mask / 2 ^ i % 2 == 1
 abbrev pub serving_if : Bool → Serving
 serving_if b = if b then IsServing else NotServing
 
--- what a service's rule says of it, by the events that it heard and by whether the slots of a mask are all serving: it is up by
--- its events, and each slot that it relies on is serving
+-- what a service's rule says of it, by the events that it heard and by whether the slots of a mask are all serving: one that
+-- starts unknown and has heard nothing is unknown; any other is serving where it is up by its events and each slot that it relies on
+-- is serving, and else not serving
 abbrev pub opinion : (ℕ → Bool) → List Event → Rule → Serving
-opinion covers events rule = serving_if (is_up rule events && covers (relied_on rule))
+opinion covers events rule = if is_unknown rule events then Unknown else serving_if (is_up rule events && covers (relied_on rule))
 
 -- a slot that is not registered has no status; while the server is shut down all others are not serving
 abbrev pub status_by : (ℕ → Bool) → List Entry → ℕ → Option Rule → Option Serving

@@ -49,7 +49,7 @@ story changes None start cursor = []
 story changes (Some slot) start cursor =
     map (λ change. change.status) (filter (is_of slot) (drop start (take cursor changes)))
 
--- the status of the slot's last change, or that of an unknown service where it has none
+-- the status of the slot's last change, or SERVICE_UNKNOWN where it has none
 abbrev pub last_told : List Change → ℕ → Serving
 last_told changes slot =
     unwrap_or (option_map (λ change. change.status) (find (is_of slot) (reverse changes))) ServiceUnknown

@@ -1,4 +1,4 @@
-ghost use Rattle.std.specs.Prelude.{◌≡◌, ◌<◌, ◌≤◌, ◌↔◌, List, ℕ, Option, take, Some, None, true, false, [], ◌∷◌, ◌++◌, length, All, Contains};
+ghost use Rattle.std.specs.Prelude.{◌≡◌, ◌<◌, ◌≤◌, ◌↔◌, if◌then◌else◌, List, ℕ, Option, take, Some, None, true, false, [], ◌∷◌, ◌++◌, length, All, Contains};
 ghost use Rattle.std.specs.List.{last_or};
 ghost use Rattle.desk_core.specs.declared.call.Call.{Call};
 ghost use Rattle.desk_core.specs.declared.call.Call.TheVariants.{Shutdown, Resume};
@@ -13,10 +13,11 @@ ghost use Rattle.desk_core.specs.Reply.{reply_to};
 ghost use Rattle.desk_core.specs.Changes.{changes_of};
 ghost use Rattle.desk_core.specs.Watch.{WatchState, IsOlder, GoOn, last_of, opened, answer_of, cursor_after, told, walk, cursor_past, story, last_told};
 ghost use Rattle.health_wire.specs.declared.serving.Serving.{Serving};
-ghost use Rattle.health_wire.specs.declared.serving.Serving.TheVariants.{Serving as IsServing};
+ghost use Rattle.health_wire.specs.declared.serving.Serving.TheVariants.{Unknown, Serving as IsServing};
+ghost use Rattle.probe_core.specs.declared.event.Event.{Event};
 ghost use Rattle.probe_core.specs.declared.rule.Rule.{Rule};
 ghost use Rattle.probe_core.specs.declared.rule.Rule.TheVariants.{Depends};
-ghost use Rattle.probe_core.specs.Events.{is_up};
+ghost use Rattle.probe_core.specs.Events.{is_unknown, is_up};
 ghost use Rattle.probe_core.specs.Rule.{relied_on};
 ghost use Rattle.desk_core.specs.Legal.{IsLegal, IsLawfulCall};
 ghost use Rattle.desk_core.specs.Catalogue.{IsCatalogue, HasNoDouble, slot_of, name_at, has_too_long, has_double, has_empty_name};
@@ -55,10 +56,12 @@ pub fn depends_on_all()
         → ((status_at entries i ≡ Some IsServing) ↔ AllServe entries mask) }
 {}
 
-/// A service whose rule relies on no other is serving exactly where it is up by what it heard, while the server is not shut down.
+/// While the server is not shut down, a service whose rule relies on no other is unknown where it heard nothing and starts unknown, and
+/// else serving exactly where it is up by what it heard.
 pub fn events_decide()
     ensures { (entries : List Entry) (i : ℕ) (rule : Rule) → rule_at entries i ≡ Some rule → relied_on rule ≡ 0 → is_shut entries ≡ false
-        → status_at entries i ≡ Some (serving_if (is_up rule (heard entries i rule))) }
+        → let events : List Event = heard entries i rule in
+        status_at entries i ≡ Some (if is_unknown rule events then Unknown else serving_if (is_up rule events)) }
 {}
 
 /// One more entry with the reply that the history gives keeps it legal.
@@ -103,7 +106,7 @@ pub fn walks_tell_the_story()
 {}
 
 /// Whoever was told all changes of a service knows what is shown of it now: the status of the last one, and before the first
-/// that the service is unknown.
+/// SERVICE_UNKNOWN.
 pub fn last_change_is_shown()
     ensures { (entries : List Entry) (slot : ℕ) → slot < 16 → last_told (changes_of entries) slot ≡ shown entries (Some slot) }
 {}

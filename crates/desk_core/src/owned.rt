@@ -18,7 +18,7 @@ impl<P: Probe> Model for Owned<P> {
 
 impl<P: Probe> Owned<P> {
     ghost use Rattle.std.specs.Prelude.{◌≡◌};
-    ghost use Rattle.probe_core.specs.Rule.{fits, is_up_at, memory_next, opening_memory};
+    ghost use Rattle.probe_core.specs.Rule.{fits, is_unknown_at, is_up_at, memory_next, opening_memory};
 
     pub(crate) fn new(probe: P) -> Owned<P>
         ensures { result ≡ (P.rule probe, P.memory probe) }
@@ -43,6 +43,12 @@ impl<P: Probe> Owned<P> {
         ensures { result ≡ is_up_at self.now.0 self.now.1 }
     {
         self.probe.is_up()
+    }
+
+    pub(crate) fn is_unknown(&self) -> bool
+        ensures { result ≡ is_unknown_at self.now.0 self.now.1 }
+    {
+        self.probe.is_unknown()
     }
 
     pub(crate) fn note(&mut self, event: Event) -> bool

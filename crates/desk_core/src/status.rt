@@ -22,7 +22,9 @@ pub(crate) fn status_of<P: Probe>(
     if is_shut {
         return Some(Serving::NotServing);
     }
-    if owned.is_up() && covers(below, owned.rule().relied_on()) {
+    if owned.is_unknown() {
+        Some(Serving::Unknown)
+    } else if owned.is_up() && covers(below, owned.rule().relied_on()) {
         Some(Serving::Serving)
     } else {
         Some(Serving::NotServing)

@@ -64,7 +64,7 @@ impl Statuses {
     }
 }
 
-/// A slot never has the status of an unknown service, so it needs no code.
+/// A slot never has SERVICE_UNKNOWN, so that needs no code.
 fn code(status: Option<Serving>) -> u32
     ensures value { result ≡ code_of status }
     ensures small { result ≤ 3 }

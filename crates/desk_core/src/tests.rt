@@ -1,7 +1,7 @@
 use super::*;
 use health_wire::Serving;
 use probe_core::tracked::Tracked;
-use probe_core::{Depends, Manual, Probe, Rule, Threshold};
+use probe_core::{Depends, Manual, Probe, Rule, Start, Threshold};
 use std::alloc::Global;
 use std::sync::Arc;
 use std::sync::atomic::{AtomicU64, Ordering};
@@ -18,6 +18,7 @@ mod rows;
 pub(crate) mod strings;
 mod texts;
 mod tracked;
+mod unknown;
 mod watches;
 
 use desks::{
@@ -35,6 +36,8 @@ const SERVING: Option<Serving> = Some(Serving::Serving);
 
 const NOT_SERVING: Option<Serving> = Some(Serving::NotServing);
 
+const UNKNOWN: Option<Serving> = Some(Serving::Unknown);
+
 /// A pass of the slot 0.
 const PASS: Step = Step::Observe(0, Finding::Pass);
 
@@ -49,7 +52,7 @@ fn expect_of_three<P: Probe>(alloc: Global, a: P, b: P, c: P, rows: &[Row]) -> R
 /// Goes through the rows at a desk with a threshold of 2 in the slot 0, a service that is set in the slot 1, and one in
 /// the slot 2 that depends on both.
 fn expect_at_three(alloc: Global, rows: &[Row]) -> Result<(), Fail> {
-    let a: Box<dyn Probe + Send> = boxed(alloc, Threshold::new(2, 1))?;
+    let a: Box<dyn Probe + Send> = boxed(alloc, Threshold::new(2, 1, Start::Up))?;
     let b: Box<dyn Probe + Send> = boxed(alloc, Manual::new())?;
     let c: Box<dyn Probe + Send> = boxed(alloc, Depends::new(3))?;
     expect_of_three(alloc, a, b, c, rows)
@@ -76,11 +79,11 @@ fn replaces<P: Probe>(
 
 /// Goes through the rows at such a desk, where a probe of this rule takes the place of the one in the slot 1.
 fn expect_replaced(alloc: Global, rule: Rule, rows: Replaced) -> Result<(), Fail> {
-    let a: Box<dyn Probe + Send> = boxed(alloc, Threshold::new(2, 1))?;
+    let a: Box<dyn Probe + Send> = boxed(alloc, Threshold::new(2, 1, Start::Up))?;
     let b: Box<dyn Probe + Send> = boxed(alloc, Manual::new())?;
     let c: Box<dyn Probe + Send> = boxed(alloc, Depends::new(3))?;
     let other: Box<dyn Probe + Send> = match rule {
-        Rule::Threshold(fall, rise) => boxed(alloc, Threshold::new(fall, rise))?,
+        Rule::Threshold(fall, rise, start) => boxed(alloc, Threshold::new(fall, rise, start))?,
         Rule::Manual => boxed(alloc, Manual::new())?,
         Rule::Depends(mask) => boxed(alloc, Depends::new(mask))?,
     };
@@ -138,7 +141,7 @@ static RISEN: [Row; 12] = [
 
 #[test]
 fn rises_after_a_whole_run_of_passes(rt: HostRuntime) -> Result<(), Fail> {
-    expect_of_one(rt.alloc(), Threshold::new(2, 2), &RISEN)
+    expect_of_one(rt.alloc(), Threshold::new(2, 2, Start::Up), &RISEN)
 }
 
 static BOARDS: [Row; 4] = [
@@ -179,7 +182,7 @@ static SHUT_DOWN: [Row; 7] = [
 #[test]
 fn hears_nothing_while_shut_down(rt: HostRuntime) -> Result<(), Fail> {
     let alloc = rt.alloc();
-    let a: Box<dyn Probe + Send> = boxed(alloc, Threshold::new(2, 1))?;
+    let a: Box<dyn Probe + Send> = boxed(alloc, Threshold::new(2, 1, Start::Up))?;
     expect_of_one(alloc, a, &SHUT_DOWN)
 }
 
@@ -193,6 +196,6 @@ static RESUMED: [Row; 4] = [
 #[test]
 fn forgets_at_a_resume_without_a_shutdown(rt: HostRuntime) -> Result<(), Fail> {
     let alloc = rt.alloc();
-    let a: Box<dyn Probe + Send> = boxed(alloc, Threshold::new(1, 1))?;
+    let a: Box<dyn Probe + Send> = boxed(alloc, Threshold::new(1, 1, Start::Up))?;
     expect_of_one(alloc, a, &RESUMED)
 }

@@ -8,15 +8,18 @@ use Rattle.health_wire.specs.declared.serving.Serving.TheVariants.{Unknown, NotS
 use Rattle.healthd.specs.Service.{IsServiceWord, IsNoServiceWord, AreServiceWords}
 
 -- a word with none of the endings gives no status
-pub no_ending : (word : List ℕ) → ((name : List ℕ) → word ≢ name ++ codes "=serving") → ((name : List ℕ) → word ≢ name ++ codes "=not_serving") → (name : List ℕ) (status : Serving) → IsServiceWord word name status → ⊥
-no_ending word not_serving not_not_serving name Unknown is = let none : None ≡ Some is.end = is.end_is in cc
-no_ending word not_serving not_not_serving name IsServing is =
+pub no_ending : (word : List ℕ) → ((name : List ℕ) → word ≢ name ++ codes "=serving") → ((name : List ℕ) → word ≢ name ++ codes "=not_serving")
+    → ((name : List ℕ) → word ≢ name ++ codes "=unknown") → (name : List ℕ) (status : Serving) → IsServiceWord word name status → ⊥
+no_ending word not_serving not_not_serving not_unknown name Unknown is =
+    let end : is.end ≡ codes "=unknown" = (let same : Some (codes "=unknown") ≡ Some is.end = is.end_is in cc) in
+    not_unknown name (is.parts ∙ ap (λ xs. name ++ xs) end)
+no_ending word not_serving not_not_serving not_unknown name IsServing is =
     let end : is.end ≡ codes "=serving" = (let same : Some (codes "=serving") ≡ Some is.end = is.end_is in cc) in
     not_serving name (is.parts ∙ ap (λ xs. name ++ xs) end)
-no_ending word not_serving not_not_serving name NotServing is =
+no_ending word not_serving not_not_serving not_unknown name NotServing is =
     let end : is.end ≡ codes "=not_serving" = (let same : Some (codes "=not_serving") ≡ Some is.end = is.end_is in cc) in
     not_not_serving name (is.parts ∙ ap (λ xs. name ++ xs) end)
-no_ending word not_serving not_not_serving name ServiceUnknown is = let none : None ≡ Some is.end = is.end_is in cc
+no_ending word not_serving not_not_serving not_unknown name ServiceUnknown is = let none : None ≡ Some is.end = is.end_is in cc
 
 -- one more word, and the pair that it gives
 words_push : (words : List (Bor (List ℕ))) (pairs : List (String Global × Serving)) (word : Bor (List ℕ)) (pair : String Global × Serving) → AreServiceWords words pairs → IsServiceWord word.now (string_bytes pair.0) pair.1 → AreServiceWords (words ++ word ∷ []) (pairs ++ pair ∷ [])

@@ -8,7 +8,7 @@ use Rattle.health_wire.specs.declared.serving.Serving.TheVariants.{Unknown, NotS
 
 -- how a word ends that gives this status
 abbrev pub ending : Serving → Option (List ℕ)
-ending Unknown = None
+ending Unknown = Some (codes "=unknown")
 ending IsServing = Some (codes "=serving")
 ending NotServing = Some (codes "=not_serving")
 ending ServiceUnknown = None

@@ -30,7 +30,7 @@ fn body<'a>(alloc: Global) -> Result<Command<'a>, AllocError> {
         .required(true);
     let services = Arg::new(alloc, "SERVICE")
         .help(
-            "A service and its status, as api=serving or api=not_serving; of two with one name the first counts",
+            "A service and its status, as api=serving, api=not_serving or api=unknown; of two with one name the first counts",
         )
         .action(ArgAction::Append)
         .num_args(0..)

@@ -10,6 +10,8 @@ const SERVING: &str = "=serving";
 
 const NOT_SERVING: &str = "=not_serving";
 
+const UNKNOWN: &str = "=unknown";
+
 /// Reads a word that gives a service its status, as `NAME=serving`. The name may have a `=` of its own.
 pub fn parse_service(alloc: Global, word: &str) -> Result<(String, Serving), Fault>
     ensures ok { IfOk result (λ pair. IsServiceWord word.now (string_bytes pair.0) pair.1) }
@@ -21,6 +23,9 @@ pub fn parse_service(alloc: Global, word: &str) -> Result<(String, Serving), Fau
     }
     if let Some(name) = word.strip_suffix(NOT_SERVING) {
         return Ok((String::from_str(alloc, name)?, Serving::NotServing));
+    }
+    if let Some(name) = word.strip_suffix(UNKNOWN) {
+        return Ok((String::from_str(alloc, name)?, Serving::Unknown));
     }
     Err(Fault::BadService)
 }

@@ -15,6 +15,9 @@ const SERVING: &[u8] = b"\0\0\0\0\x02\x08\x01\x80\0\0\0\x0fgrpc-status:0\r\n";
 
 const NOT_SERVING: &[u8] = b"\0\0\0\0\x02\x08\x02\x80\0\0\0\x0fgrpc-status:0\r\n";
 
+/// A message without bytes, which says UNKNOWN.
+const UNKNOWN: &[u8] = b"\0\0\0\0\0\x80\0\0\0\x0fgrpc-status:0\r\n";
+
 const UNKNOWN_SERVICE: &[u8] = b"\x80\0\0\0\x2dgrpc-status:5\r\ngrpc-message:unknown service\r\n";
 
 const REQUEST_TOO_LARGE: &[u8] =
@@ -29,11 +32,12 @@ const COMPRESSED_MESSAGE: &[u8] =
 /// The service `a`, an unknown field 9 and the service `b`.
 const TWO_SERVICES: &[u8] = b"\0\0\0\0\x08\x0a\x01a\x48\x05\x0a\x01b";
 
-/// Bodies and their answers, where the empty name and `b` are serving and `a` is not.
-const ANSWERS: [(&[u8], &[u8]); 14] = [
+/// Bodies and their answers, where the empty name and `b` are serving, `a` is not, and `c` is unknown.
+const ANSWERS: [(&[u8], &[u8]); 15] = [
     (b"\0\0\0\0\0", SERVING),
     (b"\0\0\0\0\x03\x0a\x01a", NOT_SERVING),
     (b"\0\0\0\0\x04\x0a\x02zz", UNKNOWN_SERVICE),
+    (b"\0\0\0\0\x03\x0a\x01c", UNKNOWN),
     (TWO_SERVICES, SERVING),
     // the length 1 spelled in two bytes
     (b"\0\0\0\0\x04\x0a\x81\x00a", NOT_SERVING),
@@ -68,7 +72,8 @@ fn expect_answer<A: Debug>(
 #[test]
 fn answers_each_body(rt: HostRuntime) -> Result<(), Fail> {
     let alloc = rt.alloc();
-    let list = parse_services(alloc, &["a=not_serving", "=serving", "b=serving"])?;
+    let words = ["a=not_serving", "=serving", "b=serving", "c=unknown"];
+    let list = parse_services(alloc, words.as_slice())?;
     for (body, expected) in &ANSWERS {
         expect_answer(alloc, &list, *body, *expected, body)?;
     }
@@ -96,20 +101,29 @@ fn refuses_a_body_of_over_8_192_bytes(rt: HostRuntime) -> Result<(), Fail> {
 }
 
 #[test]
+fn answers_that_nothing_is_known(rt: HostRuntime) -> Result<(), Fail> {
+    let alloc = rt.alloc();
+    let list = parse_services(alloc, &["=unknown"])?;
+    expect_answer(alloc, &list, b"\0\0\0\0\0", UNKNOWN, &"the empty name")
+}
+
+#[test]
 fn answers_from_the_first_pair_with_the_name(rt: HostRuntime) -> Result<(), Fail> {
     let alloc = rt.alloc();
     let list = parse_services(alloc, &["=not_serving", "=serving"])?;
     expect_answer(alloc, &list, b"\0\0\0\0\0", NOT_SERVING, &"the first pair")
 }
 
-static SERVICE_WORDS: [(&str, Result<(&str, Serving), Fault>); 8] = [
+static SERVICE_WORDS: [(&str, Result<(&str, Serving), Fault>); 10] = [
     ("a=serving", Ok(("a", Serving::Serving))),
     ("a=not_serving", Ok(("a", Serving::NotServing))),
     ("=serving", Ok(("", Serving::Serving))),
+    ("=unknown", Ok(("", Serving::Unknown))),
     ("a=b=serving", Ok(("a=b", Serving::Serving))),
     ("a", Err(Fault::BadService)),
     ("serving", Err(Fault::BadService)),
     ("a=SERVING", Err(Fault::BadService)),
+    ("a=service_unknown", Err(Fault::BadService)),
     ("a=serving=", Err(Fault::BadService)),
 ];
 

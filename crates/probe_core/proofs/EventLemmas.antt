@@ -1,6 +1,6 @@
-use Rattle.std.proofs.Common.{◌≡◌, ℕ, zero, suc, ◌+◌, ◌<◌, ◌≤◌, ◌&&◌, ◌||◌, min, not, nat_le, nat_lt, cond, Bool, true, false, List, [], ◌∷◌, ◌++◌, length, take, drop, refl, sym, ap, subst, ◌∙◌, inl, inr, ◌⊎◌, arith, length-append}
+use Rattle.std.proofs.Common.{◌≡◌, ℕ, zero, suc, ◌+◌, ◌==◌, ◌<◌, ◌≤◌, ◌&&◌, ◌||◌, min, not, nat_le, nat_lt, cond, Bool, true, false, List, [], ◌∷◌, ◌++◌, length, take, drop, refl, sym, ap, subst, ◌∙◌, inl, inr, ◌⊎◌, arith, length-append}
 use Rattle.std.specs.List.{list_all, prefix_len, range_with_len, Any}
-use Rattle.std.proofs.lemmas.Bool.{cases_lt, lt-ltb, le-ltb, le-leb, lt-leb, false≢true}
+use Rattle.std.proofs.lemmas.Bool.{cases_lt, lt-ltb, le-ltb, le-leb, lt-leb, eqb-true, eq-eqb, false≢true}
 use Rattle.std.proofs.lemmas.List.{take-append-drop}
 use Rattle.std.proofs.Math.Seq.{drop-append_seam, take-append_seam}
 use Rattle.std.proofs.lemmas.List.Folds.{Any-from_list_any, list_any_at}
@@ -9,8 +9,10 @@ use Rattle.probe_core.specs.declared.event.Event.{Event}
 use Rattle.probe_core.specs.declared.event.Event.TheVariants.{Pass, Fail, Up, Down}
 use Rattle.probe_core.specs.declared.rule.Rule.{Rule}
 use Rattle.probe_core.specs.declared.rule.Rule.TheVariants.{Threshold, Manual, Depends}
-use Rattle.probe_core.specs.Rule.{fits, is_count, is_in_range, memory_next, opening_memory, is_up_at}
-use Rattle.probe_core.specs.Events.{all_fit, is_fail, is_pass, is_up, memory_after, newest_are, has_run, is_down}
+use Rattle.probe_core.specs.declared.start.Start.{Start}
+use Rattle.probe_core.specs.declared.start.Start.TheVariants as starts
+use Rattle.probe_core.specs.Rule.{fits, starts_unknown, is_count, is_in_range, counted, count_next, memory_next, opening_memory, is_up_at, is_unknown_at}
+use Rattle.probe_core.specs.Events.{all_fit, is_fail, is_pass, is_up, is_unknown, count_after, memory_after, newest_are, has_run, is_down}
 
 suc_le : (a b : ℕ) → nat_le (suc a) (suc b) ≡ nat_le a b
 suc_le a b =
@@ -187,12 +189,12 @@ stays_up fall rise event events (newest ∷ newer) older up row parts fell none 
     let isnt = (or_parts (newest_are is_pass rise (newest ∷ newer)) (has_run rise newer) (sym (run_cons rise newest newer) ∙ none)).1 in
     up (record { newer = newer; older = older; parts = rest; fell = fell; none = isnt })
 
--- what a threshold remembers, by whether it is down
-down_memory : (fall rise : ℕ) (events : List Event) → is_down fall rise events ≡ true → memory_after (Threshold fall rise) events ≡ fall + prefix_len is_pass events
-down_memory fall rise events is = rw is refl
+-- what a threshold counted, by whether it is down
+down_count : (fall rise : ℕ) (start : Start) (events : List Event) → is_down fall rise events ≡ true → count_after (Threshold fall rise start) events ≡ fall + prefix_len is_pass events
+down_count fall rise start events is = rw is refl
 
-up_memory : (fall rise : ℕ) (events : List Event) → is_down fall rise events ≡ false → memory_after (Threshold fall rise) events ≡ prefix_len is_fail events
-up_memory fall rise events is = rw is refl
+up_count : (fall rise : ℕ) (start : Start) (events : List Event) → is_down fall rise events ≡ false → count_after (Threshold fall rise start) events ≡ prefix_len is_fail events
+up_count fall rise start events is = rw is refl
 
 -- one that is up has fewer failures in a row
 up_short : (fall rise : ℕ) (events : List Event) → 1 ≤ rise → is_down fall rise events ≡ false → prefix_len is_fail events < fall
@@ -205,53 +207,53 @@ up_short fall rise events some is =
 not_down : (fall rise : ℕ) (events : List Event) → is_down fall rise events ≡ false → ¬ IsDown fall rise events
 not_down fall rise events is down = false≢true (sym is ∙ down_of fall rise events down)
 
--- the memory of a threshold after a pass
-after_pass : (fall rise : ℕ) (events : List Event) → 1 ≤ fall → 1 ≤ rise
-    → memory_after (Threshold fall rise) (Pass ∷ events) ≡ memory_next (Threshold fall rise) Pass (memory_after (Threshold fall rise) events)
-after_pass fall rise events some few = by_test (is_down fall rise events) refl
+-- what a threshold counted after a pass
+after_pass : (fall rise : ℕ) (start : Start) (events : List Event) → 1 ≤ fall → 1 ≤ rise
+    → count_after (Threshold fall rise start) (Pass ∷ events) ≡ count_next (Threshold fall rise start) Pass (count_after (Threshold fall rise start) events)
+after_pass fall rise start events some few = by_test (is_down fall rise events) refl
   where
     next : ℕ → ℕ
-    next memory = memory_next (Threshold fall rise) Pass memory
+    next count = count_next (Threshold fall rise start) Pass count
 
     by_run : (suc (prefix_len is_pass events) < rise) ⊎ (rise ≤ suc (prefix_len is_pass events)) → is_down fall rise events ≡ true
-        → memory_after (Threshold fall rise) (Pass ∷ events) ≡ next (fall + prefix_len is_pass events)
+        → count_after (Threshold fall rise start) (Pass ∷ events) ≡ next (fall + prefix_len is_pass events)
     by_run (inl short) is =
         let down = down_of fall rise (Pass ∷ events) (down_pass fall rise events short (down_at fall rise events is)) in
-        down_memory fall rise (Pass ∷ events) down
+        down_count fall rise start (Pass ∷ events) down
         ∙ rw (le-ltb (fall + prefix_len is_pass events) fall (omega arith), lt-ltb (fall + prefix_len is_pass events + 1) (fall + rise) (omega (arith, short))) (omega arith)
     by_run (inr long) is =
         let up : ¬ IsDown fall rise (Pass ∷ events) = λ d. rises fall rise events d.newer d.older some long d.parts d.fell d.none in
-        up_memory fall rise (Pass ∷ events) (up_of fall rise (Pass ∷ events) up)
+        up_count fall rise start (Pass ∷ events) (up_of fall rise (Pass ∷ events) up)
         ∙ rw (le-ltb (fall + prefix_len is_pass events) fall (omega arith), le-ltb (fall + prefix_len is_pass events + 1) (fall + rise) (omega (arith, long))) refl
 
-    by_test : (b : Bool) → is_down fall rise events ≡ b → memory_after (Threshold fall rise) (Pass ∷ events) ≡ next (memory_after (Threshold fall rise) events)
-    by_test true is = by_run (cases_lt (suc (prefix_len is_pass events)) rise) is ∙ ap next (sym (down_memory fall rise events is))
+    by_test : (b : Bool) → is_down fall rise events ≡ b → count_after (Threshold fall rise start) (Pass ∷ events) ≡ next (count_after (Threshold fall rise start) events)
+    by_test true is = by_run (cases_lt (suc (prefix_len is_pass events)) rise) is ∙ ap next (sym (down_count fall rise start events is))
     by_test false is =
         let up : ¬ IsDown fall rise (Pass ∷ events) =
         λ d. stays_up fall rise Pass events d.newer d.older (not_down fall rise events is) (no_row is_fail fall Pass events some refl) d.parts d.fell d.none in
-        up_memory fall rise (Pass ∷ events) (up_of fall rise (Pass ∷ events) up)
-        ∙ rw (up_memory fall rise events is, lt-ltb (prefix_len is_fail events) fall (up_short fall rise events few is)) refl
+        up_count fall rise start (Pass ∷ events) (up_of fall rise (Pass ∷ events) up)
+        ∙ rw (up_count fall rise start events is, lt-ltb (prefix_len is_fail events) fall (up_short fall rise events few is)) refl
 
 -- and after a failure
-after_fail : (fall rise : ℕ) (events : List Event) → 1 ≤ fall → 1 ≤ rise
-    → memory_after (Threshold fall rise) (Fail ∷ events) ≡ memory_next (Threshold fall rise) Fail (memory_after (Threshold fall rise) events)
-after_fail fall rise events some few = by_test (is_down fall rise events) refl
+after_fail : (fall rise : ℕ) (start : Start) (events : List Event) → 1 ≤ fall → 1 ≤ rise
+    → count_after (Threshold fall rise start) (Fail ∷ events) ≡ count_next (Threshold fall rise start) Fail (count_after (Threshold fall rise start) events)
+after_fail fall rise start events some few = by_test (is_down fall rise events) refl
   where
     by_row : (suc (prefix_len is_fail events) < fall) ⊎ (fall ≤ suc (prefix_len is_fail events)) → is_down fall rise events ≡ false
-        → memory_after (Threshold fall rise) (Fail ∷ events) ≡ min fall (prefix_len is_fail events + 1)
+        → count_after (Threshold fall rise start) (Fail ∷ events) ≡ min fall (prefix_len is_fail events + 1)
     by_row (inl short) is =
         let row : newest_are is_fail fall (Fail ∷ events) ≡ false = newest_are-row is_fail fall (Fail ∷ events) ∙ lt-leb fall (1 + prefix_len is_fail events) (omega (arith, short)) in
         let up : ¬ IsDown fall rise (Fail ∷ events) = λ d. stays_up fall rise Fail events d.newer d.older (not_down fall rise events is) row d.parts d.fell d.none in
-        up_memory fall rise (Fail ∷ events) (up_of fall rise (Fail ∷ events) up) ∙ omega (arith, short)
+        up_count fall rise start (Fail ∷ events) (up_of fall rise (Fail ∷ events) up) ∙ omega (arith, short)
     by_row (inr long) is =
-        down_memory fall rise (Fail ∷ events) (down_of fall rise (Fail ∷ events) (falls fall rise (Fail ∷ events) few (omega (arith, long)))) ∙ omega (arith, long)
+        down_count fall rise start (Fail ∷ events) (down_of fall rise (Fail ∷ events) (falls fall rise (Fail ∷ events) few (omega (arith, long)))) ∙ omega (arith, long)
 
     by_test : (b : Bool) → is_down fall rise events ≡ b
-        → memory_after (Threshold fall rise) (Fail ∷ events) ≡ min fall (memory_after (Threshold fall rise) events + 1)
+        → count_after (Threshold fall rise start) (Fail ∷ events) ≡ min fall (count_after (Threshold fall rise start) events + 1)
     by_test true is =
-        down_memory fall rise (Fail ∷ events) (down_of fall rise (Fail ∷ events) (down_fail fall rise events few (down_at fall rise events is)))
-        ∙ rw (down_memory fall rise events is) (omega arith)
-    by_test false is = by_row (cases_lt (suc (prefix_len is_fail events)) fall) is ∙ rw (up_memory fall rise events is) refl
+        down_count fall rise start (Fail ∷ events) (down_of fall rise (Fail ∷ events) (down_fail fall rise events few (down_at fall rise events is)))
+        ∙ rw (down_count fall rise start events is) (omega arith)
+    by_test false is = by_row (cases_lt (suc (prefix_len is_fail events)) fall) is ∙ rw (up_count fall rise start events is) refl
 
 -- a number that may be counted to is at least one
 some_count : (number : ℕ) → is_count number ≡ true → 1 ≤ number
@@ -261,9 +263,9 @@ some_count number counts =
       | inr some ↦ some
     ]
 
--- before the first event
-pub memory_opens : (rule : Rule) → memory_after rule [] ≡ opening_memory rule
-memory_opens (Threshold fall rise) = by_test (is_down fall rise []) refl
+-- before the first event nothing is counted
+none_counted : (rule : Rule) → count_after rule [] ≡ 0
+none_counted (Threshold fall rise start) = by_test (is_down fall rise []) refl
   where
     none_at : (d : IsDown fall rise []) → fall ≤ 0
     none_at d =
@@ -274,39 +276,124 @@ memory_opens (Threshold fall rise) = by_test (is_down fall rise []) refl
           | inr below ↦ omega (arith, below, short)
         ]
 
-    by_test : (b : Bool) → is_down fall rise [] ≡ b → memory_after (Threshold fall rise) [] ≡ 0
-    by_test true is = down_memory fall rise [] is ∙ omega (arith, none_at (down_at fall rise [] is))
-    by_test false is = up_memory fall rise [] is
+    by_test : (b : Bool) → is_down fall rise [] ≡ b → count_after (Threshold fall rise start) [] ≡ 0
+    by_test true is = down_count fall rise start [] is ∙ omega (arith, none_at (down_at fall rise [] is))
+    by_test false is = up_count fall rise start [] is
+none_counted Manual = refl
+none_counted (Depends mask) = refl
+
+pub memory_opens : (rule : Rule) → memory_after rule [] ≡ opening_memory rule
+memory_opens (Threshold fall rise starts.Up) = none_counted (Threshold fall rise starts.Up)
+memory_opens (Threshold fall rise starts.Unknown) = refl
 memory_opens Manual = refl
 memory_opens (Depends mask) = refl
 
+-- the count after one more event that fits
+count_more : (rule : Rule) (event : Event) (events : List Event) → is_in_range rule ≡ true → fits rule event ≡ true → count_after rule (event ∷ events) ≡ count_next rule event (count_after rule events)
+count_more (Threshold fall rise start) Pass events counts fit =
+    let both = and_parts (is_count fall) (is_count rise) counts in
+    after_pass fall rise start events (some_count fall both.0) (some_count rise both.1)
+count_more (Threshold fall rise start) Fail events counts fit =
+    let both = and_parts (is_count fall) (is_count rise) counts in
+    after_fail fall rise start events (some_count fall both.0) (some_count rise both.1)
+count_more (Threshold fall rise start) Up events counts fit = absurd (false≢true fit)
+count_more (Threshold fall rise start) Down events counts fit = absurd (false≢true fit)
+count_more Manual Pass events counts fit = absurd (false≢true fit)
+count_more Manual Fail events counts fit = absurd (false≢true fit)
+count_more Manual Up events counts fit = refl
+count_more Manual Down events counts fit = refl
+count_more (Depends mask) event events counts fit = absurd (false≢true fit)
+
+-- while a service is down its passes in a row are fewer than its rise
+down_short : (fall rise : ℕ) (events : List Event) → 1 ≤ fall → 1 ≤ rise → is_down fall rise events ≡ true → prefix_len is_pass events < rise
+down_short fall rise events some few is = by_newer down.newer refl
+  where
+    down : IsDown fall rise events
+    down = down_at fall rise events is
+
+    row : prefix_len is_pass events ≡ prefix_len is_pass down.newer
+    row = ap (prefix_len is_pass) down.parts ∙ row_newer fall down.newer down.older some down.fell
+
+    by_newer : (newer : List Event) → down.newer ≡ newer → prefix_len is_pass events < rise
+    by_newer [] same = omega (arith, row, ap (prefix_len is_pass) same, few)
+    by_newer (newest ∷ newer) same =
+        let none : has_run rise (newest ∷ newer) ≡ false = subst (λ es. has_run rise es ≡ false) same down.none in
+        let isnt : nat_le rise (prefix_len is_pass (newest ∷ newer)) ≡ false =
+        sym (newest_are-row is_pass rise (newest ∷ newer)) ∙ (or_parts (newest_are is_pass rise (newest ∷ newer)) (has_run rise newer) (sym (run_cons rise newest newer) ∙ none)).0 in
+        elim (cases_lt (prefix_len is_pass events) rise) as (λ _. prefix_len is_pass events < rise) [
+          | inl short ↦ short
+          | inr long ↦
+              absurd (false≢true (sym isnt ∙ le-leb rise (prefix_len is_pass (newest ∷ newer)) (omega (arith, long, row, ap (prefix_len is_pass) same))))
+        ]
+
+-- no count reaches the sum of both numbers
+count_short : (fall rise : ℕ) (start : Start) (events : List Event) → 1 ≤ fall → 1 ≤ rise → count_after (Threshold fall rise start) events < fall + rise
+count_short fall rise start events some few = by_test (is_down fall rise events) refl
+  where
+    by_test : (b : Bool) → is_down fall rise events ≡ b → count_after (Threshold fall rise start) events < fall + rise
+    by_test true is = omega (arith, down_count fall rise start events is, down_short fall rise events some few is)
+    by_test false is = omega (arith, up_count fall rise start events is, up_short fall rise events few is)
+
+-- what is below a number is not the number
+below_differs : (a b : ℕ) → a < b → (a == b) ≡ false
+below_differs a b below = by_test (a == b) refl
+  where
+    by_test : (is : Bool) → (a == b) ≡ is → is ≡ false
+    by_test true same = absurd (omega (arith, below, eqb-true a b same))
+    by_test false same = refl
+
+-- a service that heard something is not unknown
+known_count : (fall rise : ℕ) (events : List Event) → 1 ≤ fall → 1 ≤ rise → is_unknown_at (Threshold fall rise starts.Unknown) (count_after (Threshold fall rise starts.Unknown) events) ≡ false
+known_count fall rise events some few =
+    below_differs (count_after (Threshold fall rise starts.Unknown) events) (fall + rise) (count_short fall rise starts.Unknown events some few)
+
+pub memory_unknown : (rule : Rule) (events : List Event) → is_in_range rule ≡ true → all_fit rule events ≡ true → is_unknown_at rule (memory_after rule events) ≡ is_unknown rule events
+memory_unknown (Threshold fall rise starts.Up) events counts fit = refl
+memory_unknown (Threshold fall rise starts.Unknown) [] counts fit = eq-eqb (fall + rise) (fall + rise) refl
+memory_unknown (Threshold fall rise starts.Unknown) (newest ∷ older) counts fit =
+    let both = and_parts (is_count fall) (is_count rise) counts in
+    known_count fall rise (newest ∷ older) (some_count fall both.0) (some_count rise both.1)
+memory_unknown Manual events counts fit = refl
+memory_unknown (Depends mask) events counts fit = refl
+
+-- a memory tells what was counted
+memory_counted : (rule : Rule) (events : List Event) → is_in_range rule ≡ true → counted rule (memory_after rule events) ≡ count_after rule events
+memory_counted (Threshold fall rise starts.Up) events counts = refl
+memory_counted (Threshold fall rise starts.Unknown) [] counts =
+    rw (eq-eqb (fall + rise) (fall + rise) refl) (sym (none_counted (Threshold fall rise starts.Unknown)))
+memory_counted (Threshold fall rise starts.Unknown) (newest ∷ older) counts =
+    let both = and_parts (is_count fall) (is_count rise) counts in
+    ap (λ b. cond b 0 (count_after (Threshold fall rise starts.Unknown) (newest ∷ older))) (known_count fall rise (newest ∷ older) (some_count fall both.0) (some_count rise both.1))
+memory_counted Manual events counts = refl
+memory_counted (Depends mask) events counts = refl
+
 -- the memory after one more event that fits
 pub memory_more : (rule : Rule) (event : Event) (events : List Event) → is_in_range rule ≡ true → fits rule event ≡ true → memory_after rule (event ∷ events) ≡ memory_next rule event (memory_after rule events)
-memory_more (Threshold fall rise) Pass events counts fit =
-    let both = and_parts (is_count fall) (is_count rise) counts in
-    after_pass fall rise events (some_count fall both.0) (some_count rise both.1)
-memory_more (Threshold fall rise) Fail events counts fit =
-    let both = and_parts (is_count fall) (is_count rise) counts in
-    after_fail fall rise events (some_count fall both.0) (some_count rise both.1)
-memory_more (Threshold fall rise) Up events counts fit = absurd (false≢true fit)
-memory_more (Threshold fall rise) Down events counts fit = absurd (false≢true fit)
-memory_more Manual Pass events counts fit = absurd (false≢true fit)
-memory_more Manual Fail events counts fit = absurd (false≢true fit)
-memory_more Manual Up events counts fit = refl
-memory_more Manual Down events counts fit = refl
-memory_more (Depends mask) event events counts fit = absurd (false≢true fit)
+memory_more rule event events counts fit =
+    ap (λ b. cond b (opening_memory rule) (count_after rule (event ∷ events))) (and_false (starts_unknown rule))
+    ∙ count_more rule event events counts fit
+    ∙ ap (count_next rule event) (sym (memory_counted rule events counts))
+    ∙ ap (λ b. cond b (count_next rule event (counted rule (memory_after rule events))) (memory_after rule events)) (sym fit)
 
--- the memory of a threshold is below its `fall` where it is up
-threshold_tells : (fall rise : ℕ) (events : List Event) → 1 ≤ rise → nat_lt (memory_after (Threshold fall rise) events) fall ≡ not (is_down fall rise events)
-threshold_tells fall rise events some = by_test (is_down fall rise events) refl
+-- the count of a threshold is below its `fall` where it is up
+threshold_tells : (fall rise : ℕ) (start : Start) (events : List Event) → 1 ≤ rise → nat_lt (count_after (Threshold fall rise start) events) fall ≡ not (is_down fall rise events)
+threshold_tells fall rise start events some = by_test (is_down fall rise events) refl
   where
-    by_test : (b : Bool) → is_down fall rise events ≡ b → nat_lt (memory_after (Threshold fall rise) events) fall ≡ not b
-    by_test true is = rw (down_memory fall rise events is) (le-ltb (fall + prefix_len is_pass events) fall (omega arith))
-    by_test false is = rw (up_memory fall rise events is) (lt-ltb (prefix_len is_fail events) fall (up_short fall rise events some is))
+    by_test : (b : Bool) → is_down fall rise events ≡ b → nat_lt (count_after (Threshold fall rise start) events) fall ≡ not b
+    by_test true is = rw (down_count fall rise start events is) (le-ltb (fall + prefix_len is_pass events) fall (omega arith))
+    by_test false is = rw (up_count fall rise start events is) (lt-ltb (prefix_len is_fail events) fall (up_short fall rise events some is))
 
-pub memory_tells : (rule : Rule) (events : List Event) → is_in_range rule ≡ true → all_fit rule events ≡ true → is_up_at rule (memory_after rule events) ≡ is_up rule events
-memory_tells (Threshold fall rise) events counts fit =
-    threshold_tells fall rise events (some_count rise (and_parts (is_count fall) (is_count rise) counts).1)
+and_true : (b : Bool) → b ≡ (b && true)
+and_true true = refl
+and_true false = refl
+
+pub memory_tells : (rule : Rule) (events : List Event) → is_in_range rule ≡ true → all_fit rule events ≡ true → is_up_at rule (memory_after rule events) ≡ (is_up rule events && not (is_unknown rule events))
+memory_tells (Threshold fall rise starts.Up) events counts fit =
+    threshold_tells fall rise starts.Up events (some_count rise (and_parts (is_count fall) (is_count rise) counts).1) ∙ and_true (not (is_down fall rise events))
+memory_tells (Threshold fall rise starts.Unknown) [] counts fit =
+    le-ltb (fall + rise) fall (omega arith) ∙ sym (and_false (not (is_down fall rise [])))
+memory_tells (Threshold fall rise starts.Unknown) (newest ∷ older) counts fit =
+    threshold_tells fall rise starts.Unknown (newest ∷ older) (some_count rise (and_parts (is_count fall) (is_count rise) counts).1) ∙ and_true (not (is_down fall rise (newest ∷ older)))
 memory_tells Manual [] counts fit = refl
 memory_tells Manual (Pass ∷ older) counts fit = absurd (false≢true fit)
 memory_tells Manual (Fail ∷ older) counts fit = absurd (false≢true fit)
@@ -315,21 +402,21 @@ memory_tells Manual (Down ∷ older) counts fit = refl
 memory_tells (Depends mask) events counts fit = refl
 
 -- findings without a pass are all failures
-all_failures : (fall : ℕ) (newer older : List Event) → all_fit (Threshold fall 1) (newer ++ older) ≡ true → has_run 1 newer ≡ false
+all_failures : (fall : ℕ) (start : Start) (newer older : List Event) → all_fit (Threshold fall 1 start) (newer ++ older) ≡ true → has_run 1 newer ≡ false
     → prefix_len is_fail older ≤ prefix_len is_fail (newer ++ older)
-all_failures fall [] older fit none = omega arith
-all_failures fall (Pass ∷ newer) older fit none =
+all_failures fall start [] older fit none = omega arith
+all_failures fall start (Pass ∷ newer) older fit none =
     let row : newest_are is_pass 1 (Pass ∷ newer) ≡ true = newest_are-row is_pass 1 (Pass ∷ newer) ∙ le-leb 1 (1 + prefix_len is_pass newer) (omega arith) in
     absurd (false≢true (sym (or_parts (newest_are is_pass 1 (Pass ∷ newer)) (has_run 1 newer) (sym (run_cons 1 Pass newer) ∙ none)).0 ∙ row))
-all_failures fall (Fail ∷ newer) older fit none =
+all_failures fall start (Fail ∷ newer) older fit none =
     let rest = (or_parts (newest_are is_pass 1 (Fail ∷ newer)) (has_run 1 newer) (sym (run_cons 1 Fail newer) ∙ none)).1 in
-    omega (arith, all_failures fall newer older fit rest)
-all_failures fall (Up ∷ newer) older fit none = absurd (false≢true fit)
-all_failures fall (Down ∷ newer) older fit none = absurd (false≢true fit)
+    omega (arith, all_failures fall start newer older fit rest)
+all_failures fall start (Up ∷ newer) older fit none = absurd (false≢true fit)
+all_failures fall start (Down ∷ newer) older fit none = absurd (false≢true fit)
 
 -- with a rise of one the first pass takes it up
-pub rise_of_one : (fall : ℕ) (events : List Event) → all_fit (Threshold fall 1) events ≡ true → is_down fall 1 events ≡ newest_are is_fail fall events
-rise_of_one fall events fit =
+pub rise_of_one : (fall : ℕ) (start : Start) (events : List Event) → all_fit (Threshold fall 1 start) events ≡ true → is_down fall 1 events ≡ newest_are is_fail fall events
+rise_of_one fall start events fit =
     elim (cases_lt (prefix_len is_fail events) fall) as (λ _. is_down fall 1 events ≡ newest_are is_fail fall events) [
       | inl short ↦ up_of fall 1 events (λ d. longer d short) ∙ sym (newest_are-row is_fail fall events ∙ lt-leb fall (prefix_len is_fail events) short)
       | inr long ↦ down_of fall 1 events (falls fall 1 events (omega arith) long) ∙ sym (newest_are-row is_fail fall events ∙ le-leb fall (prefix_len is_fail events) long)
@@ -344,5 +431,5 @@ rise_of_one fall events fit =
 
     longer : (d : IsDown fall 1 events) → prefix_len is_fail events < fall → ⊥
     longer d short =
-        let all = all_failures fall d.newer d.older (subst (λ es. all_fit (Threshold fall 1) es ≡ true) d.parts fit) d.none in
+        let all = all_failures fall start d.newer d.older (subst (λ es. all_fit (Threshold fall 1 start) es ≡ true) d.parts fit) d.none in
         omega (arith, short, all, row_of d.older d.fell, ap (prefix_len is_fail) d.parts)

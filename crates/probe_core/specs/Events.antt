@@ -5,7 +5,7 @@ use Rattle.probe_core.specs.declared.event.Event.{Event}
 use Rattle.probe_core.specs.declared.event.Event.TheVariants.{Pass, Fail, Up, Down}
 use Rattle.probe_core.specs.declared.rule.Rule.{Rule}
 use Rattle.probe_core.specs.declared.rule.Rule.TheVariants.{Threshold, Manual, Depends}
-use Rattle.probe_core.specs.Rule.{fits}
+use Rattle.probe_core.specs.Rule.{fits, starts_unknown, opening_memory}
 
 -- a failed check
 abbrev pub is_fail : Event → Bool
@@ -50,18 +50,31 @@ is_down fall rise events =
 -- a threshold is down from so many failures in a row until so many passes in a row after them; a manual rule is down where the
 -- newest setting is down; one that depends on others is up by itself
 abbrev pub is_up : Rule → List Event → Bool
-is_up (Threshold fall rise) events = not (is_down fall rise events)
+is_up (Threshold fall rise start) events = not (is_down fall rise events)
 is_up Manual [] = true
 is_up Manual (newest ∷ older) = is_up_setting newest
 is_up (Depends mask) events = true
 
+-- nothing was heard
+abbrev pub is_empty : List Event → Bool
+is_empty [] = true
+is_empty (newest ∷ older) = false
+
+-- a service that starts unknown is unknown until it hears an event
+abbrev pub is_unknown : Rule → List Event → Bool
+is_unknown rule events = starts_unknown rule && is_empty events
+
 -- of a threshold that is up, how many failures stand in a row at the newest end; of one that is down, its `fall` and how many passes
 -- do; 1 where the newest setting is down
+abbrev pub count_after : Rule → List Event → ℕ
+count_after (Threshold fall rise start) events = if is_down fall rise events then fall + prefix_len is_pass events else prefix_len is_fail events
+count_after Manual [] = 0
+count_after Manual (Pass ∷ older) = 0
+count_after Manual (Fail ∷ older) = 0
+count_after Manual (Up ∷ older) = 0
+count_after Manual (Down ∷ older) = 1
+count_after (Depends mask) events = 0
+
+-- the memory of all that was heard
 abbrev pub memory_after : Rule → List Event → ℕ
-memory_after (Threshold fall rise) events = if is_down fall rise events then fall + prefix_len is_pass events else prefix_len is_fail events
-memory_after Manual [] = 0
-memory_after Manual (Pass ∷ older) = 0
-memory_after Manual (Fail ∷ older) = 0
-memory_after Manual (Up ∷ older) = 0
-memory_after Manual (Down ∷ older) = 1
-memory_after (Depends mask) events = 0
+memory_after rule events = if is_unknown rule events then opening_memory rule else count_after rule events

@@ -38,6 +38,10 @@ impl Probe for Depends {
         true
     }
 
+    fn is_unknown(&self) -> bool {
+        false
+    }
+
     fn note(&mut self, _event: Event) -> bool {
         false
     }

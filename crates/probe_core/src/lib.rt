@@ -7,6 +7,7 @@ mod laws;
 mod manual;
 mod probe;
 mod rule;
+mod start;
 mod threshold;
 pub mod tracked;
 
@@ -16,6 +17,7 @@ pub use laws::{memory_tells_status, plain_threshold};
 pub use manual::Manual;
 pub use probe::Probe;
 pub use rule::Rule;
+pub use start::Start;
 pub use threshold::Threshold;
 
 #[cfg(test)]

@@ -39,6 +39,10 @@ impl Probe for Manual {
         !self.is_down
     }
 
+    fn is_unknown(&self) -> bool {
+        false
+    }
+
     fn note(&mut self, event: Event) -> bool {
         match event {
             Event::Up => self.is_down = false,

@@ -7,7 +7,7 @@ use crate::rule::Rule;
 pub trait Probe: Drop {
     ghost use Rattle.std.specs.Prelude.{◌≡◌, ℕ};
     ghost use Rattle.probe_core.specs.declared.rule.Rule.{Rule};
-    ghost use Rattle.probe_core.specs.Rule.{fits, opening_memory, memory_next, is_up_at};
+    ghost use Rattle.probe_core.specs.Rule.{fits, opening_memory, memory_next, is_up_at, is_unknown_at};
 
     ghost rule: { Self → Rule };
 
@@ -19,6 +19,10 @@ pub trait Probe: Drop {
     /// Whether the service is up by its own events, whatever services it depends on.
     fn is_up(&self) -> bool
         ensures { result ≡ is_up_at (rule self.now) (memory self.now) };
+
+    /// Whether nothing is known of the service yet. It is not up then.
+    fn is_unknown(&self) -> bool
+        ensures { result ≡ is_unknown_at (rule self.now) (memory self.now) };
 
     /// Takes the event in, if it is of the kind that the rule follows, and says whether it is.
     fn note(&mut self, event: Event) -> bool
@@ -43,6 +47,10 @@ impl Probe for Box<dyn Probe + Send> {
 
     fn is_up(&self) -> bool {
         (**self).is_up()
+    }
+
+    fn is_unknown(&self) -> bool {
+        (**self).is_unknown()
     }
 
     fn note(&mut self, event: Event) -> bool {

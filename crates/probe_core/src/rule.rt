@@ -2,6 +2,7 @@ ghost use Rattle.std.specs.Prelude.{◌≡◌};
 ghost use Rattle.probe_core.specs.Rule.{is_count};
 
 use crate::event::Event;
+use crate::start::Start;
 
 /// The greatest number that a rule counts to.
 const MAX_COUNT: u32 = 1_000;
@@ -10,7 +11,7 @@ const MAX_COUNT: u32 = 1_000;
 #[derive(Clone, Copy, Debug, PartialEq, Eq, Hash)]
 pub enum Rule {
     /// Down after so many failures in a row, and up again after so many passes in a row: the `fall` and `rise` of HAProxy.
-    Threshold(u32, u32),
+    Threshold(u32, u32, Start),
     /// Up or down as it was last set.
     Manual,
     /// Up where the services of this mask are serving: bit i is slot i.
@@ -46,7 +47,7 @@ impl Rule {
         ensures { result ≡ is_in_range self }
     {
         match self {
-            Rule::Threshold(fall, rise) => is_count(fall) && is_count(rise),
+            Rule::Threshold(fall, rise, _) => is_count(fall) && is_count(rise),
             Rule::Manual | Rule::Depends(_) => true,
         }
     }

@@ -51,6 +51,10 @@ impl Probe for Tracked {
         self.manual.is_up()
     }
 
+    fn is_unknown(&self) -> bool {
+        self.manual.is_unknown()
+    }
+
     fn note(&mut self, event: Event) -> bool {
         self.manual.note(event)
     }

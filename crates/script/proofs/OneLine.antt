@@ -5,11 +5,14 @@ use Rattle.std.proofs.lemmas.Bool.{cases_eq, eqb-true, eq-eqb}
 use Rattle.std.proofs.lemmas.Nat.Bits.{bit_at-lt, same_from_bits}
 use Rattle.probe_core.specs.declared.rule.Rule.{Rule}
 use Rattle.probe_core.specs.declared.rule.Rule.TheVariants.{Threshold, Depends}
+use Rattle.probe_core.specs.declared.start.Start.{Start}
+use Rattle.probe_core.specs.declared.start.Start.TheVariants as starts
 use Rattle.desk_core.specs.declared.order.Order.{Order as OrderOf}
 use Rattle.script.specs.declared.line.Line.{Line}
 use Rattle.script.specs.declared.line.Line.TheVariants.{Register, Order, Step}
-use Rattle.script.specs.Line.{IsMaskOf, IsRule, IsOrder, IsLine, IsOrderText, IsLineText}
-use Rattle.script.specs.Line.IsRule.{ThresholdRule, RiseRule, ManualRule, DependsRule}
+use Rattle.script.specs.Line.{IsMaskOf, IsThreshold, IsRule, IsOrder, IsLine, IsOrderText, IsLineText}
+use Rattle.script.specs.Line.IsThreshold.{FallAlone, FallAndRise, UnknownFirst}
+use Rattle.script.specs.Line.IsRule.{ThresholdRule, ManualRule, DependsRule}
 use Rattle.script.specs.Line.IsOrder.{PassOrder, FailOrder, UpOrder, DownOrder, ShutdownOrder, ResumeOrder}
 use Rattle.script.specs.Line.IsLine.{RegisterLine, RetireLine, OrderLine, CheckLine, OpenLine, StepLine, BoardLine}
 use Rattle.script.specs.Word.{name_of, IsNumber}
@@ -30,10 +33,18 @@ pub one_mask : (names words : List (List ℕ)) (m n : ℕ) → IsMaskOf names wo
 one_mask names words m n a b =
     same_from_bits m n (λ i. same_bit (bit_at m i) (bit_at n i) (bit_at-lt m i) (bit_at-lt n i) (λ set. (b.bits i).1 ((a.bits i).0 set)) (λ set. (a.bits i).1 ((b.bits i).0 set)))
 
+same_counts : (word other : List ℕ) (fall rise m n : ℕ) (start : Start) → IsNumber word fall → IsNumber word m → IsNumber other rise → IsNumber other n
+    → Threshold fall rise start ≡ Threshold m n start
+same_counts word other fall rise m n start is_fall is_m is_rise is_n =
+    ap (λ f. Threshold f rise start) (one_number word fall m is_fall is_m) ∙ ap (λ r. Threshold m r start) (one_number other rise n is_rise is_n)
+
+one_threshold : (words : List (List ℕ)) (a b : Rule) → IsThreshold words a → IsThreshold words b → a ≡ b
+one_threshold words a b (FallAlone word m is_m) (FallAlone same n is_n) = ap (λ fall. Threshold fall 1 starts.Up) (one_number word m n is_m is_n)
+one_threshold words a b (FallAndRise word other m r is_m is_r) (FallAndRise same also n q is_n is_q) = same_counts word other m r n q starts.Up is_m is_n is_r is_q
+one_threshold words a b (UnknownFirst word other m r is_m is_r) (UnknownFirst same also n q is_n is_q) = same_counts word other m r n q starts.Unknown is_m is_n is_r is_q
+
 pub one_rule : (names words : List (List ℕ)) (a b : Rule) → IsRule names words a → IsRule names words b → a ≡ b
-one_rule names words a b (ThresholdRule word m is_m) (ThresholdRule same n is_n) = ap (λ fall. Threshold fall 1) (one_number word m n is_m is_n)
-one_rule names words a b (RiseRule word other m r is_m is_r) (RiseRule same also n q is_n is_q) =
-    ap (λ fall. Threshold fall r) (one_number word m n is_m is_n) ∙ ap (Threshold n) (one_number other r q is_r is_q)
+one_rule names words a b (ThresholdRule counts m is_m) (ThresholdRule same n is_n) = one_threshold counts m n is_m is_n
 one_rule names words a b ManualRule ManualRule = refl
 one_rule names words a b (DependsRule others m is_m) (DependsRule same n is_n) = ap Depends (one_mask names others m n is_m is_n)
 

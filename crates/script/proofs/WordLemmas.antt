@@ -18,14 +18,14 @@ two_words (word ∷ []) default first least most is = absurd (omega arith)
 two_words (word ∷ second ∷ []) default first least most is = ap (λ (text : List ℕ). text ∷ second.now ∷ []) is
 two_words (word ∷ second ∷ third ∷ words) default first least most is = absurd (omega arith)
 
--- a word and two others
-pub three_words : (words : List (Bor (List ℕ))) (default : Bor (List ℕ)) (first : List ℕ) → 3 ≤ length words → length words < 4 → (get_or words 0 default).now ≡ first
-    → texts words ≡ first ∷ (get_or words 1 default).now ∷ (get_or words 2 default).now ∷ []
-three_words [] default first least most is = absurd (omega arith)
-three_words (word ∷ []) default first least most is = absurd (omega arith)
-three_words (word ∷ second ∷ []) default first least most is = absurd (omega arith)
-three_words (word ∷ second ∷ third ∷ []) default first least most is = ap (λ (text : List ℕ). text ∷ second.now ∷ third.now ∷ []) is
-three_words (word ∷ second ∷ third ∷ fourth ∷ words) default first least most is = absurd (omega arith)
+-- two words and one more
+pub three_words : (words : List (Bor (List ℕ))) (default : Bor (List ℕ)) (last : List ℕ) → 3 ≤ length words → length words < 4 → (get_or words 2 default).now ≡ last
+    → texts words ≡ (get_or words 0 default).now ∷ (get_or words 1 default).now ∷ last ∷ []
+three_words [] default last least most is = absurd (omega arith)
+three_words (word ∷ []) default last least most is = absurd (omega arith)
+three_words (word ∷ second ∷ []) default last least most is = absurd (omega arith)
+three_words (word ∷ second ∷ third ∷ []) default last least most is = ap (λ (text : List ℕ). word.now ∷ second.now ∷ text ∷ []) is
+three_words (word ∷ second ∷ third ∷ fourth ∷ words) default last least most is = absurd (omega arith)
 
 -- all of them
 all_of : (words : List (Bor (List ℕ))) (n : ℕ) → n ≡ length words → texts words ≡ texts (take n words)

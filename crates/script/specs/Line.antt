@@ -2,6 +2,7 @@
 use Rattle.std.specs.Prelude.{ℕ, ◌≡◌, ◌^◌, ◌<◌, ◌↔◌, true, List, [], ◌∷◌, codes, All, Any, IsSome, Some}
 use Rattle.probe_core.specs.declared.rule.Rule.{Rule}
 use Rattle.probe_core.specs.declared.rule.Rule.TheVariants.{Threshold, Manual, Depends}
+use Rattle.probe_core.specs.declared.start.Start.TheVariants as starts
 use Rattle.desk_core.specs.declared.call.Finding.TheVariants.{Pass, Fail}
 use Rattle.desk_core.specs.declared.call.Setting.TheVariants.{Up, Down}
 use Rattle.desk_core.specs.declared.order.Order.{Order as OrderOf}
@@ -19,10 +20,16 @@ pub record IsMaskOf (names words : List (List ℕ)) (mask : ℕ) : Type 0 where
   pub bits : (slot : ℕ) → (has_slot mask slot ≡ true) ↔ Any (λ word. slot_of names (name_of word) ≡ Some slot) words
   pub fits : mask < 2 ^ 16
 
--- the words give a rule, where the catalogue has these names; a threshold without a second number has a rise of one
+-- the words behind `threshold` give one: its fall, then its rise or else 1, then whether it is unknown at first or else up
+pub data IsThreshold : List (List ℕ) → Rule → Type 0 where
+  FallAlone : (word : List ℕ) (fall : ℕ) → IsNumber word fall → IsThreshold (word ∷ []) (Threshold fall 1 starts.Up)
+  FallAndRise : (word other : List ℕ) (fall rise : ℕ) → IsNumber word fall → IsNumber other rise → IsThreshold (word ∷ other ∷ []) (Threshold fall rise starts.Up)
+  UnknownFirst : (word other : List ℕ) (fall rise : ℕ) → IsNumber word fall → IsNumber other rise
+      → IsThreshold (word ∷ other ∷ codes "unknown" ∷ []) (Threshold fall rise starts.Unknown)
+
+-- the words give a rule, where the catalogue has these names
 pub data IsRule (names : List (List ℕ)) : List (List ℕ) → Rule → Type 0 where
-  ThresholdRule : (word : List ℕ) (fall : ℕ) → IsNumber word fall → IsRule names (codes "threshold" ∷ word ∷ []) (Threshold fall 1)
-  RiseRule : (word other : List ℕ) (fall rise : ℕ) → IsNumber word fall → IsNumber other rise → IsRule names (codes "threshold" ∷ word ∷ other ∷ []) (Threshold fall rise)
+  ThresholdRule : (words : List (List ℕ)) (rule : Rule) → IsThreshold words rule → IsRule names (codes "threshold" ∷ words) rule
   ManualRule : IsRule names (codes "manual" ∷ []) Manual
   DependsRule : (words : List (List ℕ)) (mask : ℕ) → IsMaskOf names words mask → IsRule names (codes "depends" ∷ words) (Depends mask)
 

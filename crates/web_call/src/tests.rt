@@ -10,6 +10,7 @@ mod reading;
 pub(crate) mod requests;
 mod runs;
 mod scarce_exchange;
+mod unknown;
 mod watching;
 mod write_faults;
 mod writing;

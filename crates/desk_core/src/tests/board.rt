@@ -1,7 +1,7 @@
 use super::*;
 
 /// A board, its number of entries, and the statuses of the first slots. The other slots have none.
-const BOARDS: [(u64, u32, &[Serving]); 4] = [
+const BOARDS: [(u64, u32, &[Serving]); 5] = [
     (
         21_474_836_518,
         5,
@@ -9,7 +9,8 @@ const BOARDS: [(u64, u32, &[Serving]); 4] = [
     ),
     (12_884_901_909, 3, &[Serving::Serving; 3]),
     (0, 0, &[]),
-    (u64::MAX, 4_294_967_295, &[]),
+    (30_064_771_083, 7, &[Serving::Unknown, Serving::NotServing]),
+    (u64::MAX, 4_294_967_295, &[Serving::Unknown; 16]),
 ];
 
 fn expect_read(word: u64, entries: u32, statuses: &[Serving]) -> Result<(), Fail> {

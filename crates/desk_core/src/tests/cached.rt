@@ -80,7 +80,7 @@ fn expect_chain<P: Probe>(alloc: Global, probes: Vec<P>) -> Result<(), Fail> {
 fn follows_a_chain_of_sixteen(rt: HostRuntime) -> Result<(), Fail> {
     let alloc = rt.alloc();
     let mut probes: Vec<Box<dyn Probe + Send>> = Vec::new(alloc);
-    probes.push(boxed(alloc, Threshold::new(1, 1))?)?;
+    probes.push(boxed(alloc, Threshold::new(1, 1, Start::Up))?)?;
     for number in 0..15u8 {
         probes.push(boxed(alloc, Depends::new(1 << number))?)?;
     }

@@ -21,6 +21,10 @@ impl Probe for Counted {
         self.manual.is_up()
     }
 
+    fn is_unknown(&self) -> bool {
+        self.manual.is_unknown()
+    }
+
     fn note(&mut self, event: Event) -> bool {
         self.notes.fetch_add(1, Ordering::SeqCst);
         self.manual.note(event)

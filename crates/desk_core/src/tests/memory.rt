@@ -1,5 +1,5 @@
 use super::*;
-use probe_core::Event;
+use probe_core::{Event, Start};
 use test_support::Scarcity;
 
 /// One of the six changes. A registration brings the probe in hand to the slot 1, and a retirement is of the slot 1.
@@ -218,11 +218,11 @@ fn expect_of_four<P: Probe>(
 /// Makes the change at a desk with a threshold of 3 in the slot 0, a service that is set in the slot 1, one in the slot 2 that
 /// depends on both, and a threshold of 3 in the slot 3. In hand is a threshold of 3 that heard two failures.
 fn expect_made(alloc: Global, made: Made) -> Result<u32, Fail> {
-    let a: Box<dyn Probe + Send> = boxed(alloc, Threshold::new(3, 1))?;
+    let a: Box<dyn Probe + Send> = boxed(alloc, Threshold::new(3, 1, Start::Up))?;
     let b: Box<dyn Probe + Send> = boxed(alloc, Manual::new())?;
     let c: Box<dyn Probe + Send> = boxed(alloc, Depends::new(3))?;
-    let d: Box<dyn Probe + Send> = boxed(alloc, Threshold::new(3, 1))?;
-    let mut hand: Box<dyn Probe + Send> = boxed(alloc, Threshold::new(3, 1))?;
+    let d: Box<dyn Probe + Send> = boxed(alloc, Threshold::new(3, 1, Start::Up))?;
+    let mut hand: Box<dyn Probe + Send> = boxed(alloc, Threshold::new(3, 1, Start::Up))?;
     hand.note(Event::Fail);
     hand.note(Event::Fail);
     expect_of_four(alloc, a, b, c, d, hand, made)
@@ -285,7 +285,7 @@ fn a_refused_change_leaves_each_probe_its_memory(rt: HostRuntime) -> Result<(), 
 
 /// Registers a threshold of 3 that heard two failures at an empty desk, which takes the memory for its slots then.
 fn expect_first(alloc: Global, times: u32, expected: &Outcome) -> Result<u32, Fail> {
-    let mut hand = Threshold::new(3, 1);
+    let mut hand = Threshold::new(3, 1, Start::Up);
     hand.note(Event::Fail);
     hand.note(Event::Fail);
     let mut desk = Desk::new(alloc, 100);

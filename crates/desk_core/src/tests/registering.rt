@@ -29,7 +29,7 @@ fn expect_full<P: Probe>(alloc: Global, a: P, b: P, c: P, fourth: P) -> Result<(
 #[test]
 fn refuses_changes_of_a_full_journal(rt: HostRuntime) -> Result<(), Fail> {
     let alloc = rt.alloc();
-    let a: Box<dyn Probe + Send> = boxed(alloc, Threshold::new(2, 1))?;
+    let a: Box<dyn Probe + Send> = boxed(alloc, Threshold::new(2, 1, Start::Up))?;
     let b: Box<dyn Probe + Send> = boxed(alloc, Manual::new())?;
     let c: Box<dyn Probe + Send> = boxed(alloc, Depends::new(3))?;
     let fourth: Box<dyn Probe + Send> = boxed(alloc, Manual::new())?;
@@ -80,18 +80,25 @@ fn takes_lawful_rules_alone(rt: HostRuntime) -> Result<(), Fail> {
     let alloc = rt.alloc();
     expect_bad_rule(alloc, Depends::new(2))?;
     expect_bad_rule(alloc, Depends::new(4))?;
-    expect_bad_rule(alloc, Threshold::new(0, 1))?;
-    expect_bad_rule(alloc, Threshold::new(1_001, 1))?;
-    expect_bad_rule(alloc, Threshold::new(1, 0))?;
-    expect_bad_rule(alloc, Threshold::new(1, 1_001))?;
+    expect_bad_rule(alloc, Threshold::new(0, 1, Start::Up))?;
+    expect_bad_rule(alloc, Threshold::new(1_001, 1, Start::Up))?;
+    expect_bad_rule(alloc, Threshold::new(1, 0, Start::Up))?;
+    expect_bad_rule(alloc, Threshold::new(1, 1_001, Start::Up))?;
+    expect_bad_rule(alloc, Threshold::new(0, 1, Start::Unknown))?;
+    expect_bad_rule(alloc, Threshold::new(1, 1_001, Start::Unknown))?;
     expect_lawful(alloc, Depends::new(0))?;
-    expect_lawful(alloc, Threshold::new(1, 1))?;
-    expect_lawful(alloc, Threshold::new(1_000, 1_000))
+    expect_lawful(alloc, Threshold::new(1, 1, Start::Up))?;
+    expect_lawful(alloc, Threshold::new(1_000, 1_000, Start::Up))
 }
 
 #[test]
 fn refuses_an_unlawful_rule_before_a_full_journal(rt: HostRuntime) -> Result<(), Fail> {
     let mut desk = Desk::new(rt.alloc(), 0);
-    refused(&mut desk, 1, Threshold::new(0, 1), Refusal::BadRule)?;
+    refused(
+        &mut desk,
+        1,
+        Threshold::new(0, 1, Start::Up),
+        Refusal::BadRule,
+    )?;
     Ok(())
 }

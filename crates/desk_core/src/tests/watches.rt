@@ -1,7 +1,11 @@
 use super::*;
 
 /// Opens a watch of the slot, or of a name that has none, which has to be shown this first.
-fn open<P: Probe>(desk: &Desk<P>, slot: Option<Slot>, expected: Serving) -> Result<Watch, Fail> {
+pub(super) fn open<P: Probe>(
+    desk: &Desk<P>,
+    slot: Option<Slot>,
+    expected: Serving,
+) -> Result<Watch, Fail> {
     let (watch, first) = desk.open(slot);
     same(&first, &expected, &slot)?;
     same(&watch.slot(), &slot, &"the watch")?;
@@ -9,7 +13,7 @@ fn open<P: Probe>(desk: &Desk<P>, slot: Option<Slot>, expected: Serving) -> Resu
 }
 
 /// Steps so often as there are answers expected.
-fn expect_steps<P: Probe>(
+pub(super) fn expect_steps<P: Probe>(
     desk: &Desk<P>,
     watch: &mut Watch,
     expected: &[Option<Serving>],
@@ -47,7 +51,10 @@ static CASCADE: [(u32, u8, Serving); 5] = [
     (4, 2, Serving::NotServing),
 ];
 
-fn expect_changes(changes: &[Change], expected: &[(u32, u8, Serving)]) -> Result<(), Fail> {
+pub(super) fn expect_changes(
+    changes: &[Change],
+    expected: &[(u32, u8, Serving)],
+) -> Result<(), Fail> {
     same(&changes.len(), &expected.len(), &"the changes")?;
     for (change, (at, number, status)) in changes.iter().zip(expected) {
         let found = (change.at, change.slot.number(), change.status);
@@ -67,7 +74,7 @@ fn expect_cascade<P: Probe>(alloc: Global, a: P, b: P, c: P) -> Result<(), Fail>
 #[test]
 fn lists_what_a_failure_changes(rt: HostRuntime) -> Result<(), Fail> {
     let alloc = rt.alloc();
-    let a: Box<dyn Probe + Send> = boxed(alloc, Threshold::new(2, 1))?;
+    let a: Box<dyn Probe + Send> = boxed(alloc, Threshold::new(2, 1, Start::Up))?;
     let b: Box<dyn Probe + Send> = boxed(alloc, Manual::new())?;
     let c: Box<dyn Probe + Send> = boxed(alloc, Depends::new(3))?;
     expect_cascade(alloc, a, b, c)
@@ -86,7 +93,7 @@ fn watches<P: Probe>(alloc: Global, a: P, b: P, c: P, watched: Watched) -> Resul
 }
 
 fn expect_watched(alloc: Global, watched: Watched) -> Result<(), Fail> {
-    let a: Box<dyn Probe + Send> = boxed(alloc, Threshold::new(2, 1))?;
+    let a: Box<dyn Probe + Send> = boxed(alloc, Threshold::new(2, 1, Start::Up))?;
     let b: Box<dyn Probe + Send> = boxed(alloc, Manual::new())?;
     let c: Box<dyn Probe + Send> = boxed(alloc, Depends::new(3))?;
     watches(alloc, a, b, c, watched)

@@ -2,7 +2,7 @@ use crate::tests::halls::one_seat;
 use crate::tests::rows::{DONE, Found, Row, Step, wrong_of};
 use desk_core::{Finding, Refusal, Reply, Setting};
 use health_wire::Serving;
-use probe_core::{Probe, Rule, Threshold};
+use probe_core::{Probe, Rule, Start, Threshold};
 use std::alloc::Global;
 use std::sync::Wait;
 use std::test::Fail;
@@ -41,11 +41,17 @@ static CHANGES: [Row; 14] = [
     (Step::Check("a"), Found::Check(6, SERVING)),
     (
         Step::Register("a"),
-        Found::Change(Ok(Reply::Replaced), Some((Rule::Threshold(1, 1), true))),
+        Found::Change(
+            Ok(Reply::Replaced),
+            Some((Rule::Threshold(1, 1, Start::Up), true)),
+        ),
     ),
     (
         Step::Retire("a"),
-        Found::Change(Ok(Reply::Done), Some((Rule::Threshold(2, 1), true))),
+        Found::Change(
+            Ok(Reply::Done),
+            Some((Rule::Threshold(2, 1, Start::Up), true)),
+        ),
     ),
     (Step::Check("a"), Found::Check(8, None)),
     (Step::Made, Found::Made(8)),
@@ -54,8 +60,8 @@ static CHANGES: [Row; 14] = [
 #[test]
 fn makes_each_change(rt: HostRuntime) -> Result<(), Fail> {
     let alloc = rt.alloc();
-    let probe: Box<dyn Probe + Send> = Box::new(alloc, Threshold::new(1, 1))?;
-    let other: Box<dyn Probe + Send> = Box::new(alloc, Threshold::new(2, 1))?;
+    let probe: Box<dyn Probe + Send> = Box::new(alloc, Threshold::new(1, 1, Start::Up))?;
+    let other: Box<dyn Probe + Send> = Box::new(alloc, Threshold::new(2, 1, Start::Up))?;
     let probes = Vec::from_array(alloc, [other, probe])?;
     expect_of_one_seat(&rt, alloc, probes, &CHANGES)
 }
@@ -67,7 +73,7 @@ static NAME_NOT_LISTED: [Row; 6] = [
         Step::Register("zz"),
         Found::Change(
             Err(Refusal::NotListed),
-            Some((Rule::Threshold(0, 1), false)),
+            Some((Rule::Threshold(0, 1, Start::Up), false)),
         ),
     ),
     (Step::Observe("zz", Finding::Fail), NOT_LISTED),
@@ -80,7 +86,7 @@ static NAME_NOT_LISTED: [Row; 6] = [
 #[test]
 fn refuses_a_name_that_is_not_listed(rt: HostRuntime) -> Result<(), Fail> {
     let alloc = rt.alloc();
-    let probe: Box<dyn Probe + Send> = Box::new(alloc, Threshold::new(0, 1))?;
+    let probe: Box<dyn Probe + Send> = Box::new(alloc, Threshold::new(0, 1, Start::Up))?;
     expect_of_one_seat(
         &rt,
         alloc,

@@ -3,7 +3,7 @@ use crate::tests::races::{Race, expect_race};
 use crate::tests::rows::{DONE, Found, Row, Step};
 use desk_core::{Finding, Refusal, Setting};
 use health_wire::Serving;
-use probe_core::{Depends, Manual, Probe, Rule, Threshold};
+use probe_core::{Depends, Manual, Probe, Rule, Start, Threshold};
 use std::test::Fail;
 
 const FULL: Found = Found::Change(Err(Refusal::Full), None);
@@ -49,7 +49,7 @@ static FULL_JOURNAL: Race = Race {
 #[test]
 fn refuses_changes_of_a_full_journal(rt: HostRuntime) -> Result<(), Fail> {
     let alloc = rt.alloc();
-    let a: Box<dyn Probe + Send> = Box::new(alloc, Threshold::new(2, 1))?;
+    let a: Box<dyn Probe + Send> = Box::new(alloc, Threshold::new(2, 1, Start::Up))?;
     let b: Box<dyn Probe + Send> = Box::new(alloc, Manual::new())?;
     let all: Box<dyn Probe + Send> = Box::new(alloc, Depends::new(3))?;
     let one: Box<dyn Probe + Send> = Box::new(alloc, Manual::new())?;

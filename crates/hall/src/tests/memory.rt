@@ -6,7 +6,7 @@ use crate::tests::rows::{DONE, Found, Row, Step, Wrong, result_of, wrong_of};
 use crate::{Hall, HallFault};
 use desk_core::{Finding, Refusal, Reply, Setting};
 use health_wire::Serving;
-use probe_core::{Depends, Event, Manual, Probe, Rule, Threshold};
+use probe_core::{Depends, Event, Manual, Probe, Rule, Start, Threshold};
 use std::alloc::{AllocError, Global};
 use std::sync::Wait;
 use std::test::Fail;
@@ -56,8 +56,14 @@ const NO_MEMORY: Found = Found::Change(Err(Refusal::NoMemory), None);
 static CASES: [Case; 6] = [
     Case {
         change: Step::Register("b"),
-        refused: Found::Change(Err(Refusal::NoMemory), Some((Rule::Threshold(1, 1), false))),
-        made: Found::Change(Ok(Reply::Replaced), Some((Rule::Threshold(3, 1), true))),
+        refused: Found::Change(
+            Err(Refusal::NoMemory),
+            Some((Rule::Threshold(1, 1, Start::Up), false)),
+        ),
+        made: Found::Change(
+            Ok(Reply::Replaced),
+            Some((Rule::Threshold(3, 1, Start::Up), true)),
+        ),
     },
     Case {
         change: Step::Retire("c"),
@@ -186,13 +192,13 @@ fn is_change_refused<R: Wait, P: Probe>(
 /// With how many steps of memory the change was refused.
 fn refusals_of<R: Wait>(rt: &R, alloc: Global, case: &Case) -> Result<usize, Fail> {
     for step in 0..STEPS {
-        let mut down = Threshold::new(1, 1);
+        let mut down = Threshold::new(1, 1, Start::Up);
         down.note(Event::Fail);
         let handed: Box<dyn Probe + Send> = Box::new(alloc, down)?;
         let all: Box<dyn Probe + Send> = Box::new(alloc, Depends::new(7))?;
         let c: Box<dyn Probe + Send> = Box::new(alloc, Manual::new())?;
-        let b: Box<dyn Probe + Send> = Box::new(alloc, Threshold::new(3, 1))?;
-        let a: Box<dyn Probe + Send> = Box::new(alloc, Threshold::new(3, 1))?;
+        let b: Box<dyn Probe + Send> = Box::new(alloc, Threshold::new(3, 1, Start::Up))?;
+        let a: Box<dyn Probe + Send> = Box::new(alloc, Threshold::new(3, 1, Start::Up))?;
         let probes = Vec::from_array(alloc, [handed, all, c, b, a])?;
         if !is_change_refused(rt, alloc, probes, step, case)? {
             return Ok(step);

@@ -43,8 +43,9 @@ none
 30064771110
 ";
 
-/// Each rule by what it alone shows: how many failures it bears, what it follows, and on whom it depends.
-const RULES: &str = "catalogue a b c -
+/// Each rule by what it alone shows: how many failures it bears, what it follows, on whom it depends, how many passes take it up
+/// again, and how it starts.
+const RULES: &str = "catalogue a b c d -
 max 100
 register a threshold 2
 register b manual
@@ -60,6 +61,13 @@ down b
 check b
 pass c
 up c
+register d threshold 1 2 unknown
+check d
+fail d
+pass d
+check d
+pass d
+check d
 ";
 
 const RULES_OUTPUT: &str = "done
@@ -76,6 +84,13 @@ done
 not serving
 wrong kind
 wrong kind
+done
+unknown
+done
+done
+not serving
+done
+serving
 ";
 
 /// What `replay` answers with probes of the three kinds.
@@ -84,7 +99,10 @@ fn replayed(alloc: Global, bytes: &[u8]) -> Result<Vec<u8>, Fault> {
         ensures { IsAsked (λ probe. (Probe-box probe).rule probe.value) (λ probe. (Probe-box probe).memory probe.value) rule result }
     {
         let probe: Box<dyn Probe + Send> = match rule {
-            Rule::Threshold(fall, rise) => Box::new(alloc, Threshold::new(fall, rise))?,
+            Rule::Threshold(fall, rise, start) => Box::new(
+                alloc,
+                Threshold::new(fall, rise, start),
+            )?,
             Rule::Manual => Box::new(alloc, Manual::new())?,
             Rule::Depends(mask) => Box::new(alloc, Depends::new(mask))?,
         };

@@ -39,7 +39,10 @@ where
         ensures { IsAsked (λ probe. (Probe-box probe).rule probe.value) (λ probe. (Probe-box probe).memory probe.value) rule result }
     {
         let probe: Box<dyn Probe + Send> = match rule {
-            Rule::Threshold(fall, rise) => Box::new(alloc, Threshold::new(fall, rise))?,
+            Rule::Threshold(fall, rise, start) => Box::new(
+                alloc,
+                Threshold::new(fall, rise, start),
+            )?,
             Rule::Manual => Box::new(alloc, Manual::new())?,
             Rule::Depends(mask) => Box::new(alloc, Depends::new(mask))?,
         };
@@ -103,10 +106,11 @@ fn reads_its_arguments(rt: HostRuntime) -> Result<(), Fail> {
     same(&read, &Some((65_535, capacity)), &words)
 }
 
-/// One failure leaves `a` up; `b` is set down, and the whole depends on it.
-const SCRIPT: &[u8] = b"catalogue a b -
+/// One failure leaves `a` up; `b` is set down, and the whole depends on it; of `c` nothing is known.
+const SCRIPT: &[u8] = b"catalogue a b c -
 max 10
 register a threshold 2
+register c threshold 1 1 unknown
 register b manual
 register - depends b
 fail a
@@ -131,8 +135,8 @@ fn check_when_open<R: Clock + Net<Stream = TcpStream>>(
     None
 }
 
-/// The statuses that three Checks are told, of `a`, `b` and the whole.
-type Answers = (Option<Told>, Option<Told>, Option<Told>);
+/// The statuses that four Checks are told, of `a`, `b`, `c` and the whole.
+type Answers = (Option<Told>, Option<Told>, Option<Told>, Option<Told>);
 
 fn serve_and_check<R>(rt: &R, alloc: Global, port: u16) -> (Result<String, Fault>, Answers)
 where
@@ -140,7 +144,7 @@ where
 {
     let capacity = Capacity {
         workers: 2,
-        calls: 3,
+        calls: 4,
     };
     thread::join(
         rt,
@@ -148,7 +152,8 @@ where
         move || {
             let a = check_when_open(rt, alloc, port, "a");
             let b = check_when_open(rt, alloc, port, "b");
-            (a, b, check_when_open(rt, alloc, port, ""))
+            let c = check_when_open(rt, alloc, port, "c");
+            (a, b, c, check_when_open(rt, alloc, port, ""))
         },
     )
 }
@@ -162,10 +167,12 @@ fn expect_status(told: &Option<Told>, expected: u64) -> Result<(), Fail> {
 fn serves_what_its_script_says(rt: HostRuntime) -> Result<(), Fail> {
     let (listener, port) = taken_port(&rt)?;
     drop(listener);
-    let (output, (a, b, whole)) = serve_and_check(&rt, rt.alloc(), port);
+    let (output, (a, b, c, whole)) = serve_and_check(&rt, rt.alloc(), port);
     expect_status(&a, 1)?;
     expect_status(&b, 2)?;
+    expect_status(&c, 0)?;
     expect_status(&whole, 2)?;
-    let expected = "call 0 status 0\ncall 1 status 0\ncall 2 status 0\njournal 5\n";
+    let expected =
+        "call 0 status 0\ncall 1 status 0\ncall 2 status 0\ncall 3 status 0\njournal 6\n";
     same(&output?.as_str(), &expected, &"output")
 }

@@ -10,6 +10,7 @@ fn counts_up_to_the_sum_of_both_numbers() -> Result<(), Fail> {
     let mut probe = Threshold {
         fall: u32::MAX,
         rise: u32::MAX,
+        start: Start::Up,
         memory: MOST + MOST - 2,
     };
     let passed = (probe.note(Event::Pass), probe.memory, probe.is_up());
@@ -19,6 +20,18 @@ fn counts_up_to_the_sum_of_both_numbers() -> Result<(), Fail> {
     probe.memory = MOST + MOST - 1;
     let risen = (probe.note(Event::Pass), probe.memory, probe.is_up());
     same(&risen, &(true, 0, true), &"the last pass")
+}
+
+/// The memory of a service that is unknown is one more.
+#[test]
+fn is_unknown_at_the_sum_of_both_numbers() -> Result<(), Fail> {
+    let mut probe = Threshold::new(u32::MAX, u32::MAX, Start::Unknown);
+    let opening = (probe.memory, probe.is_unknown(), probe.is_up());
+    same(&opening, &(MOST + MOST, true, false), &"before an event")?;
+    let failed = (probe.note(Event::Fail), probe.memory, probe.is_unknown());
+    same(&failed, &(true, 1, false), &"a failure")?;
+    probe.memory = MOST + MOST - 1;
+    same(&probe.is_unknown(), &false, &"a pass before the last")
 }
 
 /// Numbers that look random, and are the same in each run.
@@ -70,12 +83,12 @@ fn longest_run(after: &[bool]) -> usize {
 }
 
 /// The first event after which a probe and a look back over all events differ.
-fn first_wrong(fall: u32, rise: u32, failures: &[bool]) -> Option<usize> {
-    let mut probe = Threshold::new(fall, rise);
+fn first_wrong(fall: u32, rise: u32, start: Start, failures: &[bool]) -> Option<usize> {
+    let mut probe = Threshold::new(fall, rise, start);
     for (place, failed) in failures.iter().enumerate() {
         probe.note(if *failed { Event::Fail } else { Event::Pass });
         let (heard, _) = failures.split_at(place + 1);
-        if probe.is_up() != looks_up(heard, fall as usize, rise as usize) {
+        if probe.is_unknown() || probe.is_up() != looks_up(heard, fall as usize, rise as usize) {
             return Some(place);
         }
     }
@@ -91,8 +104,13 @@ fn tells_what_a_look_back_over_all_events_tells() -> Result<(), Fail> {
         for place in 0..24usize {
             failures[place] = numbers.next(2) == 1;
         }
-        let wrong = first_wrong(fall, rise, &failures);
-        same(&wrong, &None, &(round, fall, rise))?;
+        let start = if numbers.next(2) == 1 {
+            Start::Up
+        } else {
+            Start::Unknown
+        };
+        let wrong = first_wrong(fall, rise, start, &failures);
+        same(&wrong, &None, &(round, fall, rise, start))?;
     }
     Ok(())
 }

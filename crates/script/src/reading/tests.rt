@@ -1,7 +1,7 @@
 use super::*;
 use crate::tests::texts::{joined, padded};
 use desk_core::{CatalogueFault, Finding, Setting};
-use probe_core::Rule;
+use probe_core::{Rule, Start};
 use std::fmt::Debug;
 use std::test::Fail;
 use test_support::{Scarcity, same};
@@ -43,30 +43,34 @@ fn said_by(line: &Line) -> Said<'_> {
 }
 
 /// The lines of a script, behind an opening whose slots are 0 for `a`, 1 for `b` and 2 for the empty name, and an opened watch.
-static FORMS: [(&str, Said<'static>); 24] = [
+static FORMS: [(&str, Said<'static>); 25] = [
     (
         "register a threshold 2",
-        Said::Register("a", Rule::Threshold(2, 1)),
+        Said::Register("a", Rule::Threshold(2, 1, Start::Up)),
     ),
     (
         "register zz threshold 0",
-        Said::Register("zz", Rule::Threshold(0, 1)),
+        Said::Register("zz", Rule::Threshold(0, 1, Start::Up)),
     ),
     (
         "register a threshold 0000000007",
-        Said::Register("a", Rule::Threshold(7, 1)),
+        Said::Register("a", Rule::Threshold(7, 1, Start::Up)),
     ),
     (
         "register a threshold 4294967295",
-        Said::Register("a", Rule::Threshold(4_294_967_295, 1)),
+        Said::Register("a", Rule::Threshold(4_294_967_295, 1, Start::Up)),
     ),
     (
         "register a threshold 2 3",
-        Said::Register("a", Rule::Threshold(2, 3)),
+        Said::Register("a", Rule::Threshold(2, 3, Start::Up)),
     ),
     (
         "register a threshold 1001 0",
-        Said::Register("a", Rule::Threshold(1_001, 0)),
+        Said::Register("a", Rule::Threshold(1_001, 0, Start::Up)),
+    ),
+    (
+        "register a threshold 2 3 unknown",
+        Said::Register("a", Rule::Threshold(2, 3, Start::Unknown)),
     ),
     ("register b manual", Said::Register("b", Rule::Manual)),
     (
@@ -138,11 +142,15 @@ fn reads_each_form_of_a_line(rt: HostRuntime) -> Result<(), Fail> {
 }
 
 /// What is bad as the fourth line, behind an opened watch.
-const BAD_LINES: [&str; 37] = [
+const BAD_LINES: [&str; 41] = [
     "register a threshold 1 4294967296",
     "register a threshold 1 00000000001",
     "register a threshold 1 2 3",
     "register a threshold 1 x",
+    "register a threshold 1 unknown",
+    "register a threshold 1 2 up",
+    "register a threshold 1 2 unknown 3",
+    "register a manual unknown",
     "register a threshold x 1",
     "go",
     " ",

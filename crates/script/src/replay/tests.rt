@@ -14,7 +14,7 @@ mod memory;
 /// The first two lines of a script, and its others with what each prints.
 type Run = (&'static str, &'static [(&'static str, &'static str)]);
 
-static RUNS: [Run; 9] = [
+static RUNS: [Run; 10] = [
     (
         "catalogue a -\nmax 100\n",
         &[
@@ -170,6 +170,30 @@ static RUNS: [Run; 9] = [
             ("step 0", "serving"),
         ],
     ),
+    (
+        "catalogue a -\nmax 100\n",
+        &[
+            ("register a threshold 2 1 unknown", "done"),
+            ("register - depends a", "done"),
+            ("open a", "watch 0 unknown"),
+            ("check -", "not serving"),
+            ("shutdown", "done"),
+            ("check a", "not serving"),
+            ("pass a", "ignored"),
+            ("resume", "done"),
+            ("check a", "unknown"),
+            ("fail a", "done"),
+            ("check a", "serving"),
+            ("check -", "serving"),
+            ("resume", "done"),
+            ("step 0", "not serving"),
+            ("step 0", "unknown"),
+            ("step 0", "serving"),
+            ("step 0", "unknown"),
+            ("step 0", "none"),
+            ("board", "30064771083"),
+        ],
+    ),
 ];
 
 fn script_of(alloc: Global, opening: &str, lines: &[(&str, &str)]) -> Result<Script, Fail> {
@@ -199,7 +223,10 @@ fn printed(alloc: Global, script: Script) -> Result<Vec<u8>, AllocError>
         ensures { IsAsked (λ probe. (Probe-box probe).rule probe.value) (λ probe. (Probe-box probe).memory probe.value) rule result }
     {
         let probe: Box<dyn Probe + Send> = match rule {
-            Rule::Threshold(fall, rise) => Box::new(alloc, Threshold::new(fall, rise))?,
+            Rule::Threshold(fall, rise, start) => Box::new(
+                alloc,
+                Threshold::new(fall, rise, start),
+            )?,
             Rule::Manual => Box::new(alloc, Manual::new())?,
             Rule::Depends(mask) => Box::new(alloc, Depends::new(mask))?,
         };

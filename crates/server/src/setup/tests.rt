@@ -120,7 +120,10 @@ fn makes_the_change_of_each_line(rt: HostRuntime) -> Result<(), Fail> {
         ensures { IsAsked (λ probe. (Probe-box probe).rule probe.value) (λ probe. (Probe-box probe).memory probe.value) rule result }
     {
         let probe: Box<dyn Probe + Send> = match rule {
-            Rule::Threshold(fall, rise) => Box::new(alloc, Threshold::new(fall, rise))?,
+            Rule::Threshold(fall, rise, start) => Box::new(
+                alloc,
+                Threshold::new(fall, rise, start),
+            )?,
             Rule::Manual => Box::new(alloc, Manual::new())?,
             Rule::Depends(mask) => Box::new(alloc, Depends::new(mask))?,
         };

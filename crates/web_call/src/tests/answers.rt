@@ -98,6 +98,21 @@ pub(crate) const WATCH_OF_UNKNOWN: &[u8] = b"HTTP/1.1 200 OK\r\n\
     0\r\n\
     \r\n";
 
+/// A Watch of a service that heard nothing, whose status UNKNOWN is a message without bytes.
+pub(crate) const WATCH_OF_UNHEARD: &[u8] = b"HTTP/1.1 200 OK\r\n\
+    connection: close\r\n\
+    content-type: application/grpc-web+proto\r\n\
+    transfer-encoding: chunked\r\n\
+    \r\n\
+    5\r\n\
+    \x00\x00\x00\x00\x00\r\n\
+    2f\r\n\
+    \x80\x00\x00\x00\x2agrpc-status:14\r\n\
+    grpc-message:watch ended\r\n\
+    \r\n\
+    0\r\n\
+    \r\n";
+
 /// A Watch of a service that is serving, then isn't, and then is.
 pub(crate) const WATCH_OF_CHANGES: &[u8] = b"HTTP/1.1 200 OK\r\n\
     connection: close\r\n\

@@ -12,6 +12,11 @@ fn names(alloc: Global) -> Result<Vec<String>, Fail> {
     Ok(names)
 }
 
+/// A catalogue of `a` and the empty name.
+pub(super) fn catalogue(alloc: Global) -> Result<Catalogue, Fail> {
+    Ok(Catalogue::new(alloc, names(alloc)?)?)
+}
+
 /// A catalogue of `a` and the empty name, and a desk on which the empty name alone was registered, and then set.
 #[derive(Drop)]
 pub(super) struct Stage {
@@ -21,7 +26,7 @@ pub(super) struct Stage {
 
 impl Stage {
     pub(super) fn new(alloc: Global, setting: Setting) -> Result<Stage, Fail> {
-        let catalogue = Catalogue::new(alloc, names(alloc)?)?;
+        let catalogue = catalogue(alloc)?;
         let mut desk = Desk::new(alloc, 100);
         let is_set = match Slot::new(1) {
             Some(slot) => {

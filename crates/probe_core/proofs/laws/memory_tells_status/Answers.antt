@@ -1,4 +1,4 @@
-use Rattle.probe_core.proofs.EventLemmas.{memory_opens, memory_more, memory_tells}
+use Rattle.probe_core.proofs.EventLemmas.{memory_opens, memory_more, memory_tells, memory_unknown}
 use Rattle.probe_core.proofs.laws.memory_tells_status.Goals as goal
 
 pub returns-clause-opening : goal.returns-clause-opening
@@ -9,3 +9,6 @@ returns-clause-next c = memory_more
 
 pub returns-clause-status : goal.returns-clause-status
 returns-clause-status c = memory_tells
+
+pub returns-clause-unknown : goal.returns-clause-unknown
+returns-clause-unknown c = memory_unknown

@@ -21,7 +21,7 @@ loop-number-preserved g c journal max_entries keeps =
     known_more c.loop-number.statuses c.set.new.self c.loop-number.number c.status_of-status.result (status_at (past journal)) few kept
     (c.set.ensures ∙ ap (λ k. packed (with_status (status_in c.loop-number.statuses) k c.status_of-status.result) 16) c.at-slot.ensures)
     (c.loop-number.invariant journal max_entries keeps)
-    (status_of_parts c.memory_tells_status.ensures.status c.args.self.now.places.items c.args.is_shut journal max_entries c.loop-number.number (status_in c.loop-number.statuses) c.status_of-status.result
+    (status_of_parts (record { up = c.memory_tells_status.ensures.status; unknown = c.memory_tells_status.ensures.unknown }) c.args.self.now.places.items c.args.is_shut journal max_entries c.loop-number.number (status_in c.loop-number.statuses) c.status_of-status.result
     keeps few (c.loop-number.invariant journal max_entries keeps) computed)
 
 pub returns : goal.returns
