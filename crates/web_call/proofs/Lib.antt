@@ -1,11 +1,12 @@
 pub mod AskLemmas
-pub mod Bytes
 pub mod CallLemmas
-pub mod ChunkLemmas
 pub mod ContentLengthLemmas
+pub mod ExchangeLemmas
 pub mod HeadLemmas
-pub mod InputHeadLemmas
+pub mod IntakeLemmas
+pub mod OutgoingLemmas
 pub mod PieceLemmas
 pub mod ResponseLemmas
+pub mod TextLemmas
 pub mod WalkLemmas
-pub mod WatchTextLemmas
+pub mod WholeCallLemmas

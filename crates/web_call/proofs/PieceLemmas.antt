@@ -1,10 +1,7 @@
 -- Texts in pieces: fronts of them, and the frames that are whole in a front.
-use Rattle.std.proofs.Common.{◌≡◌, refl, sym, ap, ◌∙◌, ℕ, ◌+◌, ◌-◌, ◌≤◌, ◌<◌, List, [], ◌∷◌, ◌++◌, length, take, drop, take-append-drop, Option, append_assoc, length-append, inl, inr, arith}
+use Rattle.std.proofs.Common.{◌≡◌, refl, sym, ap, ◌∙◌, ℕ, ◌+◌, ◌-◌, ◌≤◌, ◌<◌, List, [], ◌∷◌, ◌++◌, length, append_assoc, length-append, inl, inr, arith}
 use Rattle.std.proofs.lemmas.Bool.{cases_lt, le-leb, lt-leb}
-use Rattle.std.proofs.lemmas.List.{length-take-le}
-use Rattle.std.specs.Io.KnownBytes.{Appends}
-use Rattle.std.proofs.KnownBytes.{Appends-trans}
-use Rattle.web_call.specs.Pieces.{Piece, framed, text_of, count_of, frames_within, counted, IsCut, IsFrontOf, IsSentPart}
+use Rattle.web_call.specs.Pieces.{Piece, framed, text_of, count_of, frames_within}
 
 -- the frames of all pieces
 abbrev pub frames_of : List Piece → ℕ
@@ -46,19 +43,6 @@ frames_past (piece ∷ a) b n =
     ∙ ap (λ m. count_of piece + m) (frames_past a b n)
     ∙ omega arith
 
--- the frames of a front of the first pieces, where none of the others is a frame without a byte
-pub frames_front : (a b : List Piece) (n : ℕ) → n ≤ length (text_of a) → frames_within b 0 ≡ 0
-    → frames_within (a ++ b) n ≡ frames_within a n
-frames_front [] b n within none = let at : n ≡ 0 = omega arith in rw at (none ∙ sym (frames_within-nil 0))
-frames_front (piece ∷ a) b n within none =
-    let long : length (piece.bytes ++ text_of a) ≡ length piece.bytes + length (text_of a) = length-append piece.bytes (text_of a) in
-    elim (cases_lt n (length piece.bytes)) as (λ _. frames_within (piece ∷ a ++ b) n ≡ frames_within (piece ∷ a) n) [
-      | inl short ↦ frames_within-cut piece (a ++ b) n short ∙ sym (frames_within-cut piece a n short)
-      | inr fits ↦ frames_within-whole piece (a ++ b) n fits
-          ∙ ap (λ m. count_of piece + m) (frames_front a b (n - length piece.bytes) (omega (arith, long, within)) none)
-          ∙ sym (frames_within-whole piece a n fits)
-    ]
-
 -- pieces without a frame have none in a front
 pub frames_none : (a : List Piece) (n : ℕ) → frames_of a ≡ 0 → frames_within a n ≡ 0
 frames_none [] n none = frames_within-nil n
@@ -97,82 +81,3 @@ one_frame_cut (piece ∷ a) b bytes n none short =
       | inr fits ↦ frames_within-whole piece (a ++ framed bytes ∷ b) n fits
           ∙ omega (arith, none, one_frame_cut a b bytes (n - length piece.bytes) (omega (arith, none)) (omega (arith, long, short)))
     ]
-
--- a count that has reached its greatest number stays there
-pub counted-more : (a b : ℕ) → counted (counted a + b) ≡ counted (a + b)
-counted-more a b = omega arith
-
--- a text that goes on still begins with the same bytes
-pub IsFrontOf-more : (front text more : List ℕ) → IsFrontOf front text → IsFrontOf front (text ++ more)
-IsFrontOf-more front text more f = record { rest = f.rest ++ more; is = ap (λ t. t ++ more) f.is ∙ append_assoc front f.rest more }
-
--- the length of a front
-pub front_length : (front text : List ℕ) → IsFrontOf front text → length front ≤ length text
-front_length front text f = omega (arith, ap length f.is, length-append front f.rest)
-
--- a part of the first pieces is a part of all
-pub sent_of_more : {before : ℕ} {a : List Piece} {contents contents_after : Option (List ℕ)} {frames : ℕ} (b : List Piece)
-    → frames_within b 0 ≡ 0 → IsSentPart before a contents contents_after frames → IsSentPart before (a ++ b) contents contents_after frames
-sent_of_more {before} {a} b none sent =
-    record {
-      written = sent.written;
-      front = rw (text_of-append a b) (IsFrontOf-more sent.written (text_of a) (text_of b) sent.front);
-      appended = sent.appended;
-      whole = sent.whole ∙ ap (λ m. counted (before + m)) (sym (frames_front a b (length sent.written) (front_length sent.written (text_of a) sent.front) none));
-    }
-
--- pieces that were sent whole, and then a part of others
-pub sent_after : {before : ℕ} {contents between contents_after : Option (List ℕ)} {frames : ℕ} (a b : List Piece)
-    → Appends contents between (text_of a) → IsSentPart (counted (before + frames_of a)) b between contents_after frames
-    → IsSentPart before (a ++ b) contents contents_after frames
-sent_after {before} {contents} {between} {contents_after} a b whole sent =
-    record {
-      written = text_of a ++ sent.written;
-      front = record {
-        rest = sent.front.rest;
-        is = text_of-append a b ∙ ap (λ t. text_of a ++ t) sent.front.is ∙ sym (append_assoc (text_of a) sent.written sent.front.rest);
-      };
-      appended = Appends-trans contents between contents_after (text_of a) sent.written whole sent.appended;
-      whole = sent.whole ∙ counted-more (before + frames_of a) (frames_within b (length sent.written))
-          ∙ ap counted (omega (arith, ap (frames_within (a ++ b)) (length-append (text_of a) sent.written), frames_past a b (length sent.written)));
-    }
-
--- a front of the text of pieces that was written
-pub sent_front : {contents contents_after : Option (List ℕ)} (before : ℕ) (pieces : List Piece) (text : List ℕ) (n frames : ℕ)
-    → text ≡ text_of pieces → n ≤ length text → Appends contents contents_after (take n text)
-    → frames ≡ counted (before + frames_within pieces n) → IsSentPart before pieces contents contents_after frames
-sent_front before pieces text n frames is fits wrote whole =
-    record {
-      written = take n text;
-      front = record { rest = drop n text; is = sym is ∙ sym (take-append-drop n text) };
-      appended = wrote;
-      whole = whole ∙ ap (λ m. counted (before + frames_within pieces m)) (sym (length-take-le n text fits));
-    }
-
--- a part of a text of which nothing was written before
-pub cut_of_sent : {pieces : List Piece} {contents contents_after : Option (List ℕ)} {frames : ℕ}
-    → IsSentPart 0 pieces contents contents_after frames → IsCut [] pieces contents contents_after frames
-cut_of_sent {pieces} sent =
-    record {
-      front = sent.written;
-      of_part = sent.front;
-      appended = sent.appended;
-      whole = sent.whole ∙ ap counted (omega arith);
-    }
-
--- a part of a text behind pieces that were written whole
-pub cut_after : {contents contents_after : Option (List ℕ)} {frames before : ℕ} (between : Option (List ℕ)) (done part : List Piece)
-    → Appends contents between (text_of done) → before ≡ counted (frames_of done)
-    → IsSentPart before part between contents_after frames → IsCut done part contents contents_after frames
-cut_after {contents} {contents_after} {frames} {before} between done part whole count sent =
-    record {
-      front = sent.written;
-      of_part = sent.front;
-      appended = Appends-trans contents between contents_after (text_of done) sent.written whole sent.appended;
-      whole = sent.whole ∙ omega (
-        arith,
-        count,
-        ap (frames_within (done ++ part)) (length-append (text_of done) sent.written),
-        frames_past done part (length sent.written),
-      );
-    }

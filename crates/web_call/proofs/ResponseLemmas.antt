@@ -1,34 +1,13 @@
--- Responses of a head and one or two frames: which frames are whole where so many bytes are left.
-use Rattle.std.proofs.Common.{◌≡◌, refl, sym, ap, ◌∙◌, ℕ, ◌+◌, ◌-◌, ◌^◌, ◌≤◌, ◌<◌, Option, Some, List, [], ◌∷◌, length, length-append, take, arith}
-use Rattle.std.proofs.lemmas.Fmt.{decimal_digit}
-use Rattle.std.specs.Io.KnownBytes.{Appends}
-use Rattle.grpc_frame.specs.declared.code.Code.TheVariants.{Ok}
-use Rattle.grpc_frame.specs.Frame.{frame}
-use Rattle.grpc_frame.specs.Trailers.{block}
-use Rattle.web_call.specs.Pieces.{Piece, plain, framed, text_of, frames_within, IsSentPart}
-use Rattle.health_wire.specs.declared.serving.Serving.{Serving}
-use Rattle.grpc_frame.specs.declared.code.Code.{Code}
-use Rattle.web_call.specs.Texts.{check_pieces, status_pieces}
-use Rattle.web_call.proofs.PieceLemmas.{length_around, one_frame_whole, one_frame_cut, frames_within-whole, frames_within-cut, frames_within-nil, sent_front}
-
--- trailers with the status OK have 20 bytes
-pub ok_trailers : length (frame 128 (block Ok [])) ≡ 20
-ok_trailers = rw (decimal_digit 0 (omega arith)) refl
-
--- one frame behind a head
-pub one_all : (head bytes : List ℕ) (n : ℕ) → n ≡ length (text_of (plain head ∷ framed bytes ∷ [])) → frames_within (plain head ∷ framed bytes ∷ []) n ≡ 1
-one_all head bytes n all =
-    one_frame_whole (plain head ∷ []) [] bytes n (omega arith) (omega arith) (omega (arith, all, length_around (plain head ∷ []) [] bytes))
-
-pub one_left : (head bytes : List ℕ) (n : ℕ) → n < length (text_of (plain head ∷ framed bytes ∷ [])) → frames_within (plain head ∷ framed bytes ∷ []) n ≡ 0
-one_left head bytes n short =
-    one_frame_cut (plain head ∷ []) [] bytes n (omega arith) (omega (arith, short, length_around (plain head ∷ []) [] bytes))
+-- Responses of a head and two frames: which frames are whole where so many bytes are left.
+use Rattle.std.proofs.Common.{◌≡◌, ◌∙◌, ℕ, ◌+◌, ◌-◌, ◌≤◌, ◌<◌, List, [], ◌∷◌, length, length-append, arith}
+use Rattle.web_call.specs.Pieces.{Piece, plain, framed, text_of, frames_within}
+use Rattle.web_call.proofs.PieceLemmas.{length_around, one_frame_cut, frames_within-whole, frames_within-cut, frames_within-nil}
 
 -- two frames behind a head
 abbrev two : List ℕ → List ℕ → List ℕ → List Piece
 two head bytes last = plain head ∷ framed bytes ∷ framed last ∷ []
 
-two_length : (head bytes last : List ℕ) → length (text_of (two head bytes last)) ≡ length head + length bytes + length last
+pub two_length : (head bytes last : List ℕ) → length (text_of (two head bytes last)) ≡ length head + length bytes + length last
 two_length head bytes last =
     omega (arith, length_around (plain head ∷ []) (framed last ∷ []) bytes, length-append head [], length-append last [])
 
@@ -65,34 +44,3 @@ pub two_none : (head bytes last : List ℕ) (n left : ℕ) → n + left ≡ leng
 two_none head bytes last n left all many =
     one_frame_cut (plain head ∷ []) (framed last ∷ []) bytes n (omega arith)
     (omega (arith, all, two_length head bytes last, many, length-append head []))
-
--- the response to a Check with a status, where none of its bytes is left, some of its trailers, or more
-pub status_all : (status : Serving) (n left : ℕ) → left ≡ 0 → n + left ≡ length (text_of (check_pieces (Some status)))
-    → 2 ≡ frames_within (check_pieces (Some status)) n
-status_all status n left none all = sym (two_all _ _ _ n (omega (arith, none, all)))
-
-pub status_first : (status : Serving) (n left : ℕ) → 0 < left → left ≤ 20 → n + left ≡ length (text_of (check_pieces (Some status)))
-    → 1 ≡ frames_within (check_pieces (Some status)) n
-status_first status n left some few all = sym (two_first _ _ _ n left all some (omega (arith, few, ok_trailers)))
-
-pub status_none : (status : Serving) (n left : ℕ) → 20 < left → n + left ≡ length (text_of (check_pieces (Some status)))
-    → 0 ≡ frames_within (check_pieces (Some status)) n
-status_none status n left many all = sym (two_none _ _ _ n left all (omega (arith, many, ok_trailers)))
-
--- a response of a status alone, where none of its bytes is left, or some
-pub alone_all : (code : Code) (text : List ℕ) (n left : ℕ) → left ≡ 0 → n + left ≡ length (text_of (status_pieces code text))
-    → 1 ≡ frames_within (status_pieces code text) n
-alone_all code text n left none all = sym (one_all _ _ n (omega (arith, none, all)))
-
-pub alone_left : (code : Code) (text : List ℕ) (n left : ℕ) → 0 < left → n + left ≡ length (text_of (status_pieces code text))
-    → 0 ≡ frames_within (status_pieces code text) n
-alone_left code text n left some all = sym (one_left _ _ n (omega (arith, some, all)))
-
--- a response of which a front was written, where the frames of a front are told by what is left of it
-pub sent_response : {contents contents_after : Option (List ℕ)} (pieces : List Piece) (items text : List ℕ) (taken frames : ℕ)
-    → items ≡ text_of pieces → text ≡ items → taken ≤ length text → Appends contents contents_after (take taken text) → frames < 2 ^ 32
-    → ((n : ℕ) → n + (length items - taken) ≡ length (text_of pieces) → frames ≡ frames_within pieces n)
-    → IsSentPart 0 pieces contents contents_after frames
-sent_response pieces items text taken frames is same fits wrote small tells =
-    sent_front 0 pieces text taken frames (same ∙ is) fits wrote
-    (omega (arith, small, tells taken (omega (arith, fits, ap length same, ap length is))))

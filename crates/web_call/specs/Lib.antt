@@ -1,3 +1,4 @@
+pub mod Answer
 pub mod Ask
 pub mod ContentLength
 pub mod ContentType
@@ -6,11 +7,18 @@ pub mod Exchange
 pub mod Head
 pub mod HeadAnswer
 pub mod InputHead
+pub mod Intake
 pub mod Lines
 pub mod Method
+pub mod Outgoing
+pub mod Past
 pub mod Pieces
+pub mod Reading
+pub mod Request
 pub mod Response
+pub mod Stages
 pub mod Tap
+pub mod Text
 pub mod Texts
 pub mod Walk
-pub mod Watching
+pub mod WholeCall

@@ -38,13 +38,6 @@ pub record IsFrontOf (front text : List ℕ) : Type 0 where
   pub rest : List ℕ
   pub is : text ≡ front ++ rest
 
--- of the text of the pieces a front was written; so many frames were whole before it, and so many are with it
-pub record IsSentPart (before : ℕ) (pieces : List Piece) (contents contents_after : Option (List ℕ)) (frames : ℕ) : Type 0 where
-  pub written : List ℕ
-  pub front : IsFrontOf written (text_of pieces)
-  pub appended : Appends contents contents_after written
-  pub whole : frames ≡ counted (before + frames_within pieces (length written))
-
 -- some pieces were written whole, and of the next ones a front; so many frames are whole in both
 pub record IsCut (done part : List Piece) (contents contents_after : Option (List ℕ)) (frames : ℕ) : Type 0 where
   pub front : List ℕ

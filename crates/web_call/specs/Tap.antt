@@ -1,6 +1,5 @@
 -- A tap: a reader or a writer, and whether a call through it has failed.
-use Rattle.std.specs.Prelude.{ℕ, ◌==◌, ◌<◌, Bool, true, Option, Result, Ok, Err, List, length}
-use Rattle.std.specs.Io.KnownBytes.{Consumes}
+use Rattle.std.specs.Prelude.{ℕ, ◌==◌, Bool, true, Result, Ok, Err}
 use Rattle.web_call.specs.declared.tap.Tap.{Tap}
 
 -- the reader or writer behind the tap
@@ -15,7 +14,3 @@ tap_failed tap = tap.failed
 abbrev pub is_refused : {E : Type 0} → Result ℕ E → Bool
 is_refused (Ok count) = count == 0
 is_refused (Err error) = true
-
--- known bytes lose a front of fewer bytes than this
-abbrev pub ConsumesFewer : Option (List ℕ) → Option (List ℕ) → ℕ → Type 0
-ConsumesFewer old new count = (front : List ℕ) × (length front < count) × Consumes old new front

@@ -77,19 +77,9 @@ message_chunk status = chunk (message_frame status)
 abbrev pub watch_end : List Piece
 watch_end = chunk (frame 128 (block Unavailable (codes "watch ended"))) ++ plain (codes "0\r\n\r\n") ∷ []
 
--- the response to a Watch that told these statuses
-unfoldable pub watch_pieces : List Serving → List Piece
-watch_pieces statuses = plain watch_head_text ∷ flat_map message_chunk statuses ++ watch_end
-
 -- the texts of these responses
 abbrev pub refusal_response : ℕ → List ℕ
 refusal_response http = text_of (refusal_pieces http)
 
 abbrev pub status_response : Code → List ℕ → List ℕ
 status_response code text = text_of (status_pieces code text)
-
-abbrev pub check_response : Option Serving → List ℕ
-check_response status = text_of (check_pieces status)
-
-abbrev pub watch_response : List Serving → List ℕ
-watch_response statuses = text_of (watch_pieces statuses)

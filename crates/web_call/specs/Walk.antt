@@ -1,6 +1,6 @@
--- Watches over a door and a bell: the histories that a watch is stepped at, and what it tells (Watch of health-checking.md of
--- grpc). Histories have the newest entry first.
-use Rattle.std.specs.Prelude.{◌≡◌, ◌⊎◌, ℕ, ◌+◌, Bool, true, Option, List, [], ◌∷◌, length}
+-- What a door is asked, and what a watch tells: the histories at each asking, the newest entry of each first (Watch of
+-- health-checking.md of grpc).
+use Rattle.std.specs.Prelude.{◌≡◌, ℕ, Option, List, [], ◌∷◌}
 use Rattle.desk_core.specs.declared.entry.Entry.{Entry}
 use Rattle.desk_core.specs.Changes.{changes_of}
 use Rattle.desk_core.specs.Legal.{IsLegal}
@@ -17,25 +17,14 @@ InTurn follows entries (next ∷ later) = follows entries next × IsLegal next �
 abbrev pub told_by : Option ℕ → List Entry → List (List Entry) → List Serving
 told_by slot first later = shown first slot ∷ walk (opened (changes_of first) slot) later
 
--- a watch was stepped at these histories, each of which follows the one before, once for each Look that the bell gave
-pub record Steps (follows : List Entry → List Entry → Type 0) (entries entries_after : List Entry) (given given_after : ℕ)
-    (later : List (List Entry)) : Type 0 where
-  pub in_turn : InTurn follows entries later
-  pub last : entries_after ≡ last_of entries later
-  pub looked : given_after ≡ given + length later
-
--- a watch was opened at the first history, which follows what was seen before it, and then stepped at the later ones
-pub record Watches (follows : List Entry → List Entry → Type 0) (seen seen_after : List Entry) (given given_after : ℕ)
-    (first : List Entry) (later : List (List Entry)) : Type 0 where
-  pub legal : IsLegal first
-  pub opens : follows seen first
-  pub steps : Steps follows first seen_after given given_after later
+-- a door was asked: it had these histories then, each legal and after the one before, and it was left as it was where there are none
+pub record AsksDoor {D : Type 0} (seen : D → List Entry) (follows : List Entry → List Entry → Type 0) (door door_after : D)
+    (asked : List (List Entry)) : Type 0 where
+  pub in_turn : InTurn follows (seen door) asked
+  pub last : seen door_after ≡ last_of (seen door) asked
+  pub unasked : asked ≡ [] → door_after ≡ door
 
 -- the watch after steps at these histories
 abbrev pub watch_after : WatchState → List (List Entry) → WatchState
 watch_after watch [] = watch
 watch_after watch (entries ∷ later) = watch_after (stepped (changes_of entries) watch).1 later
-
--- a watch ends where it had all the Looks that it may take, or where its bell is over
-abbrev pub HasEnded : ℕ → ℕ → Bool → Type 0
-HasEnded had most is_over = (had ≡ most) ⊎ (is_over ≡ true)

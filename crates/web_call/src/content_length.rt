@@ -1,9 +1,10 @@
 ghost use Rattle.std.specs.Prelude.{◌≡◌, ◌≤◌, if◌then◌else◌, length, map, All, IsTrue, Some, None};
 ghost use Rattle.std.specs.Char.{is_ascii_digit};
 ghost use Rattle.std.specs.List.{list_all};
+ghost use Rattle.std.specs.Option.{option_map};
 ghost use Rattle.std.specs.Str.Parse.{digits_value};
 ghost use Rattle.httparse.specs.Spans.{IsHeaderWithin, header_bytes};
-ghost use Rattle.web_call.specs.ContentLength.{content_length, is_length};
+ghost use Rattle.web_call.specs.ContentLength.{content_length, is_length, length_of};
 
 use crate::lines::{count_named, first_named};
 use httparse::spans::HeaderSpan;
@@ -20,8 +21,15 @@ pub(crate) fn content_length(head: &[u8], lines: &[HeaderSpan]) -> Option<u64>
     if count_named(head, lines, NAME) > 1 {
         return None;
     }
-    match first_named(head, lines, NAME) {
-        Some(value) if is_length(value) => Some(value_of_digits(value)),
+    length_of(first_named(head, lines, NAME))
+}
+
+/// The length that the value of the line tells: 0 without a line, and none where the value is no length.
+pub fn length_of(value: Option<&[u8]>) -> Option<u64>
+    ensures { result ≡ length_of (option_map (λ bytes. bytes.now) value.entry) }
+{
+    match value {
+        Some(digits) if is_length(digits) => Some(value_of_digits(digits)),
         Some(_) => None,
         None => Some(0),
     }

@@ -1,36 +1,34 @@
-ghost use Rattle.std.specs.Prelude.{◌≡◌, ◌≤◌, ◌+◌, ◌⊎◌, ◌++◌, ℕ, List, true, IfOk, IfErr, OnOk};
+ghost use Rattle.std.specs.Prelude.{◌≡◌, ◌≢◌, ◌≤◌, ◌-◌, ◌+◌, ◌⊎◌, ◌++◌, [], ℕ, List, Option, Some, true, false, cond, not, length, IfOk, IfErr, OnOk};
+ghost use Rattle.std.specs.Bool.{OnTrue, OnFalse};
 ghost use Rattle.std.specs.Io.KnownBytes.{Appends, Consumes, IsAtEnd};
-ghost use Rattle.web_call.specs.Exchange.{IsAnswered, IsAnswerCut, IsCutRequest, IsStarved};
+ghost use Rattle.desk_core.specs.declared.entry.Entry.{Entry};
+ghost use Rattle.web_call.specs.declared.outcome.Outcome.{Outcome};
+ghost use Rattle.web_call.specs.Answer.{IsAnswered, IsStarvedAt, Sends};
+ghost use Rattle.web_call.specs.Exchange.{HasEnded, Meets};
 ghost use Rattle.web_call.specs.InputHead.{IsHead};
+ghost use Rattle.web_call.specs.Past.{Carries, CarriesFor, with_asked, with_received, with_sent};
 ghost use Rattle.web_call.specs.Pieces.{Piece, text_of, IsCut};
+ghost use Rattle.web_call.specs.Request.{IsCutRequest};
+ghost use Rattle.web_call.specs.Stages.{being_sent, ending_of, ends_watch, is_answered, is_open, is_starved, is_watching, to_send};
 ghost use Rattle.web_call.specs.Tap.{tap_inner, tap_failed};
+ghost use Rattle.web_call.specs.Walk.{AsksDoor};
 
-use crate::answering::{answer_call, answer_status, refuse};
-use crate::bell::Bell;
+use crate::bell::{Bell, Turn};
+use crate::call::Call;
 use crate::door::Door;
-use crate::head::{Headed, head_of};
-use crate::reading::{ReadFault, read_body, read_head};
+use crate::outcome::Outcome;
 use crate::tap::Tap;
-use grpc_frame::Code;
 use std::alloc::Global;
 use std::io::{Read, Write};
+
+/// The most bytes that a read asks for.
+const BUFFER_LEN: usize = 512;
 
 /// What one exchange may cost.
 #[derive(Clone, Copy, Debug, PartialEq, Eq)]
 pub struct Limits {
     /// The most Looks that a Watch takes.
     pub looks: u32,
-}
-
-/// How an exchange ended that was answered whole.
-#[derive(Clone, Copy, Debug, PartialEq, Eq)]
-pub enum Outcome {
-    /// The request was refused with this status code of HTTP.
-    Http(u16),
-    /// The call ended with this status.
-    Status(Code),
-    /// A Watch told so many messages; the count stays at its greatest number once it has reached it.
-    Watched { messages: u32 },
 }
 
 /// Why an exchange failed.
@@ -54,21 +52,16 @@ pub struct ExchangeFault {
 impl ExchangeFault {
     ghost use Rattle.std.specs.Prelude.{◌≡◌};
 
-    fn reading(fault: ReadFault) -> ExchangeFault
-        ensures read { fault ≡ ReadFault.Read → result ≡ record { why = Why.Read; frames = 0 } }
-        ensures no_memory { fault ≡ ReadFault.NoMemory → result ≡ record { why = Why.NoMemory; frames = 0 } }
-        ensures why { result.why ≡ Why.Read → fault ≡ ReadFault.Read }
+    fn read() -> ExchangeFault
+        ensures { result ≡ record { why = Why.Read; frames = 0 } }
     {
-        match fault {
-            ReadFault::Read => ExchangeFault {
-                why: Why::Read,
-                frames: 0,
-            },
-            ReadFault::NoMemory => ExchangeFault::no_memory(),
+        ExchangeFault {
+            why: Why::Read,
+            frames: 0,
         }
     }
 
-    pub(crate) fn no_memory() -> ExchangeFault
+    fn no_memory() -> ExchangeFault
         ensures { result ≡ record { why = Why.NoMemory; frames = 0 } }
     {
         ExchangeFault {
@@ -77,13 +70,107 @@ impl ExchangeFault {
         }
     }
 
-    pub(crate) fn write(frames: u32) -> ExchangeFault
+    fn write(frames: u32) -> ExchangeFault
         ensures { result ≡ record { why = Why.Write; frames = frames } }
     {
         ExchangeFault {
             why: Why::Write,
             frames,
         }
+    }
+}
+
+/// Reads what the call wants, and none behind it. It is false at an error of any kind, and where the input ends before.
+fn receive<R: Read>(alloc: Global, reader: &mut Tap<R>, call: &mut Call) -> bool
+    requires { is_open call.old ≡ true }
+    ensures received { (bytes : List ℕ) × Consumes (R.remaining (tap_inner reader.old)) (R.remaining (tap_inner reader.new)) bytes
+        × Carries call.old call.new (with_received bytes) }
+    ensures kept { OnTrue result (tap_failed reader.new ≡ tap_failed reader.old) }
+    ensures cause { OnFalse result ((tap_failed reader.new ≡ true) ⊎ IsAtEnd (R.remaining (tap_inner reader.new))) }
+    ensures ends { OnTrue result (is_open call.new ≡ false) }
+    ensures is_open { OnFalse result (is_open call.new ≡ true) }
+    ensures unanswered { is_answered call.new ≡ is_answered call.old }
+{
+    let mut buffer = [0u8; BUFFER_LEN];
+    while call.wanted() > 0 {
+        let room = call.wanted().min(BUFFER_LEN);
+        let Ok(count) = reader.read(&mut buffer[..room]) else {
+            return false;
+        };
+        if count == 0 {
+            return false;
+        }
+        call.give(alloc, &buffer[..count]);
+    }
+    true
+}
+
+/// Answers the request, where memory was not wanting for it.
+fn reply<D: Door>(alloc: Global, door: &mut D, call: &mut Call)
+    requires read { is_open call.old ≡ false }
+    requires unanswered { is_answered call.old ≡ false }
+    ensures asked { (asked : List (List Entry)) × (length asked ≤ 1) × AsksDoor D.seen D.follows door.old door.new asked
+        × CarriesFor (D.names door.old) call.old call.new (with_asked asked) }
+    ensures ready { is_answered call.new ≡ not (is_starved call.new) }
+    ensures no_end { ends_watch (ending_of call.new) ≡ false }
+    ensures names { D.names door.new ≡ D.names door.old }
+    ensures stays { D.stays door.old door.new }
+{
+    if call.is_whole() {
+        call.answer(alloc, door);
+    }
+}
+
+/// Writes what the call has to send, and flushes it; where that is nothing, it does neither. It is false at an error of any
+/// kind, and at a write that takes no byte.
+fn send<W: Write>(writer: &mut Tap<W>, call: &mut Call) -> bool
+    ensures sent { (bytes : List ℕ) × Appends (W.contents (tap_inner writer.old)) (W.contents (tap_inner writer.new)) bytes
+        × Carries call.old call.new (with_sent bytes) }
+    ensures kept { OnTrue result (tap_failed writer.new ≡ tap_failed writer.old) }
+    ensures failed { OnFalse result (tap_failed writer.new ≡ true) }
+    ensures all { OnTrue result (to_send call.new ≡ []) }
+    ensures some { OnFalse result (being_sent call.new ≢ []) }
+    ensures watching { is_watching call.new ≡ is_watching call.old }
+    ensures ending { ending_of call.new ≡ ending_of call.old }
+    ensures answered { is_answered call.new ≡ is_answered call.old }
+{
+    if call.to_send().is_empty() {
+        return true;
+    }
+    while !call.to_send().is_empty() {
+        let Ok(count) = writer.write(call.to_send()) else {
+            return false;
+        };
+        if count == 0 {
+            return false;
+        }
+        call.sent(count);
+    }
+    writer.flush().is_ok()
+}
+
+/// Looks, where there may be a Look more and the bell gives one, or else ends the Watch. It tells how many Looks there were.
+fn step<D: Door, B: Bell>(door: &mut D, bell: &mut B, call: &mut Call, had: u32, looks: u32) -> u32
+    requires watching { is_watching call.old ≡ true }
+    requires told { to_send call.old ≡ [] }
+    requires most { had ≤ looks }
+    ensures asked { (more : List (List Entry)) × AsksDoor D.seen D.follows door.old door.new more
+        × CarriesFor (D.names door.old) call.old call.new (with_asked more)
+        × (result ≡ had + length more) × (B.given bell.new ≡ B.given bell.old + length more) }
+    ensures most { result ≤ looks }
+    ensures goes_on { is_watching call.new ≡ true → result ≡ had + 1 }
+    ensures answered { is_answered call.new ≡ true }
+    ensures ends { is_watching call.new ≡ false → HasEnded result looks (B.is_over bell.new)
+        × ((messages : ℕ) × (ending_of call.new ≡ Some (Outcome.Watched messages))) }
+    ensures names { D.names door.new ≡ D.names door.old }
+    ensures stays { D.stays door.old door.new }
+{
+    if had < looks && bell.wait() == Turn::Look {
+        call.look(door);
+        had + 1
+    } else {
+        call.end();
+        had
     }
 }
 
@@ -103,9 +190,10 @@ pub fn exchange<R: Read, W: Write, D: Door, B: Bell>(
     limits: Limits,
 ) -> Result<Outcome, ExchangeFault>
     // The request was read to its end and no further, and its whole answer was written.
-    ensures ok { IfOk result (λ outcome. (head body : List ℕ) × (pieces : List Piece)
+    ensures ok { IfOk result (λ outcome. (head body : List ℕ) × (asked : List (List Entry)) × (pieces : List Piece)
         × IsHead head × Consumes (R.remaining (tap_inner reader.old)) (R.remaining (tap_inner reader.new)) (head ++ body)
-        × IsAnswered D.names D.seen D.follows B.given B.is_over limits.looks door.old door.new bell.old bell.new head body pieces outcome
+        × Meets D.seen D.follows B.given B.is_over limits.looks door.old door.new bell.old bell.new asked (Some outcome)
+        × IsAnswered (record { names = D.names door.old; asked = asked; head = head; body = body }) pieces outcome
         × Appends (W.contents (tap_inner writer.old)) (W.contents (tap_inner writer.new)) (text_of pieces)) }
     ensures kept { OnOk result ((tap_failed reader.new ≡ tap_failed reader.old) × (tap_failed writer.new ≡ tap_failed writer.old)) }
 
@@ -115,33 +203,44 @@ pub fn exchange<R: Read, W: Write, D: Door, B: Bell>(
     ensures cut_request { IfErr result (λ fault. fault.why ≡ Why.Read → (bytes : List ℕ) × IsCutRequest bytes
         × Consumes (R.remaining (tap_inner reader.old)) (R.remaining (tap_inner reader.new)) bytes) }
 
-    // Memory was wanted for the head, the body or the response, and nothing was written.
+    // Memory was wanted for the head, before anything was read, for the body or for the response, and nothing was written.
     ensures no_memory { IfErr result (λ fault. fault.why ≡ Why.NoMemory → (fault.frames ≡ 0) × (writer.new ≡ writer.old)
         × (tap_failed reader.new ≡ tap_failed reader.old) × (bell.new ≡ bell.old)) }
-    ensures starved { IfErr result (λ fault. fault.why ≡ Why.NoMemory → (bytes : List ℕ) × IsStarved D.seen D.follows door.old door.new bytes
+    ensures starved { IfErr result (λ fault. fault.why ≡ Why.NoMemory → (bytes : List ℕ) × (asked : List (List Entry))
+        × (((bytes ≡ []) × (asked ≡ [])) ⊎ IsStarvedAt asked bytes) × AsksDoor D.seen D.follows door.old door.new asked
         × Consumes (R.remaining (tap_inner reader.old)) (R.remaining (tap_inner reader.new)) bytes) }
 
     // The writer failed: of the answer, as far as its turns went, a front was written.
     ensures write { IfErr result (λ fault. fault.why ≡ Why.Write → (tap_failed writer.new ≡ true) × (tap_failed reader.new ≡ tap_failed reader.old)) }
-    ensures cut_answer { IfErr result (λ fault. fault.why ≡ Why.Write → (head body : List ℕ) × (done part : List Piece)
+    ensures cut_answer { IfErr result (λ fault. fault.why ≡ Why.Write → (head body : List ℕ) × (asked : List (List Entry))
+        × (done part : List Piece) × (ending : Option Outcome)
         × IsHead head × Consumes (R.remaining (tap_inner reader.old)) (R.remaining (tap_inner reader.new)) (head ++ body)
-        × IsAnswerCut D.names D.seen D.follows B.given B.is_over limits.looks door.old door.new bell.old bell.new head body done part
+        × Meets D.seen D.follows B.given B.is_over limits.looks door.old door.new bell.old bell.new asked ending
+        × Sends (record { names = D.names door.old; asked = asked; head = head; body = body }) done part ending × (part ≢ [])
         × IsCut done part (W.contents (tap_inner writer.old)) (W.contents (tap_inner writer.new)) fault.frames) }
 
     ensures looks { B.given bell.new ≤ B.given bell.old + limits.looks }
     ensures names { D.names door.new ≡ D.names door.old }
     ensures stays { D.stays door.old door.new }
 {
-    let head = match read_head(alloc, reader) {
-        Ok(head) => head,
-        Err(fault) => return Err(ExchangeFault::reading(fault)),
+    let Ok(mut call) = Call::new(alloc) else {
+        return Err(ExchangeFault::no_memory());
     };
-    match head_of(&head) {
-        Headed::Http(http) => refuse(alloc, writer, http),
-        Headed::Status(code, text) => answer_status(alloc, writer, code, text),
-        Headed::Body { method, length } => match read_body(alloc, reader, length) {
-            Ok(body) => answer_call(alloc, writer, door, bell, method, &body, limits),
-            Err(fault) => Err(ExchangeFault::reading(fault)),
-        },
+    if !receive(alloc, reader, &mut call) {
+        return Err(ExchangeFault::read());
+    }
+    reply(alloc, door, &mut call);
+    if call.is_starved() {
+        return Err(ExchangeFault::no_memory());
+    }
+    let mut had = 0;
+    let mut is_sent = send(writer, &mut call);
+    while is_sent && call.is_watching() {
+        had = step(door, bell, &mut call, had, limits.looks);
+        is_sent = send(writer, &mut call);
+    }
+    match call.outcome() {
+        Some(outcome) if is_sent => Ok(outcome),
+        _ => Err(ExchangeFault::write(call.frames())),
     }
 }

@@ -48,7 +48,8 @@ pub fn head_of(head: &[u8]) -> Headed
     answer_to(head, &request, &lines[..request.headers])
 }
 
-fn is_too_large(head: &[u8]) -> bool
+/// Whether the bytes are no head within the limits of `MAX_HEAD_LEN` and `MAX_LINE_FEEDS`.
+pub fn is_too_large(head: &[u8]) -> bool
     ensures { result ≡ is_too_large head.now }
 {
     head.len() >= MAX_HEAD_LEN && !head.ends_with(HEAD_END) || line_feeds(head) > MAX_LINE_FEEDS

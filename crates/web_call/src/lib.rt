@@ -1,9 +1,9 @@
 //! One HTTP exchange: a request in, its response out, over any reader and writer.
 #![tactic(auto)]
 
-mod answering;
 mod ask;
 mod bell;
+mod call;
 mod content_length;
 mod content_type;
 mod desk_door;
@@ -11,28 +11,33 @@ mod door;
 mod exchanging;
 mod head;
 mod head_limits;
+mod intake;
 mod laws;
 mod lines;
 mod method;
-mod reading;
+mod outcome;
+mod outgoing;
 mod response;
 mod tap;
+mod text;
 mod texts;
-mod transfer;
-mod watching;
 
 pub use ask::{Ask, ask_of, one_ask};
 pub use bell::{Bell, Turn};
+pub use call::Call;
+pub use content_length::length_of;
 pub use desk_door::DeskDoor;
 pub use door::Door;
-pub use exchanging::{ExchangeFault, Limits, Outcome, Why, exchange};
-pub use head::{Headed, head_of};
+pub use exchanging::{ExchangeFault, Limits, Why, exchange};
+pub use head::{Headed, head_of, is_too_large};
 pub use head_limits::{HEAD_END, MAX_HEAD_LEN, MAX_LINE_FEEDS, MAX_LINES};
-pub use laws::one_head;
+pub use laws::{one_head, whole_calls};
+pub use lines::{count_named, first_named, is_named};
 pub use method::Method;
+pub use outcome::Outcome;
 pub use response::{check_body, status_body};
 pub use tap::Tap;
-pub use texts::{check_text, refuse_text, status_text, watch_head};
+pub use texts::{refuse_text, status_text};
 
 #[cfg(test)]
 mod tests;

@@ -1,5 +1,6 @@
 pub(crate) mod answers;
 mod bells;
+mod cutting;
 mod doors;
 mod exchanging;
 mod flushes;

@@ -1,10 +1,10 @@
 ghost use Rattle.std.specs.Prelude.{◌≡◌, ◌++◌, length, IfOk};
 ghost use Rattle.grpc_frame.specs.Trailers.{IsStatusText};
 ghost use Rattle.web_call.specs.Pieces.{text_of};
-ghost use Rattle.web_call.specs.Texts.{IsRefusal, refusal_response, status_response, check_response, body_head, watch_head_text, message_chunk, watch_end};
+ghost use Rattle.web_call.specs.Texts.{IsRefusal, refusal_response, status_response, body_head, watch_head_text, message_chunk, watch_end};
 
 use crate::head_limits::HEAD_END;
-use crate::response::{check_body, status_body};
+use crate::response::status_body;
 use grpc_frame::Code;
 use health_wire::Serving;
 use std::alloc::{AllocError, Global};
@@ -49,15 +49,8 @@ pub fn status_text(alloc: Global, code: Code, text: &str) -> Result<Vec<u8>, All
     with_head(alloc, body.as_slice())
 }
 
-/// The response to a Check, for a status or for a name that is not registered.
-pub fn check_text(alloc: Global, status: Option<Serving>) -> Result<Vec<u8>, AllocError>
-    ensures { IfOk result (λ response. response.items ≡ check_response status) }
-{
-    let body = check_body(alloc, status)?;
-    with_head(alloc, body.as_slice())
-}
-
-fn with_head(alloc: Global, body: &[u8]) -> Result<Vec<u8>, AllocError>
+/// A response with this body.
+pub(crate) fn with_head(alloc: Global, body: &[u8]) -> Result<Vec<u8>, AllocError>
     ensures { IfOk result (λ text. text.items ≡ body_head (length body.now) ++ body.now) }
 {
     let mut text = head_of_length(alloc, body.len())?;
@@ -74,11 +67,25 @@ fn head_of_length(alloc: Global, len: usize) -> Result<Vec<u8>, AllocError>
     Ok(text)
 }
 
-/// The head of the response to a Watch, whose body is sent in chunks.
-pub fn watch_head() -> &'static [u8]
-    ensures { result.now ≡ watch_head_text }
+/// The head of the response to a Watch, and the chunk of its first message.
+#[tactic(auto, using(std::proofs::lemmas::Fmt::hex_one_digit))]
+pub(crate) fn first_chunk(status: Serving) -> &'static [u8]
+    ensures { result.now ≡ watch_head_text ++ text_of (message_chunk status) }
 {
-    b"HTTP/1.1 200 OK\r\nconnection: close\r\ncontent-type: application/grpc-web+proto\r\ntransfer-encoding: chunked\r\n\r\n"
+    match status {
+        Serving::Unknown => {
+            b"HTTP/1.1 200 OK\r\nconnection: close\r\ncontent-type: application/grpc-web+proto\r\ntransfer-encoding: chunked\r\n\r\n5\r\n\0\0\0\0\0\r\n"
+        }
+        Serving::Serving => {
+            b"HTTP/1.1 200 OK\r\nconnection: close\r\ncontent-type: application/grpc-web+proto\r\ntransfer-encoding: chunked\r\n\r\n7\r\n\0\0\0\0\x02\x08\x01\r\n"
+        }
+        Serving::NotServing => {
+            b"HTTP/1.1 200 OK\r\nconnection: close\r\ncontent-type: application/grpc-web+proto\r\ntransfer-encoding: chunked\r\n\r\n7\r\n\0\0\0\0\x02\x08\x02\r\n"
+        }
+        Serving::ServiceUnknown => {
+            b"HTTP/1.1 200 OK\r\nconnection: close\r\ncontent-type: application/grpc-web+proto\r\ntransfer-encoding: chunked\r\n\r\n7\r\n\0\0\0\0\x02\x08\x03\r\n"
+        }
+    }
 }
 
 /// The chunk of a status's message, which takes no memory.

@@ -57,7 +57,7 @@ impl Kind {
     }
 
     /// How many of these bytes' frames are whole.
-    fn frames_within(&self, taken: usize) -> u32 {
+    pub(super) fn frames_within(&self, taken: usize) -> u32 {
         let mut count = 0u32;
         for end in self.frames {
             if *end <= taken {

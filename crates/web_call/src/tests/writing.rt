@@ -1,25 +1,28 @@
-use crate::Tap;
-use crate::transfer::put;
+use crate::tests::answers::UNSUPPORTED_MEDIA_TYPE;
+use crate::tests::doors::Stage;
+use crate::tests::runs::{Run, exchange_over};
+use crate::{ExchangeFault, Outcome, Tap, Why};
+use desk_core::Setting;
 use std::alloc::Global;
 use std::io::{ErrorKind, Write};
 use std::test::Fail;
+use test_support::requests::CHECK_WITHOUT_TYPE;
 use test_support::{Fault, FaultyWriter, same};
-
-const TEXT: &[u8] = b"a text of 20 bytes..";
 
 const BROKEN: Fault = Fault::Error(ErrorKind::BrokenPipe);
 
 const INTERRUPTED: Fault = Fault::Error(ErrorKind::Interrupted);
 
-/// The most bytes that a writer takes a call, which of its calls is faulty and how, how many bytes it takes, and in how
-/// many calls.
-const PUTS: [(usize, usize, Fault, usize, usize); 11] = [
-    (1, 0, Fault::Nothing, 20, 20),
-    (7, 0, Fault::Nothing, 20, 3),
-    (20, 0, Fault::Nothing, 20, 1),
-    (100, 0, Fault::Nothing, 20, 1),
-    // a fault behind the last byte is not met
-    (7, 4, BROKEN, 20, 3),
+/// The most bytes that a writer takes a call, which of its calls is faulty and how, how many of the 77 bytes of a refusal
+/// it takes, and how many calls it has, of which the one behind the last byte is a flush.
+const WRITES: [(usize, usize, Fault, usize, usize); 12] = [
+    (1, 0, Fault::Nothing, 77, 78),
+    (7, 0, Fault::Nothing, 77, 12),
+    (77, 0, Fault::Nothing, 77, 2),
+    (100, 0, Fault::Nothing, 77, 2),
+    // a fault behind the flush is not met
+    (7, 13, BROKEN, 77, 12),
+    (7, 12, BROKEN, 77, 12),
     (7, 1, Fault::Nothing, 0, 1),
     (7, 2, Fault::Nothing, 7, 2),
     (7, 3, Fault::Nothing, 14, 3),
@@ -28,7 +31,20 @@ const PUTS: [(usize, usize, Fault, usize, usize); 11] = [
     (7, 2, INTERRUPTED, 7, 2),
 ];
 
-fn expect_put(
+/// A refusal that is written whole, or fails at a write or at its flush.
+fn refused(is_cut: bool) -> Run {
+    let mut run = Run::asking(Outcome::Http(415), 0);
+    if is_cut {
+        run.result = Err(ExchangeFault {
+            why: Why::Write,
+            frames: 0,
+        });
+        run.write_failed = true;
+    }
+    run
+}
+
+fn expect_written(
     alloc: Global,
     most: usize,
     faulty: usize,
@@ -36,30 +52,31 @@ fn expect_put(
     taken: usize,
     calls: usize,
 ) -> Result<(), Fail> {
+    let stage = Stage::new(alloc, Setting::Up)?;
     let mut writer = FaultyWriter::new(alloc, most, faulty, fault);
-    let mut tap = Tap::new(&mut writer);
-    let is_cut = taken < TEXT.len();
-    let result = if is_cut { Err(taken) } else { Ok(()) };
-    let (put, failed) = (put(&mut tap, TEXT), tap.failed());
-    drop(tap);
-    let found = (put, failed, Some(writer.written()), writer.calls());
-    let expected = (result, is_cut, TEXT.get(..taken), calls);
+    let mut rest = CHECK_WITHOUT_TYPE;
+    let run = exchange_over(alloc, &mut rest, &mut writer, stage.door(), &[], 10);
+    let found = (run, Some(writer.written()), writer.calls());
+    let front = UNSUPPORTED_MEDIA_TYPE.get(..taken);
+    let expected = (refused(faulty == calls), front, calls);
     same(&found, &expected, &(most, faulty, fault))
 }
 
 #[test]
-fn puts_a_text_in_pieces_and_stops_at_the_first_faulty_write(rt: HostRuntime) -> Result<(), Fail> {
-    for &(most, faulty, fault, taken, calls) in &PUTS {
-        expect_put(rt.alloc(), most, faulty, fault, taken, calls)?;
+fn writes_a_text_in_pieces_and_stops_at_the_first_fault(rt: HostRuntime) -> Result<(), Fail> {
+    for &(most, faulty, fault, taken, calls) in &WRITES {
+        expect_written(rt.alloc(), most, faulty, fault, taken, calls)?;
     }
     Ok(())
 }
 
+const TEXT: &[u8] = b"a text of 20 bytes..";
+
 #[test]
 fn a_tap_stays_failed(rt: HostRuntime) -> Result<(), Fail> {
     let mut tap = Tap::new(FaultyWriter::new(rt.alloc(), 100, 1, BROKEN));
-    let results = (put(&mut tap, TEXT), put(&mut tap, TEXT), tap.failed());
-    same(&results, &(Err(0), Ok(()), true), &"an error")
+    let results = (tap.write(TEXT).ok(), tap.write(TEXT).ok(), tap.failed());
+    same(&results, &(None, Some(20), true), &"an error")
 }
 
 #[test]

@@ -1,5 +1,6 @@
 use super::*;
 use crate::tests::answers::*;
+use crate::text::Text;
 use std::alloc::AllocError;
 use std::fmt::Debug;
 use std::test::Fail;
@@ -68,7 +69,8 @@ const CHECKS: [(Option<Serving>, &[u8]); 4] = [
 #[test]
 fn writes_each_answer_to_a_check(rt: HostRuntime) -> Result<(), Fail> {
     for &(status, expected) in &CHECKS {
-        expect_text(check_text(rt.alloc(), status), expected, &status)?;
+        let text = Text::check(rt.alloc(), status)?;
+        same(&text.bytes(), &expected, &status)?;
     }
     Ok(())
 }
@@ -102,11 +104,11 @@ const END_CHUNK: &[u8] = b"2f\r\n\
 #[test]
 fn writes_the_parts_of_a_watch(_rt: HostRuntime) -> Result<(), Fail> {
     for &(status, expected) in &CHUNKS {
-        same(&message_chunk(status), &expected, &status)?;
+        let first = first_chunk(status);
+        let head = first.get(..WATCH_HEAD.len());
+        let found = (head, first.get(WATCH_HEAD.len()..), message_chunk(status));
+        let parts = (Some(WATCH_HEAD), Some(expected), expected);
+        same(&found, &parts, &status)?;
     }
-    same(
-        &(watch_head(), end_chunk()),
-        &(WATCH_HEAD, END_CHUNK),
-        &"the rest",
-    )
+    same(&end_chunk(), &END_CHUNK, &"the end")
 }

@@ -1,5 +1,5 @@
 use Rattle.std.proofs.Common.{rules}
-use Rattle.web_call.proofs.Bytes.{Appends-more}
+use Rattle.client.proofs.TransferLemmas.{Appends-more}
 use Rattle.client.proofs.transfer.send.Goals as goal
 
 pub loop-taken-preserved : goal.loop-taken-preserved

@@ -1,140 +1,101 @@
-use Rattle.std.proofs.Common.{◌≡◌, refl, sym, subst, ap, [], ◌++◌, length, append-nil, arith, Err}
-use Rattle.std.proofs.lemmas.Result.{IfOk-weaker, IfErr-weaker}
-use Rattle.std.proofs.KnownBytes.{Consumes-trans}
-use Rattle.std.specs.Io.KnownBytes.{Consumes}
-use Rattle.web_call.specs.Exchange.IsAnswered.{RefusedByHttp, EndedByHead, Call}
-use Rattle.web_call.specs.Exchange.IsAnswerCut.{RefusedByHttp as CutByHttp, EndedByHead as CutByHead, Call as CutCall}
-use Rattle.web_call.specs.Exchange.IsCutRequest.{InBody}
-use Rattle.web_call.specs.Exchange.IsStarved.{Request}
-use Rattle.web_call.specs.Head.{IsHeaded}
-use Rattle.web_call.specs.HeadAnswer.{Refused, Ended, Asked}
+use Rattle.std.proofs.Common.{◌≡◌, refl, ap, subst, ◌∙◌, [], inl, inr, true, false, rules, arith}
+use Rattle.std.proofs.KnownBytes.{Consumes-nil}
+use Rattle.std.specs.Io.KnownBytes.{Appends, Consumes}
+use Rattle.web_call.specs.Exchange.{Meets}
+use Rattle.web_call.specs.Past.{CarriesFor, begun, with_asked, with_received}
+use Rattle.web_call.specs.Pieces.{text_of}
+use Rattle.web_call.specs.Stages.{is_watching, ending_of}
 use Rattle.web_call.specs.Tap.{tap_inner}
-use Rattle.web_call.specs.Texts.{refusal_pieces, status_pieces}
-use Rattle.web_call.proofs.PieceLemmas.{cut_of_sent}
+use Rattle.web_call.proofs.ExchangeLemmas.{so_replied, so_sent, so_stepped}
+use Rattle.web_call.proofs.WalkLemmas.{AsksDoor-none}
+use Rattle.web_call.proofs.WholeCallLemmas.{cut_of, cut_written, read_cut, starved_at, whole_of}
 use Rattle.web_call.proofs.exchanging.exchange.Goals as goal
 
-pub returns-in-Http-clause-ok : goal.returns-in-Http-clause-ok
-returns-in-Http-clause-ok g c =
-    let headed = subst (λ h. IsHeaded h (Refused c.in-Http.http)) c.deref.ensures.value c.in-Http.ensures.headed in
-    let read = subst (Consumes (g.R.Read.remaining (tap_inner c.args.reader.now)) (g.R.Read.remaining (tap_inner c.read_head.new.reader))) (sym (append-nil c.in-Ok.head.items)) c.in-Ok.ensures.read in
-    IfOk-weaker c.refuse.result _ _
-    (λ outcome (is, wrote). (
-      c.in-Ok.head.items,
-      [],
-      refusal_pieces c.in-Http.http,
-      c.in-Ok.ensures.head,
-      read,
-      rw is (RefusedByHttp c.in-Http.http headed refl refl refl),
-      wrote,
-    )) c.refuse.ensures.ok
+pub returns-then-not-receive-clause-cut_request : goal.returns-then-not-receive-clause-cut_request
+returns-then-not-receive-clause-cut_request g c = λ _.
+    let r = c.receive.ensures.received in
+    (r.0, read_cut [] (with_received r.0 begun) c.receive.new.call c.if-not-receive.ensures.is_open (r.2 [] begun (c.in-Ok.ensures.begun [])), r.1)
 
-pub returns-in-Http-clause-cut_answer : goal.returns-in-Http-clause-cut_answer
-returns-in-Http-clause-cut_answer g c =
-    let headed = subst (λ h. IsHeaded h (Refused c.in-Http.http)) c.deref.ensures.value c.in-Http.ensures.headed in
-    let read = subst (Consumes (g.R.Read.remaining (tap_inner c.args.reader.now)) (g.R.Read.remaining (tap_inner c.read_head.new.reader))) (sym (append-nil c.in-Ok.head.items)) c.in-Ok.ensures.read in
-    IfErr-weaker c.refuse.result _ _
-    (λ fault write why. (
-      c.in-Ok.head.items,
-      [],
-      [],
-      refusal_pieces c.in-Http.http,
-      c.in-Ok.ensures.head,
-      read,
-      CutByHttp c.in-Http.http headed refl refl refl,
-      cut_of_sent (write why).1,
-    )) c.refuse.ensures.write
+pub returns-then-is_starved-clause-starved : goal.returns-then-is_starved-clause-starved
+returns-then-is_starved-clause-starved g c = λ _.
+    let r = c.receive.ensures.received in
+    let a = c.reply.ensures.asked in
+    let names = g.D.Door.names c.args.door.now in
+    let past = with_asked a.0 (with_received r.0 begun) in
+    (r.0, a.0, inr (starved_at names past c.reply.new.call (search rules) (a.3 (with_received r.0 begun) (r.2 names begun (c.in-Ok.ensures.begun names)))), a.2, r.1)
 
-pub returns-in-Status-clause-ok : goal.returns-in-Status-clause-ok
-returns-in-Status-clause-ok g c =
-    let headed = subst (λ h. IsHeaded h (Ended c.in-Status.code c.in-Status.text.now)) c.deref.ensures.value c.in-Status.ensures.headed in
-    let read = subst (Consumes (g.R.Read.remaining (tap_inner c.args.reader.now)) (g.R.Read.remaining (tap_inner c.read_head.new.reader))) (sym (append-nil c.in-Ok.head.items)) c.in-Ok.ensures.read in
-    IfOk-weaker c.answer_status.result _ _
-    (λ outcome (is, wrote). (
-      c.in-Ok.head.items,
-      [],
-      status_pieces c.in-Status.code c.in-Status.text.now,
-      c.in-Ok.ensures.head,
-      read,
-      rw is (EndedByHead c.in-Status.code c.in-Status.text.now headed refl refl refl),
-      wrote,
-    )) c.answer_status.ensures.ok
+pub loop-is_sent-init : goal.loop-is_sent-init
+loop-is_sent-init g c =
+    let r = c.receive.ensures.received in
+    let a = c.reply.ensures.asked in
+    let sent = c.send-is_sent.ensures.sent in
+    let names = g.D.Door.names c.args.door.now in record {
+      so_far = so_sent {call = c.reply.new.call} {new = c.send-is_sent.new.call} sent.0
+          (so_replied c.in-Ok.call c.receive.new.call c.reply.new.call r.0 a.0 (c.in-Ok.ensures.begun names) r.1 r.2 a.1 a.2 a.3 c.reply.ensures.no_end)
+          sent.1 sent.2 c.send-is_sent.ensures.watching c.send-is_sent.ensures.ending;
+      answered = c.send-is_sent.ensures.answered ∙ (search rules);
+      told = search rules;
+      kept = search rules;
+      failed = search rules;
+      some = search rules;
+      most = omega arith;
+      names = search rules;
+      stays = search rules;
+    }
 
-pub returns-in-Status-clause-cut_answer : goal.returns-in-Status-clause-cut_answer
-returns-in-Status-clause-cut_answer g c =
-    let headed = subst (λ h. IsHeaded h (Ended c.in-Status.code c.in-Status.text.now)) c.deref.ensures.value c.in-Status.ensures.headed in
-    let read = subst (Consumes (g.R.Read.remaining (tap_inner c.args.reader.now)) (g.R.Read.remaining (tap_inner c.read_head.new.reader))) (sym (append-nil c.in-Ok.head.items)) c.in-Ok.ensures.read in
-    IfErr-weaker c.answer_status.result _ _
-    (λ fault write why. (
-      c.in-Ok.head.items,
-      [],
-      [],
-      status_pieces c.in-Status.code c.in-Status.text.now,
-      c.in-Ok.ensures.head,
-      read,
-      CutByHead c.in-Status.code c.in-Status.text.now headed refl refl refl,
-      cut_of_sent (write why).1,
-    )) c.answer_status.ensures.write
+pub loop-is_sent-preserved : goal.loop-is_sent-preserved
+loop-is_sent-preserved g c =
+    let before = c.loop-is_sent.invariant in
+    let a = c.step-had.ensures.asked in
+    let sent = c.send-is_sent-in-loop-is_sent.ensures.sent in
+    let carries = subst (λ names. CarriesFor names c.loop-is_sent.call c.step-had.new.call (with_asked a.0)) before.names a.2 in
+    let watching : is_watching c.loop-is_sent.call ≡ true = search rules in record {
+      so_far = so_sent {call = c.step-had.new.call} {new = c.send-is_sent-in-loop-is_sent.new.call} sent.0
+          (so_stepped {call = c.loop-is_sent.call} {new = c.step-had.new.call} a.0 before.so_far watching a.1 carries a.3 a.4 c.step-had.ensures.most c.step-had.ensures.ends)
+          sent.1 sent.2 c.send-is_sent-in-loop-is_sent.ensures.watching c.send-is_sent-in-loop-is_sent.ensures.ending;
+      answered = c.send-is_sent-in-loop-is_sent.ensures.answered ∙ c.step-had.ensures.answered;
+      told = search rules;
+      kept = search rules;
+      failed = search rules;
+      some = search rules;
+      most = c.step-had.ensures.most;
+      names = c.step-had.ensures.names ∙ before.names;
+      stays = g.D.Door.stays_on _ _ _ before.stays c.step-had.ensures.stays;
+    }
 
-pub returns-in-Status-clause-stays : goal.returns-in-Status-clause-stays
-returns-in-Status-clause-stays g c = g.D.Door.stays_self _
-
-pub returns-clause-stays : goal.returns-clause-stays
-returns-clause-stays g c = g.D.Door.stays_self _
-
-pub returns-in-Ok-read_body-clause-ok : goal.returns-in-Ok-read_body-clause-ok
-returns-in-Ok-read_body-clause-ok g c =
-    let headed = subst (λ h. IsHeaded h (Asked c.in-Body.method c.in-Body.length)) c.deref.ensures.value c.in-Body.ensures.headed in
-    let same : c.in-Body.length ≡ length c.in-Ok-read_body.body.items = omega (arith, c.in-Ok-read_body.ensures.len, c.deref-in-Ok-read_body.ensures.len, ap length c.deref-in-Ok-read_body.ensures.value) in
-    let whole = subst (λ n. IsHeaded c.in-Ok.head.items (Asked c.in-Body.method n)) same headed in
-    let read = Consumes-trans (g.R.Read.remaining (tap_inner c.args.reader.now)) (g.R.Read.remaining (tap_inner c.read_head.new.reader)) (g.R.Read.remaining (tap_inner c.read_body.new.reader)) c.in-Ok.head.items c.in-Ok-read_body.body.items c.in-Ok.ensures.read c.in-Ok-read_body.ensures.read in
-    IfOk-weaker c.answer_call.result _ _
-    (λ outcome (pieces, answered, wrote). (
-      c.in-Ok.head.items,
-      c.in-Ok-read_body.body.items,
-      pieces,
-      c.in-Ok.ensures.head,
-      read,
-      Call c.in-Body.method pieces outcome whole (rw (sym c.deref-in-Ok-read_body.ensures.value) answered),
-      wrote,
-    )) c.answer_call.ensures.ok
-
-pub returns-in-Ok-read_body-clause-cut_answer : goal.returns-in-Ok-read_body-clause-cut_answer
-returns-in-Ok-read_body-clause-cut_answer g c =
-    let headed = subst (λ h. IsHeaded h (Asked c.in-Body.method c.in-Body.length)) c.deref.ensures.value c.in-Body.ensures.headed in
-    let same : c.in-Body.length ≡ length c.in-Ok-read_body.body.items = omega (arith, c.in-Ok-read_body.ensures.len, c.deref-in-Ok-read_body.ensures.len, ap length c.deref-in-Ok-read_body.ensures.value) in
-    let whole = subst (λ n. IsHeaded c.in-Ok.head.items (Asked c.in-Body.method n)) same headed in
-    let read = Consumes-trans (g.R.Read.remaining (tap_inner c.args.reader.now)) (g.R.Read.remaining (tap_inner c.read_head.new.reader)) (g.R.Read.remaining (tap_inner c.read_body.new.reader)) c.in-Ok.head.items c.in-Ok-read_body.body.items c.in-Ok.ensures.read c.in-Ok-read_body.ensures.read in
-    IfErr-weaker c.answer_call.result _ _
-    (λ fault write why. let cut = write why in (
-      c.in-Ok.head.items,
-      c.in-Ok-read_body.body.items,
-      cut.0,
-      cut.1,
-      c.in-Ok.ensures.head,
-      read,
-      CutCall c.in-Body.method cut.0 cut.1 whole (rw (sym c.deref-in-Ok-read_body.ensures.value) cut.2),
-      cut.3,
-    )) c.answer_call.ensures.cut
-
-pub returns-in-Ok-read_body-clause-starved : goal.returns-in-Ok-read_body-clause-starved
-returns-in-Ok-read_body-clause-starved g c =
-    let headed = subst (λ h. IsHeaded h (Asked c.in-Body.method c.in-Body.length)) c.deref.ensures.value c.in-Body.ensures.headed in
-    let same : c.in-Body.length ≡ length c.in-Ok-read_body.body.items = omega (arith, c.in-Ok-read_body.ensures.len, c.deref-in-Ok-read_body.ensures.len, ap length c.deref-in-Ok-read_body.ensures.value) in
-    let whole = subst (λ n. IsHeaded c.in-Ok.head.items (Asked c.in-Body.method n)) same headed in
-    let read = Consumes-trans (g.R.Read.remaining (tap_inner c.args.reader.now)) (g.R.Read.remaining (tap_inner c.read_head.new.reader)) (g.R.Read.remaining (tap_inner c.read_body.new.reader)) c.in-Ok.head.items c.in-Ok-read_body.body.items c.in-Ok.ensures.read c.in-Ok-read_body.ensures.read in
-    IfErr-weaker c.answer_call.result _ _
-    (λ fault no_memory why. (
-      c.in-Ok.head.items ++ c.in-Ok-read_body.body.items,
-      Request c.in-Ok.head.items c.in-Ok-read_body.body.items c.in-Body.method refl c.in-Ok.ensures.head whole
-          (rw (sym c.deref-in-Ok-read_body.ensures.value) (no_memory why).2),
-      read,
-    )) c.answer_call.ensures.no_memory
-
-pub returns-clause-cut_request : goal.returns-clause-cut_request
-returns-clause-cut_request g c = λ why.
-    let headed = subst (λ h. IsHeaded h (Asked c.in-Body.method c.in-Body.length)) c.deref.ensures.value c.in-Body.ensures.headed in
-    let fewer = c.in-Err-read_body.ensures.no_more (ap Err (c.reading-in-Err-read_body.ensures.why why)) in (
-      c.in-Ok.head.items ++ fewer.0,
-      InBody c.in-Ok.head.items fewer.0 c.in-Body.method c.in-Body.length refl c.in-Ok.ensures.head headed fewer.1,
-      Consumes-trans (g.R.Read.remaining (tap_inner c.args.reader.now)) (g.R.Read.remaining (tap_inner c.read_head.new.reader)) (g.R.Read.remaining (tap_inner c.read_body.new.reader)) c.in-Ok.head.items fewer.0 c.in-Ok.ensures.read fewer.2,
+pub returns-in-Some-clause-ok : goal.returns-in-Some-clause-ok
+returns-in-Some-clause-ok g c =
+    let s = c.loop-is_sent.invariant.so_far in
+    let w = whole_of (g.D.Door.names c.args.door.now) s.past c.loop-is_sent.call c.in-Some.outcome (search rules) s.stands in (
+      w.1.head,
+      w.1.body,
+      s.past.asked,
+      w.1.pieces,
+      w.1.requested.is_head,
+      subst (Consumes (g.R.Read.remaining (tap_inner c.args.reader.now)) (g.R.Read.remaining (tap_inner c.receive.new.reader))) w.1.requested.is s.has_read,
+      subst (λ ending. Meets g.D.Door.seen g.D.Door.follows g.B.Bell.given g.B.Bell.is_over c.args.limits.looks c.args.door.now c.loop-is_sent.door c.args.bell.now c.loop-is_sent.bell s.past.asked ending) w.0 s.meets,
+      w.1.answered,
+      subst (Appends (g.W.Write.contents (tap_inner c.args.writer.now)) (g.W.Write.contents (tap_inner c.loop-is_sent.writer))) w.1.all_sent s.wrote,
     )
+
+pub returns-clause-cut_answer : goal.returns-clause-cut_answer
+returns-clause-cut_answer g c = λ _.
+    let s = c.loop-is_sent.invariant.so_far in
+    let unsent : c.loop-is_sent.is_sent ≡ false = search rules in
+    let cut = cut_of (g.D.Door.names c.args.door.now) s.past c.loop-is_sent.call c.loop-is_sent.invariant.answered s.stands in (
+      cut.0.head,
+      cut.0.body,
+      s.past.asked,
+      cut.0.done,
+      cut.0.part,
+      ending_of c.loop-is_sent.call,
+      cut.0.requested.is_head,
+      subst (Consumes (g.R.Read.remaining (tap_inner c.args.reader.now)) (g.R.Read.remaining (tap_inner c.receive.new.reader))) cut.0.requested.is s.has_read,
+      s.meets,
+      cut.0.sends,
+      λ none. c.loop-is_sent.invariant.some unsent (cut.1 ∙ ap text_of none),
+      cut_written cut.0 s.wrote (search rules),
+    )
+
+pub returns-in_default-clause-starved : goal.returns-in_default-clause-starved
+returns-in_default-clause-starved g c = λ _. ([], [], inl (refl, refl), AsksDoor-none, Consumes-nil _)

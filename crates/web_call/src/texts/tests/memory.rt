@@ -18,7 +18,7 @@ impl Call {
             Call::Refusal => refuse_text(alloc, 411),
             Call::Status => status_text(alloc, Code::NotFound, "unknown service"),
             Call::StatusBody => status_body(alloc, Code::NotFound, "unknown service"),
-            Call::Check => check_text(alloc, Some(Serving::Serving)),
+            Call::Check => with_head(alloc, &check_body(alloc, Some(Serving::Serving))?),
             Call::CheckBody => check_body(alloc, Some(Serving::Serving)),
         }
     }

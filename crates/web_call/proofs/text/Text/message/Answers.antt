@@ -1,0 +1,8 @@
+use Rattle.std.proofs.Common.{◌∙◌}
+use Rattle.web_call.proofs.TextLemmas.{text_of_message}
+use Rattle.web_call.proofs.text.Text.message.Goals as goal
+
+pub returns : goal.returns
+returns c =
+    let first = c.chunk.ensures.first in
+    text_of_message c.args.status c.chunk.result first.0 (c.chunk.ensures.bytes ∙ c.message_chunk.ensures) first.1 c.chunk.ensures.second first.2

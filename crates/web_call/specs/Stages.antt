@@ -1,0 +1,117 @@
+-- How far a call has come.
+use Rattle.std.specs.Prelude.{ℕ, Bool, true, false, ◌||◌, is_some, Option, None, Some, List, vec_len, length, nat_eq, if◌then◌else◌}
+use Rattle.web_call.specs.declared.call.Call.{Call}
+use Rattle.web_call.specs.declared.call.Stage.{Stage}
+use Rattle.web_call.specs.declared.call.Stage.TheVariants.{Reading, Watching, Ending, Starved}
+use Rattle.web_call.specs.declared.outcome.Outcome.{Outcome}
+use Rattle.web_call.specs.declared.outcome.Outcome.TheVariants.{Http, Status, Watched}
+use Rattle.web_call.specs.Outgoing.{left_of, frames_out}
+use Rattle.web_call.specs.Reading as reading
+use Rattle.web_call.specs.Text.{text_bytes}
+
+abbrev pub opens : Stage → Bool
+opens (Reading intake) = reading.is_open intake.reading
+opens (Watching watch) = false
+opens (Ending outcome) = false
+opens Starved = false
+
+-- more of the request is wanted
+abbrev pub is_open : Call → Bool
+is_open call = opens call.stage
+
+abbrev pub wants : Stage → ℕ
+wants (Reading intake) = reading.wanted intake.reading
+wants (Watching watch) = 0
+wants (Ending outcome) = 0
+wants Starved = 0
+
+-- how many bytes are wanted at least
+abbrev pub wanted_by : Call → ℕ
+wanted_by call = wants call.stage
+
+abbrev pub owes : Stage → ℕ
+owes (Reading intake) = reading.owed intake.reading (vec_len intake.head)
+owes (Watching watch) = 0
+owes (Ending outcome) = 0
+owes Starved = 0
+
+-- how many bytes of the request may come yet, at most
+abbrev pub owed : Call → ℕ
+owed call = owes call.stage
+
+abbrev pub waits : Stage → Bool
+waits (Reading intake) = reading.is_whole intake.reading
+waits (Watching watch) = false
+waits (Ending outcome) = false
+waits Starved = false
+
+-- the request is whole and waits to be answered
+abbrev pub is_whole : Call → Bool
+is_whole call = waits call.stage
+
+abbrev pub watches : Stage → Bool
+watches (Reading intake) = false
+watches (Watching watch) = true
+watches (Ending outcome) = false
+watches Starved = false
+
+-- a Watch is open
+abbrev pub is_watching : Call → Bool
+is_watching call = watches call.stage
+
+abbrev pub starves : Stage → Bool
+starves (Reading intake) = reading.starves intake.reading
+starves (Watching watch) = false
+starves (Ending outcome) = false
+starves Starved = true
+
+-- memory was wanting
+abbrev pub is_starved : Call → Bool
+is_starved call = starves call.stage
+
+abbrev pub answers : Stage → Bool
+answers (Reading intake) = false
+answers (Watching watch) = true
+answers (Ending outcome) = true
+answers Starved = false
+
+-- an answer is being sent, or was
+abbrev pub is_answered : Call → Bool
+is_answered call = answers call.stage
+
+abbrev pub ends_with : Stage → Option Outcome
+ends_with (Reading intake) = None
+ends_with (Watching watch) = None
+ends_with (Ending outcome) = Some outcome
+ends_with Starved = None
+
+-- how the call ends once all is sent, where what is being sent is the last of it
+abbrev pub ending_of : Call → Option Outcome
+ending_of call = ends_with call.stage
+
+-- the call ends as a Watch does
+abbrev pub ends_watch : Option Outcome → Bool
+ends_watch None = false
+ends_watch (Some (Watched messages)) = true
+ends_watch (Some (Http http)) = false
+ends_watch (Some (Status code)) = false
+
+-- what is still to be sent
+abbrev pub to_send : Call → List ℕ
+to_send call = left_of call.outgoing
+
+-- how the call ended, if it did
+abbrev pub outcome_of : Call → Option Outcome
+outcome_of call = if nat_eq (length (to_send call)) 0 then ending_of call else None
+
+-- the call is at its end
+abbrev pub is_done : Call → Bool
+is_done call = is_some (outcome_of call) || is_starved call
+
+-- the text that is being sent, with what went out of it
+abbrev pub being_sent : Call → List ℕ
+being_sent call = text_bytes call.outgoing.text
+
+-- how many frames went out whole
+abbrev pub frames_of : Call → ℕ
+frames_of call = frames_out call.outgoing

@@ -1,0 +1,151 @@
+ghost use Rattle.std.specs.Prelude.{◌≡◌, ◌≤◌, ◌⊎◌, ◌∷◌, [], ℕ, List, length, true, false, not, Some, IfOk};
+ghost use Rattle.desk_core.specs.declared.entry.Entry.{Entry};
+ghost use Rattle.web_call.specs.declared.call.Stage.TheVariants as stages;
+ghost use Rattle.web_call.specs.Head.{IsHeaded};
+ghost use Rattle.web_call.specs.HeadAnswer.{Asked};
+ghost use Rattle.web_call.specs.Outgoing.{GoesOut};
+ghost use Rattle.web_call.specs.declared.outgoing.Outgoing.{Outgoing};
+ghost use Rattle.web_call.specs.Past.{Past, Carries, CarriesFor, IsReading, Stands, with_asked};
+ghost use Rattle.web_call.specs.Reading.{is_whole as is_whole_reading};
+ghost use Rattle.web_call.specs.Pieces.{Piece};
+ghost use Rattle.web_call.specs.Request.{IsRequested};
+ghost use Rattle.web_call.specs.Stages.{is_whole, is_watching, is_answered, is_starved, ends_watch, ending_of, to_send};
+ghost use Rattle.web_call.specs.Answer.{check_code};
+ghost use Rattle.web_call.specs.Text.{IsTextOf};
+ghost use Rattle.web_call.specs.Walk.{AsksDoor};
+
+use super::{Call, Stage};
+use crate::ask::{Ask, ask_of};
+use crate::door::Door;
+use crate::head::{Headed, head_of};
+use crate::intake::Intake;
+use crate::method::Method;
+use crate::outcome::Outcome;
+use crate::outgoing::Outgoing;
+use crate::text::Text;
+use grpc_frame::Code;
+use health_wire::Serving;
+use std::alloc::{AllocError, Global};
+
+/// A call that ends with this text, or one for which memory was wanting.
+fn last(text: Result<Text, AllocError>, outcome: Outcome) -> Call
+    ensures told { (part : List Piece) → IfOk text (λ made. IsTextOf made part) → ((result.stage ≡ stages.Ending outcome) × GoesOut result.outgoing [] part [])
+        ⊎ ((result.stage ≡ stages.Starved) × GoesOut result.outgoing [] [] []) }
+    ensures ready { is_answered result ≡ not (is_starved result) }
+    ensures no_end { ends_watch (Some outcome) ≡ false → ends_watch (ending_of result) ≡ false }
+{
+    match text {
+        Ok(text) => Call {
+            stage: Stage::Ending(outcome),
+            outgoing: Outgoing::new(text),
+        },
+        Err(_) => Call {
+            stage: Stage::Starved,
+            outgoing: Outgoing::new(Text::none()),
+        },
+    }
+}
+
+fn check_code(status: Option<Serving>) -> Code
+    ensures { result ≡ check_code status }
+{
+    match status {
+        Some(_) => Code::Ok,
+        None => Code::NotFound,
+    }
+}
+
+/// A call whose request has this method and this body.
+fn answer_body<D: Door>(alloc: Global, door: &mut D, method: Method, body: &[u8]) -> Call
+    ensures asked { (asked : List (List Entry)) × (length asked ≤ 1) × AsksDoor D.seen D.follows door.old door.new asked
+        × ((head received : List ℕ) → IsRequested head body.now received → IsHeaded head (Asked method (length body.now))
+        → Stands (D.names door.old) (record { received = received; sent = []; asked = asked }) result) }
+    ensures ready { is_answered result ≡ not (is_starved result) }
+    ensures no_end { ends_watch (ending_of result) ≡ false }
+    ensures names { D.names door.new ≡ D.names door.old }
+    ensures stays { D.stays door.old door.new }
+{
+    match ask_of(method, body) {
+        Ask::Status(code, text) => last(Text::status(alloc, code, text), Outcome::Status(code)),
+        Ask::Check(name) => {
+            let status = door.check(name);
+            last(
+                Text::check(alloc, status),
+                Outcome::Status(check_code(status)),
+            )
+        }
+        Ask::Watch(name) => {
+            let (watch, status) = door.open(name);
+            Call {
+                stage: Stage::Watching(watch),
+                outgoing: Outgoing::new(Text::first(status)),
+            }
+        }
+    }
+}
+
+/// A call whose request this is, which is whole.
+fn answer_request<D: Door>(alloc: Global, door: &mut D, intake: &Intake) -> Call
+    requires { is_whole_reading intake.now.reading ≡ true }
+    ensures asked { (asked : List (List Entry)) × (length asked ≤ 1) × AsksDoor D.seen D.follows door.old door.new asked
+        × ((past : Past) (outgoing : Outgoing) → IsReading past intake.now outgoing → Stands (D.names door.old) (with_asked asked past) result) }
+    ensures ready { is_answered result ≡ not (is_starved result) }
+    ensures no_end { ends_watch (ending_of result) ≡ false }
+    ensures names { D.names door.new ≡ D.names door.old }
+    ensures stays { D.stays door.old door.new }
+{
+    match head_of(intake.head()) {
+        Headed::Http(http) => last(Text::refusal(alloc, http), Outcome::Http(http)),
+        Headed::Status(code, text) => last(Text::status(alloc, code, text), Outcome::Status(code)),
+        Headed::Body { method, .. } => answer_body(alloc, door, method, intake.body()),
+    }
+}
+
+impl Call {
+    /// Answers the request, which is whole: asks the door once for a Check or a Watch, and nobody where the request is refused.
+    pub fn answer<D: Door>(&mut self, alloc: Global, door: &mut D)
+        requires { is_whole self.old ≡ true }
+        ensures asked { (asked : List (List Entry)) × (length asked ≤ 1) × AsksDoor D.seen D.follows door.old door.new asked
+            × CarriesFor (D.names door.old) self.old self.new (with_asked asked) }
+        ensures ready { is_answered self.new ≡ not (is_starved self.new) }
+        ensures no_end { ends_watch (ending_of self.new) ≡ false }
+        ensures names { D.names door.new ≡ D.names door.old }
+        ensures stays { D.stays door.old door.new }
+    {
+        let Stage::Reading(intake) = &self.stage else {
+            unreachable!()
+        };
+        let call = answer_request(alloc, door, intake);
+        *self = call;
+    }
+
+    /// Takes a step of the Watch, where all is sent that it was told so far, and has what the step answers to send.
+    pub fn look<D: Door>(&mut self, door: &mut D)
+        requires watching { is_watching self.old ≡ true }
+        requires told { to_send self.old ≡ [] }
+        ensures asks { AsksDoor D.seen D.follows door.old door.new (D.seen door.new ∷ []) }
+        ensures looked { CarriesFor (D.names door.old) self.old self.new (with_asked (D.seen door.new ∷ [])) }
+        ensures watching { is_watching self.new ≡ true }
+        ensures answered { is_answered self.new ≡ true }
+        ensures names { D.names door.new ≡ D.names door.old }
+        ensures stays { D.stays door.old door.new }
+    {
+        if let Stage::Watching(watch) = &mut self.stage {
+            let answer = door.step(watch);
+            self.outgoing.follow(Text::told(answer));
+        }
+    }
+
+    /// Ends the Watch, where all is sent that it was told, and has its trailers to send.
+    pub fn end(&mut self)
+        requires watching { is_watching self.old ≡ true }
+        requires told { to_send self.old ≡ [] }
+        ensures ended { Carries self.old self.new (λ past. past) }
+        ensures outcome { (messages : ℕ) × (ending_of self.new ≡ Some (Outcome.Watched messages)) }
+        ensures answered { is_answered self.new ≡ true }
+    {
+        let messages = self.frames();
+        self.outgoing.follow(Text::end());
+        self.stage = Stage::Ending(Outcome::Watched { messages });
+    }
+}

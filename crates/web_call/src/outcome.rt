@@ -1,0 +1,12 @@
+use grpc_frame::Code;
+
+/// How a call ended that was answered whole.
+#[derive(Clone, Copy, Debug, PartialEq, Eq)]
+pub enum Outcome {
+    /// The request was refused with this status code of HTTP.
+    Http(u16),
+    /// The call ended with this status.
+    Status(Code),
+    /// A Watch told so many messages; the count stays at its greatest number once it has reached it.
+    Watched { messages: u32 },
+}
