@@ -1,1 +1,6 @@
+pub mod AskingLemmas
+pub mod BodyLemmas
+pub mod FrameLemmas
+pub mod GivingLemmas
+pub mod ReplyLemmas
 pub mod TransferLemmas

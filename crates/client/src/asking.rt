@@ -1,11 +1,12 @@
-ghost use Rattle.std.specs.Prelude.{◌≡◌, ◌≤◌, ◌⊎◌, length, vec_len, OnOk, OnErr, IfOk, IsErrOf, IsSome, IsNone, ℕ};
+ghost use Rattle.std.specs.Prelude.{◌≡◌, ◌≤◌, ◌<◌, ◌⊎◌, ◌++◌, List, length, vec_len, OnOk, IfOk, IsErrOf, IsSome, ℕ};
+ghost use Rattle.std.specs.Io.KnownBytes.{Consumes, Keeps};
+ghost use Rattle.client.specs.Reply.{IsBad, IsOpen, IsRefused, IsTold};
+ghost use Rattle.client.specs.Stages.{Holds, method_of, most_of, owed_of, wanted_of};
 ghost use Rattle.client.specs.Request.{WritesRequest, WritesRequestFront};
 
 use crate::ask_fault::AskFault;
-use crate::part::{Part, next_part};
+use crate::reply::Reply;
 use crate::request::request_text;
-use crate::response::{framing_of, read_head};
-use crate::response_body::ResponseBody;
 use crate::told::Told;
 use crate::transfer::send;
 use std::alloc::Global;
@@ -46,6 +47,20 @@ pub fn ask<R: Read, W: Write>(
 
     ensures check { method ≡ Method.Check → IfOk result (λ told. IsSome told.end) }
     ensures watch { method ≡ Method.Watch → IfOk result (λ told. vec_len told.statuses ≤ most) }
+
+    // What is told is what the bytes say that were read, whatever the cuts in which they came, and none was read behind it.
+    ensures told { IfOk result (λ told. (bytes : List ℕ)
+        × Consumes (R.remaining reader.old) (R.remaining reader.new) bytes
+        × IsTold method most bytes told.statuses.items told.end) }
+    ensures bad { IsErrOf result AskFault.BadResponse → (bytes : List ℕ)
+        × Consumes (R.remaining reader.old) (R.remaining reader.new) bytes
+        × IsBad method most bytes }
+    ensures refused { (status : ℕ) → IsErrOf result (AskFault.Http status) → (bytes : List ℕ)
+        × Consumes (R.remaining reader.old) (R.remaining reader.new) bytes
+        × IsRefused bytes status }
+    ensures no_more { IsErrOf result AskFault.Read → (bytes : List ℕ)
+        × Consumes (R.remaining reader.old) (R.remaining reader.new) bytes
+        × IsOpen method most bytes }
 {
     let request = request_text(alloc, method, name)?;
     send(writer, &request)?;
@@ -59,55 +74,58 @@ fn read_told<R: Read>(
     method: Method,
     most: u32,
 ) -> Result<Told, AskFault>
-    ensures check { method ≡ Method.Check → IfOk result (λ told. IsSome told.end) }
-    ensures watch { method ≡ Method.Watch → IfOk result (λ told. vec_len told.statuses ≤ most) }
+    requires most { 1 ≤ most }
+    ensures told { IfOk result (λ told. (bytes : List ℕ)
+        × Consumes (R.remaining reader.old) (R.remaining reader.new) bytes
+        × IsTold method most bytes told.statuses.items told.end) }
+    ensures bad { IsErrOf result AskFault.BadResponse → (bytes : List ℕ)
+        × Consumes (R.remaining reader.old) (R.remaining reader.new) bytes
+        × IsBad method most bytes }
+    ensures refused { (status : ℕ) → IsErrOf result (AskFault.Http status) → (bytes : List ℕ)
+        × Consumes (R.remaining reader.old) (R.remaining reader.new) bytes
+        × IsRefused bytes status }
+    ensures no_more { IsErrOf result AskFault.Read → (bytes : List ℕ)
+        × Consumes (R.remaining reader.old) (R.remaining reader.new) bytes
+        × IsOpen method most bytes }
 {
-    let head = read_head(alloc, reader)?;
-    let mut body = ResponseBody::new(framing_of(&head)?)?;
-    match method {
-        Method::Check => ended(read_parts(alloc, reader, &mut body, u32::MAX)?),
-        Method::Watch => read_parts(alloc, reader, &mut body, most),
-    }
-}
-
-/// What a call told that has to have ended.
-fn ended(told: Told) -> Result<Told, AskFault>
-    ensures ok { IfOk result (λ same. (same ≡ told) × IsSome told.end) }
-    ensures err { OnErr result (IsNone told.end) }
-{
-    if told.end.is_some() {
-        Ok(told)
-    } else {
-        Err(AskFault::BadResponse)
-    }
-}
-
-/// Reads parts until the body or the call ends, or so many statuses are told.
-fn read_parts<R: Read>(
-    alloc: Global,
-    reader: &mut R,
-    body: &mut ResponseBody,
-    most: u32,
-) -> Result<Told, AskFault>
-    ensures { IfOk result (λ told. vec_len told.statuses ≤ most) }
-{
-    let mut statuses = Vec::new(alloc);
-    while statuses.len() < most as usize {
-        match next_part(alloc, reader, body)? {
-            Some(Part::Message(status)) => statuses.push(status)?,
-            Some(Part::Trailers(ended)) => {
-                return Ok(Told {
-                    statuses,
-                    end: Some(ended),
-                });
-            }
-            None => break,
+    let mut reply = Reply::new(alloc, method, most)?;
+    let mut piece = Vec::new(alloc);
+    while reply.wanted() > 0 {
+        piece.resize(reply.wanted(), 0)?;
+        match read_more(reader, &mut piece, reply) {
+            Ok(after) => reply = after,
+            Err(fault) => return Err(fault),
         }
     }
-    Ok(Told {
-        statuses,
-        end: None,
-    })
+    Ok(reply.into_told())
+}
+
+/// Reads once, and gives what was read to the response.
+fn read_more<R: Read>(reader: &mut R, piece: &mut [u8], reply: Reply) -> Result<Reply, AskFault>
+    requires { length piece.old ≤ wanted_of reply }
+    ensures ok { IfOk result (λ after. (bytes : List ℕ)
+        × Consumes (R.remaining reader.old) (R.remaining reader.new) bytes
+        × ((front : List ℕ) → Holds front reply → Holds (front ++ bytes) after)) }
+    ensures bad { IsErrOf result AskFault.BadResponse → (bytes : List ℕ)
+        × Consumes (R.remaining reader.old) (R.remaining reader.new) bytes
+        × ((front : List ℕ) → Holds front reply
+        → IsBad (method_of reply) (most_of reply) (front ++ bytes)) }
+    ensures refused { (status : ℕ) → IsErrOf result (AskFault.Http status) → (bytes : List ℕ)
+        × Consumes (R.remaining reader.old) (R.remaining reader.new) bytes
+        × ((front : List ℕ) → Holds front reply → IsRefused (front ++ bytes) status) }
+    ensures no_more { IsErrOf result AskFault.Read
+        → Keeps (R.remaining reader.old) (R.remaining reader.new) }
+    ensures call { IfOk result (λ after.
+        (method_of after ≡ method_of reply) × (most_of after ≡ most_of reply)) }
+    ensures fewer { IfOk result (λ after. owed_of after < owed_of reply) }
+{
+    let Ok(count) = reader.read(piece) else {
+        return Err(AskFault::Read);
+    };
+    if count == 0 {
+        return Err(AskFault::Read);
+    }
+    reply.give(&piece[..count])
 }
 
 #[cfg(test)]

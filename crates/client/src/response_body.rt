@@ -1,144 +1,220 @@
-ghost use Rattle.std.specs.Prelude.{◌≤◌, ◌+◌};
+ghost use Rattle.std.specs.Prelude.{◌≡◌, ◌≤◌, ◌<◌, ◌+◌, ◌*◌, ◌∷◌, [], ◌++◌, nat_lt, length, ℕ, List, IfOk, OnErr, IfErr};
+ghost use Rattle.client.specs.declared.framing.Framing.{Framing};
+ghost use Rattle.client.specs.ResponseBody.{Stands, GoesOn, IsBadBody, is_content, left_of, most_content, owed_by, spare_in, wanted_by};
 
 use crate::ask_fault::AskFault;
-use crate::response::Framing;
-use crate::transfer::fill;
+use crate::framing::{Framing, MAX_BODY_LEN};
+use crate::kept::Kept;
 use httparse::{Status, parse_chunk_size};
-use std::io::Read;
-
-/// The longest body that is read, in bytes. The lines of its chunks don't count.
-const MAX_BODY_LEN: usize = 1_048_576;
 
 /// The longest line of a chunk, with its CR LF.
-const MAX_CHUNK_LINE_LEN: usize = 64;
+const MAX_LINE_LEN: usize = 64;
 
 const LINE_END: &[u8] = b"\r\n";
 
-/// Where a reader stands in the body of a response.
-#[derive(Clone, Copy, Debug, PartialEq, Eq)]
-pub(crate) struct ResponseBody {
-    left: usize,
-    room: usize,
-    chunks: Chunks,
-    ghost within: { left + room ≤ 1048576 },
+/// What comes next in the body of a response.
+#[derive(Drop)]
+pub(crate) enum Next {
+    /// The line of a chunk, of which these bytes have come.
+    Line(Kept),
+    /// So many bytes of a chunk's data.
+    Data(usize),
+    /// CR LF behind the data of a chunk, of which these bytes have come.
+    End(Kept),
+    /// So many bytes, with which the body ends.
+    Last(usize),
 }
 
-/// Which chunk is read next.
-#[derive(Clone, Copy, Debug, PartialEq, Eq)]
-enum Chunks {
-    First,
-    /// One that follows another, behind whose bytes stands CR LF.
-    Later,
-    /// None: the last one was read, or the body has a length.
-    Done,
+/// How far the body of a response has come, and how many bytes of content it may still have.
+#[derive(Drop)]
+pub(crate) struct ResponseBody {
+    pub(crate) next: Next,
+    pub(crate) more: usize,
+    pub(crate) ghost some: { 1 ≤ spare_in next },
+    pub(crate) ghost within: { left_of next ≤ more },
 }
 
 impl ResponseBody {
-    ghost use Rattle.std.specs.Prelude.{◌≤◌};
-
-    /// The start of a body, which may have 1,048,576 bytes.
-    pub(crate) fn new(framing: Framing) -> Result<ResponseBody, AskFault> {
-        match framing {
-            Framing::Chunked => Ok(ResponseBody {
-                left: 0,
-                room: MAX_BODY_LEN,
-                chunks: Chunks::First,
-            }),
-            Framing::Length(len) => {
-                if len > MAX_BODY_LEN as u64 {
-                    return Err(AskFault::BadResponse);
-                }
-                Ok(ResponseBody {
-                    left: len as usize,
-                    room: 0,
-                    chunks: Chunks::Done,
-                })
-            }
-        }
-    }
-
-    /// How many bytes are left in the body or, if it is chunked, in the chunk.
-    pub(crate) fn left(&self) -> usize {
-        self.left
-    }
-
-    /// The most bytes that the body may still have.
-    pub(crate) fn most_left(&self) -> usize
-        ensures { result ≤ 1048576 }
+    /// The start of a body.
+    pub(crate) fn new(framing: Framing) -> ResponseBody
+        ensures stands { Stands framing [] [] result.next result.more }
+        ensures owed { owed_by result.next result.more ≤ 68 * most_content framing + 64 }
     {
-        self.left + self.room
+        match framing {
+            Framing::Chunked => in_chunks(),
+            Framing::Length(len) => of_length(len),
+        }
     }
 
-    /// Begins the next chunk where none of this one is left. Then nothing is left at the end of the body alone.
-    pub(crate) fn advance<R: Read>(&mut self, reader: &mut R) -> Result<(), AskFault> {
-        if self.left == 0 && self.chunks != Chunks::Done {
-            *self = self.next_chunk(reader)?;
+    /// How many bytes it takes at once, at most: none at its end.
+    pub(crate) fn wanted(&self) -> usize
+        ensures { result ≡ wanted_by self.now.next }
+    {
+        match &self.next {
+            Next::Line(_) => 1,
+            Next::Data(left) => *left,
+            Next::End(end) => 2 - end.len(),
+            Next::Last(left) => *left,
         }
-        Ok(())
     }
 
-    fn next_chunk<R: Read>(self, reader: &mut R) -> Result<ResponseBody, AskFault> {
-        if self.chunks == Chunks::Later {
-            skip_line_end(reader)?;
+    /// Whether the next bytes are content.
+    pub(crate) fn is_content(&self) -> bool
+        ensures { result ≡ is_content self.now.next }
+    {
+        match &self.next {
+            Next::Data(_) => true,
+            Next::Last(_) => true,
+            Next::Line(_) => false,
+            Next::End(_) => false,
         }
-        let len = chunk_len(reader)?;
-        if len > self.room as u64 {
-            return Err(AskFault::BadResponse);
+    }
+
+    /// Whether bytes of the chunk, or of the body by its length, are still to come.
+    pub(crate) fn has_left(&self) -> bool
+        ensures { result ≡ nat_lt 0 (left_of self.now.next) }
+    {
+        match &self.next {
+            Next::Data(left) => *left > 0,
+            Next::Last(left) => *left > 0,
+            Next::Line(_) => false,
+            Next::End(_) => false,
         }
-        let left = len as usize;
-        let chunks = if left == 0 {
-            Chunks::Done
-        } else {
-            Chunks::Later
+    }
+
+    /// The body with these bytes, or the fault that they show.
+    pub(crate) fn after(self, piece: &[u8]) -> Result<ResponseBody, AskFault>
+        requires some { 0 < length piece.now }
+        requires within { length piece.now ≤ wanted_by self.next }
+        ensures goes { IfOk result (λ body.
+            GoesOn self.next self.more piece.now body.next body.more) }
+        ensures fewer { IfOk result (λ body.
+            owed_by body.next body.more < owed_by self.next self.more) }
+        ensures fault { IfErr result (λ fault. fault ≡ AskFault.BadResponse) }
+        ensures bad { OnErr result ((framing : Framing) (bytes content : List ℕ)
+            → Stands framing bytes content self.next self.more
+            → IsBadBody framing (bytes ++ piece.now)) }
+    {
+        let ResponseBody { next, more } = self;
+        match next {
+            Next::Line(line) => after_line(line, more, piece[0]),
+            Next::Data(left) => Ok(after_data(left, more, piece)),
+            Next::End(end) => after_end(end, more, piece),
+            Next::Last(left) => Ok(ResponseBody {
+                next: Next::Last(left - piece.len()),
+                more: more - piece.len(),
+            }),
+        }
+    }
+}
+
+fn in_chunks() -> ResponseBody
+    ensures stands { Stands Framing.Chunked [] [] result.next result.more }
+    ensures owed { owed_by result.next result.more ≤ 68 * most_content Framing.Chunked + 64 }
+{
+    ResponseBody {
+        next: Next::Line(Kept::new()),
+        more: MAX_BODY_LEN,
+    }
+}
+
+fn of_length(len: usize) -> ResponseBody
+    ensures stands { Stands (Framing.Length len) [] [] result.next result.more }
+    ensures owed { owed_by result.next result.more ≤ 68 * len + 64 }
+{
+    ResponseBody {
+        next: Next::Last(len),
+        more: len,
+    }
+}
+
+/// The body behind some data of a chunk.
+fn after_data(left: usize, more: usize, piece: &[u8]) -> ResponseBody
+    requires some { 0 < length piece.now }
+    requires within { length piece.now ≤ left }
+    requires room { left ≤ more }
+    ensures goes { GoesOn (Next.Data left) more piece.now result.next result.more }
+    ensures fewer { owed_by result.next result.more < owed_by (Next.Data left) more }
+{
+    let more = more - piece.len();
+    if piece.len() == left {
+        return ResponseBody {
+            next: Next::End(Kept::new()),
+            more,
         };
-        Ok(ResponseBody {
-            left,
-            room: self.room - left,
-            chunks,
-        })
     }
+    ResponseBody {
+        next: Next::Data(left - piece.len()),
+        more,
+    }
+}
 
-    /// Fills the whole buffer with the next bytes of the body. A body that ends before is a bad response.
-    pub(crate) fn fill<R: Read>(
-        &mut self,
-        reader: &mut R,
-        bytes: &mut [u8],
-    ) -> Result<(), AskFault> {
-        let mut filled = 0;
-        while filled < bytes.len() {
-            self.advance(reader)?;
-            let count = self.left.min(bytes.len() - filled);
-            if count == 0 {
+/// The body behind one more byte of a chunk's line. It is read no further than to its first fault.
+fn after_line(mut line: Kept, more: usize, byte: u8) -> Result<ResponseBody, AskFault>
+    requires { length line < 64 }
+    ensures goes { IfOk result (λ body.
+        GoesOn (Next.Line line) more (byte ∷ []) body.next body.more) }
+    ensures fewer { IfOk result (λ body.
+        owed_by body.next body.more < owed_by (Next.Line line) more) }
+    ensures fault { IfErr result (λ fault. fault ≡ AskFault.BadResponse) }
+    ensures bad { OnErr result ((framing : Framing) (bytes content : List ℕ)
+        → Stands framing bytes content (Next.Line line) more
+        → IsBadBody framing (bytes ++ byte ∷ [])) }
+{
+    line.push(byte);
+    match parse_chunk_size(line.bytes()) {
+        Ok(Status::Complete((_, size))) => {
+            if size > more as u64 {
                 return Err(AskFault::BadResponse);
             }
-            fill(reader, &mut bytes[filled..filled + count])?;
-            self.left -= count;
-            filled += count;
+            if size == 0 {
+                return Ok(ResponseBody {
+                    next: Next::Last(0),
+                    more,
+                });
+            }
+            Ok(ResponseBody {
+                next: Next::Data(size as usize),
+                more,
+            })
         }
-        Ok(())
+        Ok(Status::Partial) => {
+            if line.len() == MAX_LINE_LEN {
+                return Err(AskFault::BadResponse);
+            }
+            Ok(ResponseBody {
+                next: Next::Line(line),
+                more,
+            })
+        }
+        Err(_) => Err(AskFault::BadResponse),
     }
 }
 
-fn skip_line_end<R: Read>(reader: &mut R) -> Result<(), AskFault> {
-    let mut end = [0u8; 2];
-    fill(reader, &mut end)?;
-    if end.as_slice() == LINE_END {
-        Ok(())
-    } else {
-        Err(AskFault::BadResponse)
+/// The body behind one or two bytes that stand behind the data of a chunk.
+fn after_end(mut end: Kept, more: usize, piece: &[u8]) -> Result<ResponseBody, AskFault>
+    requires some { 0 < length piece.now }
+    requires within { length end + length piece.now ≤ 2 }
+    ensures goes { IfOk result (λ body. GoesOn (Next.End end) more piece.now body.next body.more) }
+    ensures fewer { IfOk result (λ body.
+        owed_by body.next body.more < owed_by (Next.End end) more) }
+    ensures fault { IfErr result (λ fault. fault ≡ AskFault.BadResponse) }
+    ensures bad { OnErr result ((framing : Framing) (bytes content : List ℕ)
+        → Stands framing bytes content (Next.End end) more
+        → IsBadBody framing (bytes ++ piece.now)) }
+{
+    end.push_all(piece);
+    if end.len() < LINE_END.len() {
+        return Ok(ResponseBody {
+            next: Next::End(end),
+            more,
+        });
     }
-}
-
-/// Reads the line of a chunk, and no further than to its first fault.
-fn chunk_len<R: Read>(reader: &mut R) -> Result<u64, AskFault> {
-    let mut line = [0u8; MAX_CHUNK_LINE_LEN];
-    for at in 0..MAX_CHUNK_LINE_LEN {
-        fill(reader, &mut line[at..at + 1])?;
-        match parse_chunk_size(&line[..at + 1]) {
-            Ok(Status::Complete((_, len))) => return Ok(len),
-            Ok(Status::Partial) => {}
-            Err(_) => return Err(AskFault::BadResponse),
-        }
+    if end.bytes() != LINE_END {
+        return Err(AskFault::BadResponse);
     }
-    Err(AskFault::BadResponse)
+    Ok(ResponseBody {
+        next: Next::Line(Kept::new()),
+        more,
+    })
 }

@@ -1,10 +1,10 @@
-//! Whole texts through a reader or a writer. An error of any kind ends both at once, `Interrupted` too.
+//! A whole text through a writer. An error of any kind ends it at once, `Interrupted` too.
 
 ghost use Rattle.std.specs.Prelude.{◌≡◌, ℕ, take, length, OnOk, OnErr, IfErr};
 ghost use Rattle.std.specs.Io.KnownBytes.{Appends};
 
 use crate::ask_fault::AskFault;
-use std::io::{Read, Write};
+use std::io::Write;
 
 /// Writes the whole text and flushes it.
 pub(crate) fn send<W: Write>(writer: &mut W, text: &[u8]) -> Result<(), AskFault>
@@ -27,19 +27,4 @@ pub(crate) fn send<W: Write>(writer: &mut W, text: &[u8]) -> Result<(), AskFault
         Ok(()) => Ok(()),
         Err(_) => Err(AskFault::Write),
     }
-}
-
-/// Fills the whole buffer, and reads nothing more.
-pub(crate) fn fill<R: Read>(reader: &mut R, bytes: &mut [u8]) -> Result<(), AskFault> {
-    let mut filled = 0;
-    while filled < bytes.len() {
-        let Ok(count) = reader.read(&mut bytes[filled..]) else {
-            return Err(AskFault::Read);
-        };
-        if count == 0 {
-            return Err(AskFault::Read);
-        }
-        filled += count;
-    }
-    Ok(())
 }

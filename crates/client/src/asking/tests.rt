@@ -5,6 +5,7 @@ use test_support::same;
 mod bad_responses;
 mod bodies;
 mod chunks;
+mod cuts;
 mod faults;
 mod heads;
 mod memory;

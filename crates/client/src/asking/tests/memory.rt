@@ -74,8 +74,8 @@ impl Trial {
         input: &[u8],
         expected: &Result<Seen<'_>, AskFault>,
     ) -> Result<(), Fail> {
-        let scarcity = Scarcity::new(alloc, 32_768)?;
-        for steps in 0..1_200usize {
+        let scarcity = Scarcity::new(alloc, 49_152)?;
+        for steps in 0..3_000usize {
             let filler = scarcity.leave_steps(steps)?;
             let left = left_of(alloc, input, &mut self.written, expected);
             drop(filler);

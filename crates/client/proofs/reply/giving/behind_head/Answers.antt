@@ -1,0 +1,17 @@
+use Rattle.std.proofs.lemmas.Result.{IfOk-weaker}
+use Rattle.client.specs.declared.ask_fault.AskFault.TheVariants.{BadResponse}
+use Rattle.client.proofs.GivingLemmas.{begun_from}
+use Rattle.client.proofs.ReplyLemmas.{on_err}
+use Rattle.client.proofs.reply.giving.behind_head.Goals as goal
+
+pub returns-clause-ok : goal.returns-clause-ok
+returns-clause-ok c =
+    IfOk-weaker c.settled.result _ _ (λ stage told other is_head. told c.args.head.now other
+    (begun_from c.args.call.method c.args.call.most c.args.head.now c.in-Ok.framing c.new-3.result.next c.new-3.result.more c.new-2.result.items c.new.result
+    c.args.call.some is_head c.in-Ok.ensures.says c.new-3.ensures.stands c.new-2.ensures.items c.new.ensures)) c.settled.ensures.ok
+
+pub returns-clause-bad : goal.returns-clause-bad
+returns-clause-bad c = λ is is_head.
+    on_err c.settled.result BadResponse is c.settled.ensures.bad c.args.head.now
+    (begun_from c.args.call.method c.args.call.most c.args.head.now c.in-Ok.framing c.new-3.result.next c.new-3.result.more c.new-2.result.items c.new.result
+    c.args.call.some is_head c.in-Ok.ensures.says c.new-3.ensures.stands c.new-2.ensures.items c.new.ensures)
