@@ -34,7 +34,7 @@ fn told_of(answer: &Result<Told, AskFault>) -> Result<Seen<'_>, AskFault> {
 }
 
 /// What a call for the empty name over this input has to tell, and how many bytes it has to leave unread.
-fn expect(
+fn expect_asked(
     alloc: Global,
     input: &[u8],
     method: Method,
@@ -50,6 +50,19 @@ fn expect(
     let result = ask(alloc, &mut rest, &mut written, method, "", most);
     let found = (told_of(&result), rest.len());
     same(&found, &(*expected, unread), &(input.len(), method, most))
+}
+
+/// The same, and a response tells it however its bytes are cut.
+fn expect(
+    alloc: Global,
+    input: &[u8],
+    method: Method,
+    most: u32,
+    expected: &Result<Seen<'_>, AskFault>,
+    unread: usize,
+) -> Result<(), Fail> {
+    expect_asked(alloc, input, method, most, expected, unread)?;
+    cuts::expect_in_each_cut(alloc, input, method, most, expected, unread)
 }
 
 /// The same over these parts, one behind the other.
@@ -90,9 +103,9 @@ fn expect_at_each_cut(
     for len in 0..input.len() {
         let front = &input[..len];
         if len < needed {
-            expect(alloc, front, method, most, &Err(AskFault::Read), 0)?;
+            expect_asked(alloc, front, method, most, &Err(AskFault::Read), 0)?;
         } else {
-            expect(alloc, front, method, most, expected, len - needed)?;
+            expect_asked(alloc, front, method, most, expected, len - needed)?;
         }
     }
     let unread = input.len().saturating_sub(needed);

@@ -2,6 +2,7 @@
 
 use crate::tests::doors::{Changing, Stage};
 use crate::tests::kinds::{Kind, kinds};
+use crate::tests::runs::Scene;
 use crate::{Call, Door, Outcome, Turn};
 use desk_core::Setting;
 use std::alloc::Global;
@@ -27,11 +28,10 @@ impl Cutting {
     }
 }
 
-/// How a call went: what it sent, how many frames it counted, its outcome, and whether it was done.
+/// How a call went: what it sent, its outcome, and whether it was done.
 #[derive(Debug, Drop, PartialEq, Eq)]
 struct Course {
     sent: Vec<u8>,
-    frames: u32,
     outcome: Option<Outcome>,
     is_done: bool,
 }
@@ -71,18 +71,24 @@ fn step<D: Door>(call: &mut Call, door: &mut D, turn: Turn) -> bool {
     true
 }
 
-/// Drives a call to its end.
-fn drive(alloc: Global, kind: &Kind, cutting: Cutting) -> Result<Course, Fail> {
-    let Stage { catalogue, desk } = Stage::new(alloc, Setting::Up)?;
-    let mut door = Changing::new(desk, &catalogue, kind.scene.settings);
+/// Drives a call to its end, at a desk on which the empty name is set, and tells how many frames it counted.
+fn drive(
+    alloc: Global,
+    setting: Setting,
+    scene: &Scene,
+    input: &[u8],
+    cutting: Cutting,
+) -> Result<(Course, u32), Fail> {
+    let Stage { catalogue, desk } = Stage::new(alloc, setting)?;
+    let mut door = Changing::new(desk, &catalogue, scene.settings);
     let mut call = Call::new(alloc)?;
-    give(alloc, &mut call, kind.input, cutting);
+    give(alloc, &mut call, input, cutting);
     if call.is_whole() {
         call.answer(alloc, &mut door);
     }
     let mut sent = Vec::new(alloc);
     take(&mut call, &mut sent, cutting)?;
-    for turn in kind.scene.turns.iter().take(kind.scene.looks as usize) {
+    for turn in scene.turns.iter().take(scene.looks as usize) {
         if step(&mut call, &mut door, *turn) {
             take(&mut call, &mut sent, cutting)?;
         }
@@ -90,36 +96,70 @@ fn drive(alloc: Global, kind: &Kind, cutting: Cutting) -> Result<Course, Fail> {
     if step(&mut call, &mut door, Turn::End) {
         take(&mut call, &mut sent, cutting)?;
     }
-    Ok(Course {
+    let course = Course {
         sent,
-        frames: call.frames(),
         outcome: call.outcome(),
         is_done: call.is_done(),
-    })
+    };
+    Ok((course, call.frames()))
 }
 
-fn expect_course(alloc: Global, kind: &Kind, cutting: Cutting) -> Result<(), Fail> {
+/// Longer requests, of whose places there are more, come byte by byte alone.
+const MOST_PLACES: usize = 1_000;
+
+/// Drives a call with each cutting to the same response, and gives how many frames it counted each time.
+pub(super) fn expect_courses(
+    alloc: Global,
+    setting: Setting,
+    scene: &Scene,
+    input: &[u8],
+    response: &[u8],
+    outcome: Outcome,
+) -> Result<Vec<u32>, Fail> {
     let expected = Course {
-        sent: kind.response.to_vec(alloc)?,
-        frames: kind.frames_within(kind.response.len()),
-        outcome: Some(kind.outcome),
+        sent: response.to_vec(alloc)?,
+        outcome: Some(outcome),
         is_done: true,
     };
-    same(&drive(alloc, kind, cutting)?, &expected, &cutting)
+    let mut frames = Vec::new(alloc);
+    let longest = input.len().max(response.len());
+    let places = if longest < MOST_PLACES {
+        longest + 1
+    } else {
+        0
+    };
+    for place in 0..places {
+        let cutting = Cutting::InTwo(place);
+        let (course, count) = drive(alloc, setting, scene, input, cutting)?;
+        same(&course, &expected, &cutting)?;
+        frames.push(count)?;
+    }
+    let (course, count) = drive(alloc, setting, scene, input, Cutting::EachByte)?;
+    same(&course, &expected, &Cutting::EachByte)?;
+    frames.push(count)?;
+    Ok(frames)
 }
 
-/// In each place of the longer of the two.
-fn expect_courses(alloc: Global, kind: &Kind) -> Result<(), Fail> {
-    for place in 0..=kind.input.len().max(kind.response.len()) {
-        expect_course(alloc, kind, Cutting::InTwo(place))?;
+fn expect_frames(alloc: Global, kind: &Kind) -> Result<(), Fail> {
+    let Kind {
+        input,
+        scene,
+        response,
+        outcome,
+        ..
+    } = *kind;
+    let counts = expect_courses(alloc, Setting::Up, &scene, input, response, outcome)?;
+    let whole = kind.frames_within(response.len());
+    for count in &counts {
+        same(count, &whole, &outcome)?;
     }
-    expect_course(alloc, kind, Cutting::EachByte)
+    Ok(())
 }
 
 #[test]
 fn a_request_and_its_response_may_be_cut_anywhere(rt: HostRuntime) -> Result<(), Fail> {
     for kind in kinds() {
-        expect_courses(rt.alloc(), kind)?;
+        expect_frames(rt.alloc(), kind)?;
     }
     Ok(())
 }

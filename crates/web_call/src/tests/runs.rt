@@ -1,4 +1,5 @@
 use crate::tests::bells::Turns;
+use crate::tests::cutting::expect_courses;
 use crate::tests::doors::{Changing, Counted, Stage};
 use crate::{Door, ExchangeFault, Limits, Outcome, Tap, Turn, exchange};
 use desk_core::Setting;
@@ -76,7 +77,8 @@ pub(super) struct Expected<'a> {
     pub(super) rest: &'a [u8],
 }
 
-/// Answers an input at a desk that stands still, on which the empty name was registered and set.
+/// Answers an input at a desk that stands still, on which the empty name was registered and set. A call comes to the same, however
+/// the input and its response are cut.
 pub(super) fn expect_answer<A: Debug>(
     alloc: Global,
     input: &[u8],
@@ -91,7 +93,15 @@ pub(super) fn expect_answer<A: Debug>(
     let mut written = Vec::new(alloc);
     let run = exchange_over(alloc, &mut rest, &mut written, stage.door(), turns, looks);
     let found = (run, written.as_slice(), rest);
-    same(&found, &(expected.run, expected.written, expected.rest), at)
+    same(&found, &(expected.run, expected.written, expected.rest), at)?;
+    let scene = Scene {
+        settings: &[],
+        turns,
+        looks,
+    };
+    let outcome = run.result.map_err(|_| Fail::new("no outcome"))?;
+    expect_courses(alloc, setting, &scene, input, expected.written, outcome)?;
+    Ok(())
 }
 
 /// What a Watch meets: what the empty name is set to before each step, the turns of the bell, and the most Looks.

@@ -4,7 +4,7 @@ use super::*;
 const BAD: Result<Seen<'static>, AskFault> = Err(AskFault::BadResponse);
 
 /// Bodies that no response to a call has, and how many bytes of each are not read.
-pub(super) const BODIES: [(&[u8], usize); 21] = [
+const BODIES: [(&[u8], usize); 21] = [
     // the flag of a compressed message or of compressed trailers, or no flag
     (b"\x01\0\0\0\x02\x08\x01", 6),
     (b"\x81\0\0\0\x0fgrpc-status:0\r\n", 19),
@@ -69,7 +69,7 @@ const CHUNKS_WITHOUT_TRAILERS: [&[u8]; 2] = [
 ];
 
 /// Chunks that no body of a response to a call has, and how many bytes of each are not read.
-pub(super) const CHUNKS: [(&[u8], usize); 22] = [
+const CHUNKS: [(&[u8], usize); 22] = [
     // no size, and more digits than a size may have
     (b"x\r\n", 2),
     (b"\r\n", 1),

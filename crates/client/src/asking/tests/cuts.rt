@@ -1,7 +1,5 @@
 //! Responses that are given in pieces, cut anywhere.
 
-use super::bad_responses::{BODIES, CHUNKS};
-use super::responses::{CHUNKED, bytes_of, of_length};
 use super::*;
 use crate::reply::Reply;
 
@@ -61,8 +59,14 @@ fn expect_pieces(
     same(&found, &(*expected, unread), &(pieces.len(), method, most))
 }
 
+/// Longer responses, of whose places there are more, come byte by byte alone.
+const MOST_PLACES: usize = 1_000;
+
+/// Longer responses are not cut.
+const MOST_BYTES: usize = 10_000;
+
 /// Each cutting into two pieces, and one byte at a time.
-fn expect_in_each_cut(
+pub(super) fn expect_in_each_cut(
     alloc: Global,
     input: &[u8],
     method: Method,
@@ -70,34 +74,16 @@ fn expect_in_each_cut(
     expected: &Result<Seen<'_>, AskFault>,
     unread: usize,
 ) -> Result<(), Fail> {
+    if input.len() > MOST_BYTES {
+        return Ok(());
+    }
     let mut bytes = Vec::new(alloc);
-    for cut in 0..input.len() {
-        let (front, behind) = input.split_at(cut);
-        expect_pieces(alloc, &[front, behind], method, most, expected, unread)?;
-        bytes.push(&input[cut..cut + 1])?;
+    for place in 0..input.len() {
+        let (front, behind) = input.split_at(place);
+        if input.len() < MOST_PLACES {
+            expect_pieces(alloc, &[front, behind], method, most, expected, unread)?;
+        }
+        bytes.push(&input[place..place + 1])?;
     }
     expect_pieces(alloc, &bytes, method, most, expected, unread)
-}
-
-#[test]
-fn tells_the_same_in_whatever_pieces(rt: HostRuntime) -> Result<(), Fail> {
-    for &(input, method, most, told, needed) in &ANSWERS {
-        let unread = input.len().saturating_sub(needed);
-        expect_in_each_cut(rt.alloc(), input, method, most, &Ok(told), unread)?;
-    }
-    Ok(())
-}
-
-#[test]
-fn refuses_the_same_in_whatever_pieces(rt: HostRuntime) -> Result<(), Fail> {
-    let bad = Err(AskFault::BadResponse);
-    for &(body, unread) in &BODIES {
-        let input = of_length(rt.alloc(), body)?;
-        expect_in_each_cut(rt.alloc(), &input, Method::Watch, 1_000, &bad, unread)?;
-    }
-    for &(chunks, unread) in &CHUNKS {
-        let input = bytes_of(rt.alloc(), &[CHUNKED, chunks])?;
-        expect_in_each_cut(rt.alloc(), &input, Method::Check, 1, &bad, unread)?;
-    }
-    Ok(())
 }
