@@ -5,9 +5,11 @@ pub mod CacheLemmas
 pub mod CatalogueLemmas
 pub mod DeskLemmas
 pub mod HistoryLemmas
+pub mod KeptLemmas
 pub mod KeyLemmas
 pub mod LawfulLemmas
 pub mod LawLemmas
+pub mod OutcomeLemmas
 pub mod ReadingLemmas
 pub mod RefreshLemmas
 pub mod SlotLemmas

@@ -20,7 +20,7 @@ use Rattle.desk_core.specs.Status.{status_at}
 use Rattle.desk_core.specs.Board.{packed}
 use Rattle.desk_core.specs.Cache.{HasDependents, Leaves}
 
--- a desk: its journal, the oldest entry first, and how many entries it may have
+-- a desk: its whole journal, the oldest entry first, and how many entries it may have
 pub record State : Type 0 where
   pub journal : List Entry
   pub max_entries : ℕ

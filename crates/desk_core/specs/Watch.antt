@@ -1,5 +1,5 @@
 -- Watchers: after its first status (`shown`) each is told its service's later changes, each once and in order.
-use Rattle.std.specs.Prelude.{◌≡◌, ℕ, suc, ◌+◌, ◌==◌, Bool, Option, None, Some, List, [], ◌∷◌, ◌++◌, length, map, take, drop, reverse, slice_get, max, unwrap_or}
+use Rattle.std.specs.Prelude.{◌≡◌, ℕ, suc, ◌+◌, ◌<◌, ◌==◌, Bool, Option, None, Some, List, [], ◌∷◌, ◌++◌, length, map, take, drop, reverse, slice_get, max, unwrap_or}
 use Rattle.std.specs.List.{position, filter, find}
 use Rattle.std.specs.Option.{option_map, option_and_then}
 use Rattle.health_wire.specs.declared.serving.Serving.{Serving}
@@ -37,6 +37,11 @@ answer_of changes watch =
 abbrev pub cursor_after : List Change → WatchState → ℕ
 cursor_after changes watch =
     unwrap_or (option_map suc (next_change changes watch.slot watch.cursor)) (max watch.cursor (length changes))
+
+-- the watcher is before the oldest change that is kept, so that its next one may be forgotten; where all are kept none ever is
+abbrev pub IsBehind : Option ℕ → List Change → WatchState → Type 0
+IsBehind None changes watch = ⊥
+IsBehind (Some kept) changes watch = watch.cursor + kept < length changes
 
 -- a step of a watcher
 abbrev pub stepped : List Change → WatchState → Option Serving × WatchState

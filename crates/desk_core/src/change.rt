@@ -1,5 +1,4 @@
-ghost use Rattle.std.specs.Prelude.{◌≡◌, ◌+◌, ◌%◌, ◌<◌, ◌≤◌, [], ◌∷◌, ◌++◌, if◌then◌else◌, unwrap_or};
-ghost use Rattle.std.specs.Vec.{vec_len, vec_capacity};
+ghost use Rattle.std.specs.Prelude.{◌≡◌, ◌+◌, ◌%◌, ◌<◌, ◌≤◌, ◌^◌, [], ◌∷◌, ◌++◌, length, if◌then◌else◌, unwrap_or};
 ghost use Rattle.health_wire.specs.declared.serving.Serving.TheVariants.{ServiceUnknown};
 ghost use Rattle.desk_core.specs.Board.{status_of_code};
 ghost use Rattle.desk_core.specs.Changes.{is_same, changed};
@@ -8,6 +7,7 @@ ghost use Rattle.desk_core.specs.Slots.{shown_in};
 use crate::slot::Slot;
 use crate::statuses::{Statuses, status_of_code};
 use health_wire::Serving;
+use tail::Tail;
 
 /// What one entry changed for a service's watchers: from it on, until the service's next change, it is shown with this
 /// status, and just before it with another.
@@ -21,9 +21,11 @@ pub struct Change {
 
 /// Lists the slots that are shown otherwise after the entry at this place than before it. It looks at the words from the
 /// first slot up, as long as what is left of them differs.
-pub(crate) fn tell(changes: &mut Vec<Change>, at: u32, before: Statuses, after: Statuses)
-    requires { vec_len changes.old + 16 ≤ vec_capacity changes.old }
-    ensures { changes.new.items ≡ changes.old.items ++ changed at (shown_in before) (shown_in after) 16 }
+pub(crate) fn tell(changes: &mut Tail<Change>, at: u32, before: Statuses, after: Statuses)
+    requires room { 16 ≤ changes.old.room }
+    requires few { length changes.old.items + 16 < 2 ^ 63 }
+    ensures kept { changes.new.keep ≡ changes.old.keep }
+    ensures told { changes.new.items ≡ changes.old.items ++ changed at (shown_in before) (shown_in after) 16 }
 {
     let mut old = before.word();
     let mut new = after.word();
@@ -45,11 +47,13 @@ fn first_shown(word: u32) -> Serving
 }
 
 /// Lists the slot if it is shown otherwise than before.
-fn tell_slot(changes: &mut Vec<Change>, at: u32, slot: Slot, before: Serving, after: Serving)
-    requires { vec_len changes.old < vec_capacity changes.old }
+fn tell_slot(changes: &mut Tail<Change>, at: u32, slot: Slot, before: Serving, after: Serving)
+    requires room { 0 < changes.old.room }
+    requires few { length changes.old.items + 1 < 2 ^ 63 }
     ensures told { changes.new.items ≡ changes.old.items ++ (if is_same before after then [] else record { at = at; slot = slot; status = after } ∷ []) }
-    ensures len { vec_len changes.new ≤ vec_len changes.old + 1 }
-    ensures capacity { vec_capacity changes.old ≤ vec_capacity changes.new }
+    ensures len { length changes.new.items ≤ length changes.old.items + 1 }
+    ensures room { changes.old.room ≤ changes.new.room + 1 }
+    ensures kept { changes.new.keep ≡ changes.old.keep }
 {
     if is_same(before, after) {
         return;
@@ -59,7 +63,7 @@ fn tell_slot(changes: &mut Vec<Change>, at: u32, slot: Slot, before: Serving, af
         slot,
         status: after,
     };
-    changes.push(change).unwrap();
+    changes.push(change);
 }
 
 fn is_same(a: Serving, b: Serving) -> bool

@@ -5,6 +5,7 @@ use crate::call::{Call, Finding, Setting};
 use crate::change::{Change, shown};
 use crate::entry::Entry;
 use crate::history::History;
+use crate::keep::{Keep, KeepAll};
 use crate::lawful::is_lawful_call;
 use crate::refusal::Refusal;
 use crate::registered::{Handed, Registered};
@@ -12,33 +13,36 @@ use crate::reply::{Reply, reply_to_event, reply_to_register, reply_to_retire};
 use crate::slot::Slot;
 use crate::slots::Slots;
 use crate::statuses::Statuses;
-use crate::watch::Watch;
+use crate::watch::{Behind, Watch};
 use health_wire::Serving;
 use probe_core::{Probe, Rule};
 use std::alloc::Global;
-use std::marker::Model;
+use std::marker::{Model, PhantomData};
 
-/// The registry of one thread: it owns the probes of sixteen slots, and the journal of all changes.
+/// The registry of one thread: it owns the probes of sixteen slots, and the journal of all changes, of which it keeps as many as
+/// `K` says. What it has forgotten shows in `journal_kept` and `step_kept` alone.
 #[derive(Drop)]
-pub struct Desk<P: Probe> {
+pub struct Desk<P: Probe, K: Keep = KeepAll> {
     slots: Slots<P>,
     is_shut: bool,
     history: History,
     max_entries: u32,
+    keep: PhantomData<K>,
 }
 
-impl<P: Probe> Model for Desk<P> {
+impl<P: Probe, K: Keep> Model for Desk<P, K> {
+    ghost use Rattle.std.specs.Prelude.{◌≡◌};
     ghost use Rattle.desk_core.specs.Desk.{State, IsDesk};
 
     ghost Value = { State };
 
     ghost view = { λ desk. record { journal = desk.history.journal.items; max_entries = desk.max_entries } };
 
-    ghost invariant = { λ desk. IsDesk desk.slots.places.items desk.is_shut desk.history.journal.items desk.history.changes.items desk.history.cache.statuses desk.history.cache.dependents desk.max_entries };
+    ghost invariant = { λ desk. IsDesk desk.slots.places.items desk.is_shut desk.history.journal.items desk.history.changes.items desk.history.cache.statuses desk.history.cache.dependents desk.max_entries × (desk.history.journal.keep ≡ K.kept) × (desk.history.changes.keep ≡ K.kept) };
 }
 
-impl<P: Probe> Desk<P> {
-    ghost use Rattle.std.specs.Prelude.{◌≡◌, ◌<◌, ◌≤◌, ℕ, [], length, None, Ok, Err, IfSome, IfNone, IfOk, IfErr, MatchResult};
+impl<P: Probe, K: Keep> Desk<P, K> {
+    ghost use Rattle.std.specs.Prelude.{◌≡◌, ◌<◌, ◌≤◌, ◌*◌, ◌↔◌, ℕ, [], length, None, Ok, Err, IfSome, IfNone, IfOk, IfErr, IsErr, OnOk, OnErr, MatchResult};
     ghost use Rattle.std.specs.Option.{option_map};
     ghost use Rattle.desk_core.specs.Past.{past};
     ghost use Rattle.desk_core.specs.Mutation.{rule_of};
@@ -47,29 +51,36 @@ impl<P: Probe> Desk<P> {
     ghost use Rattle.desk_core.specs.Legal.{IsLegal, IsLawfulCall};
     ghost use Rattle.desk_core.specs.Status.{checked, shown};
     ghost use Rattle.desk_core.specs.Changes.{changes_of};
-    ghost use Rattle.desk_core.specs.Watch.{opened, stepped};
+    ghost use Rattle.desk_core.specs.Watch.{IsBehind, opened, stepped};
+    ghost use Rattle.tail.specs.Tail.{kept_of, most_held};
     ghost use Rattle.desk_core.specs.Board.{board_of};
     ghost use Rattle.desk_core.specs.Desk.{HasAnswered, probe_at, probe_of};
 
     /// An empty desk, whose journal takes at most so many entries. It takes no memory yet.
-    pub fn new(alloc: Global, max_entries: u32) -> Desk<P>
+    pub fn new(alloc: Global, max_entries: u32) -> Desk<P, K>
         ensures { result ≡ record { journal = []; max_entries = max_entries } }
     {
         Desk {
             slots: Slots::new(alloc),
             is_shut: false,
-            history: History::new(alloc),
+            history: History::new(alloc, K::kept()),
             max_entries,
+            keep: PhantomData,
         }
     }
 
-    /// All entries, the oldest first.
-    pub fn journal(&self) -> &[Entry]
-        ensures entries { result.now ≡ self.now.journal }
-        ensures legal { IsLegal (past result.now) }
-        ensures room { length result.now ≤ self.now.max_entries }
+    /// The entries that are kept, the oldest first.
+    pub fn journal_kept(&self) -> &[Entry]
+        ensures { result.now ≡ kept_of K.kept self.now.journal }
     {
         self.history.journal()
+    }
+
+    /// For how many entries and changes there is memory.
+    pub fn capacity(&self) -> usize
+        ensures { IfSome K.kept (λ kept. result ≤ 2 * most_held kept) }
+    {
+        self.history.capacity()
     }
 
     /// Makes a change, with the probe that it registers, in its opening state, if it registers one. Gives back the probe that it
@@ -109,7 +120,7 @@ impl<P: Probe> Desk<P> {
         if !is_lawful_call(call) {
             return Some(Refusal::BadRule);
         }
-        if self.history.journal().len() >= self.max_entries as usize {
+        if self.history.len() >= u64::from(self.max_entries) {
             return Some(Refusal::Full);
         }
         None
@@ -218,7 +229,7 @@ impl<P: Probe> Desk<P> {
         ensures legal { IsLegal (past self.now.journal) }
         ensures room { length self.now.journal ≤ self.now.max_entries }
     {
-        word_of(self.history.journal().len(), self.history.statuses())
+        word_of(self.history.len(), self.history.statuses())
     }
 
     /// The same as `board`, with the statuses computed anew from all probes. It is there to be compared with.
@@ -226,10 +237,7 @@ impl<P: Probe> Desk<P> {
         ensures word { result ≡ board_of (past self.now.journal) }
         ensures legal { IsLegal (past self.now.journal) }
     {
-        word_of(
-            self.history.journal().len(),
-            self.slots.statuses(self.is_shut),
-        )
+        word_of(self.history.len(), self.slots.statuses(self.is_shut))
     }
 
     /// What is shown of the slot now, or of a name that has none, and a watch of what changes from now on.
@@ -243,6 +251,35 @@ impl<P: Probe> Desk<P> {
         (watch, status)
     }
 
+    /// The same as `step`, unless the watch is behind: then it stays as it is, and is behind for good.
+    pub fn step_kept(&self, watch: &mut Watch) -> Result<Option<Serving>, Behind>
+        ensures status { IfOk result (λ status. status ≡ (stepped (changes_of (past self.now.journal)) watch.old).0) }
+        ensures watch { OnOk result (watch.new ≡ (stepped (changes_of (past self.now.journal)) watch.old).1) }
+        ensures behind { IsErr result ↔ IsBehind K.kept (changes_of (past self.now.journal)) watch.old }
+        ensures stays { OnErr result (watch.new ≡ watch.old) }
+        ensures legal { IsLegal (past self.now.journal) }
+    {
+        watch.step(self.history.changes())
+    }
+}
+
+/// What a desk that keeps all can tell.
+impl<P: Probe> Desk<P, KeepAll> {
+    ghost use Rattle.std.specs.Prelude.{◌≡◌, ◌≤◌, length};
+    ghost use Rattle.desk_core.specs.Past.{past};
+    ghost use Rattle.desk_core.specs.Legal.{IsLegal};
+    ghost use Rattle.desk_core.specs.Changes.{changes_of};
+    ghost use Rattle.desk_core.specs.Watch.{stepped};
+
+    /// All entries, the oldest first.
+    pub fn journal(&self) -> &[Entry]
+        ensures entries { result.now ≡ self.now.journal }
+        ensures legal { IsLegal (past result.now) }
+        ensures room { length result.now ≤ self.now.max_entries }
+    {
+        self.history.journal()
+    }
+
     /// Answers the next change of the watch's service and moves the watch past it, or to the end of the changes where there is
     /// none. It passes over the changes of other services, which is what it costs. A watch of another desk is answered by the
     /// changes of this one.
@@ -251,7 +288,10 @@ impl<P: Probe> Desk<P> {
         ensures watch { watch.new ≡ (stepped (changes_of (past self.now.journal)) watch.old).1 }
         ensures legal { IsLegal (past self.now.journal) }
     {
-        watch.step(self.history.changes())
+        match self.step_kept(watch) {
+            Ok(status) => status,
+            Err(Behind) => unreachable!(),
+        }
     }
 
     /// What the entries of the journal changed for watchers, the oldest first, and for one entry by slot.
@@ -259,7 +299,7 @@ impl<P: Probe> Desk<P> {
         ensures changes { result.now ≡ changes_of (past self.now.journal) }
         ensures legal { IsLegal (past self.now.journal) }
     {
-        self.history.changes()
+        self.history.changes().kept()
     }
 }
 
@@ -274,9 +314,9 @@ fn shut_after(is_shut: bool, call: &Call) -> bool
     }
 }
 
-fn word_of(entries: usize, statuses: Statuses) -> u64
+fn word_of(entries: u64, statuses: Statuses) -> u64
     requires { entries < 2 ^ 32 }
     ensures { result ≡ entries * 2 ^ 32 + statuses }
 {
-    ((entries as u64) << 32) + u64::from(statuses.word())
+    (entries << 32) + u64::from(statuses.word())
 }

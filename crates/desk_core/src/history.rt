@@ -11,47 +11,67 @@ use crate::slots::Slots;
 use crate::statuses::Statuses;
 use probe_core::{Probe, memory_tells_status};
 use std::alloc::{AllocError, Global};
+use tail::Tail;
 
 /// The journal of all changes, what they changed for watchers, and the statuses that they led to.
 #[derive(Drop)]
 pub(crate) struct History {
-    journal: Vec<Entry>,
-    changes: Vec<Change>,
+    journal: Tail<Entry>,
+    changes: Tail<Change>,
     cache: Cache,
 }
 
 impl History {
-    ghost use Rattle.std.specs.Prelude.{◌≡◌, ◌+◌, ◌^◌, ◌<◌, ◌≤◌, [], ◌∷◌, ◌++◌, length, replicate, IfOk, OnOk, OnErr};
-    ghost use Rattle.std.specs.Vec.{vec_len, vec_capacity};
+    ghost use Rattle.std.specs.Prelude.{◌≡◌, ◌+◌, ◌*◌, ◌^◌, ◌<◌, ◌≤◌, ℕ, Some, [], ◌∷◌, ◌++◌, length, replicate, IfOk, OnOk, OnErr};
     ghost use Rattle.desk_core.specs.Cache.{IsRelated};
     ghost use Rattle.desk_core.specs.Changes.{changed};
     ghost use Rattle.desk_core.specs.Mutation.{entry_of};
     ghost use Rattle.desk_core.specs.Slots.{shown_in, touched};
     ghost use Rattle.desk_core.specs.Desk.{IsShown};
+    ghost use Rattle.tail.specs.Tail.{kept_of, most_held};
 
-    pub(crate) fn new(alloc: Global) -> History
+    /// An empty one, which keeps so many entries and changes, or all.
+    pub(crate) fn new(alloc: Global, keep: Option<u32>) -> History
         ensures journal { result.journal.items ≡ [] }
         ensures changes { result.changes.items ≡ [] }
         ensures statuses { result.cache.statuses ≡ 0 }
         ensures dependents { result.cache.dependents ≡ replicate 16 0 }
+        ensures kept { (result.journal.keep ≡ keep) × (result.changes.keep ≡ keep) }
     {
         History {
-            journal: Vec::new(alloc),
-            changes: Vec::new(alloc),
+            journal: Tail::new(alloc, keep),
+            changes: Tail::new(alloc, keep),
             cache: Cache::new(),
         }
     }
 
-    pub(crate) fn journal(&self) -> &[Entry]
-        ensures { result.now ≡ self.now.journal.items }
+    /// How many entries there are.
+    pub(crate) fn len(&self) -> u64
+        ensures { result ≡ length self.now.journal.items }
     {
-        self.journal.as_slice()
+        self.journal.len()
     }
 
-    pub(crate) fn changes(&self) -> &[Change]
-        ensures { result.now ≡ self.now.changes.items }
+    /// The entries that are kept.
+    pub(crate) fn journal(&self) -> &[Entry]
+        ensures { result.now ≡ kept_of self.now.journal.keep self.now.journal.items }
     {
-        self.changes.as_slice()
+        self.journal.kept()
+    }
+
+    pub(crate) fn changes(&self) -> &Tail<Change>
+        ensures { result.now ≡ self.now.changes }
+    {
+        &self.changes
+    }
+
+    /// For how many entries and changes there is memory.
+    pub(crate) fn capacity(&self) -> usize
+        ensures { (kept : ℕ) → self.now.journal.keep ≡ Some kept → self.now.changes.keep ≡ Some kept → result ≤ 2 * most_held kept }
+    {
+        self.journal
+            .capacity()
+            .saturating_add(self.changes.capacity())
     }
 
     pub(crate) fn statuses(&self) -> Statuses
@@ -68,18 +88,22 @@ impl History {
         ensures err { OnErr result (self.new.journal.items ≡ self.old.journal.items) }
         ensures changes { self.new.changes.items ≡ self.old.changes.items }
         ensures cache { self.new.cache ≡ self.old.cache }
-        ensures room { OnOk result (vec_len self.new.changes + 16 ≤ vec_capacity self.new.changes) }
+        ensures room { OnOk result (16 ≤ self.new.changes.room) }
+        ensures kept { (self.new.journal.keep ≡ self.old.journal.keep) × (self.new.changes.keep ≡ self.old.changes.keep) }
     {
         let at = self.journal.len() as u32;
         self.changes.reserve(usize::from(Slot::COUNT))?;
-        self.journal.push(Entry { seat, call, reply })?;
+        self.journal.reserve(1)?;
+        self.journal.push(Entry { seat, call, reply });
         Ok(at)
     }
 
     /// Computes anew the statuses that the call touched, and those of the slots that depend on them, and lists what the entry at
     /// this place changed.
     pub(crate) fn show<P: Probe>(&mut self, slots: &Slots<P>, is_shut: bool, call: &Call, at: u32)
-        requires { vec_len self.old.changes + 16 ≤ vec_capacity self.old.changes }
+        requires room { 16 ≤ self.old.changes.room }
+        requires few { length self.old.changes.items + 16 < 2 ^ 63 }
+        ensures kept { (self.new.journal.keep ≡ self.old.journal.keep) × (self.new.changes.keep ≡ self.old.changes.keep) }
         ensures journal { self.new.journal.items ≡ self.old.journal.items }
         ensures changes { self.new.changes.items ≡ self.old.changes.items ++ changed at (shown_in self.old.cache.statuses) (shown_in self.new.cache.statuses) 16 }
         ensures statuses { IsShown (touched call.now) slots.now.places.items is_shut self.new.cache.dependents self.old.cache.statuses self.new.cache.statuses }

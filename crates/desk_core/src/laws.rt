@@ -1,17 +1,22 @@
-ghost use Rattle.std.specs.Prelude.{◌≡◌, ◌<◌, ◌≤◌, ◌↔◌, if◌then◌else◌, List, ℕ, Option, take, Some, None, true, false, [], ◌∷◌, ◌++◌, length, All, Contains};
+ghost use Rattle.std.specs.Prelude.{◌≡◌, ◌<◌, ◌≤◌, ◌↔◌, ◌⊎◌, if◌then◌else◌, List, ℕ, Option, Result, Err, take, Some, None, true, false, [], ◌∷◌, ◌++◌, length, All, Contains};
 ghost use Rattle.std.specs.List.{last_or};
 ghost use Rattle.desk_core.specs.declared.call.Call.{Call};
 ghost use Rattle.desk_core.specs.declared.call.Call.TheVariants.{Shutdown, Resume};
 ghost use Rattle.desk_core.specs.declared.entry.Entry.{Entry};
 ghost use Rattle.desk_core.specs.declared.change.Change.{Change};
+ghost use Rattle.desk_core.specs.declared.refusal.Refusal.{Refusal};
+ghost use Rattle.desk_core.specs.declared.refusal.Refusal.TheVariants.{NoMemory};
+ghost use Rattle.desk_core.specs.declared.reply.Reply.{Reply};
 ghost use Rattle.desk_core.specs.Past.{past};
 ghost use Rattle.desk_core.specs.Shut.{is_shut, says_shut};
 ghost use Rattle.desk_core.specs.Heard.{heard};
 ghost use Rattle.desk_core.specs.Status.{status_at, serving_if, shown, AllServe};
 ghost use Rattle.desk_core.specs.Present.{rule_at};
+ghost use Rattle.desk_core.specs.Mutation.{IsAnswered};
 ghost use Rattle.desk_core.specs.Reply.{reply_to};
+ghost use Rattle.tail.specs.Tail.{forgotten};
 ghost use Rattle.desk_core.specs.Changes.{changes_of};
-ghost use Rattle.desk_core.specs.Watch.{WatchState, IsOlder, GoOn, last_of, opened, answer_of, cursor_after, told, walk, cursor_past, story, last_told};
+ghost use Rattle.desk_core.specs.Watch.{WatchState, IsBehind, IsOlder, GoOn, last_of, opened, answer_of, cursor_after, told, walk, cursor_past, story, last_told};
 ghost use Rattle.health_wire.specs.declared.serving.Serving.{Serving};
 ghost use Rattle.health_wire.specs.declared.serving.Serving.TheVariants.{Unknown, Serving as IsServing};
 ghost use Rattle.probe_core.specs.declared.event.Event.{Event};
@@ -122,4 +127,18 @@ pub fn watchers_end_up_right()
         → let now : List Entry = last_of entries later in
         last_or None (shown entries (Some slot) ∷ story (changes_of now) (Some slot) (length (changes_of entries)) (length (changes_of now)))
         ≡ Some (shown now (Some slot)) }
+{}
+
+/// A history, and a change that is asked for, have one outcome, whatever else a registry keeps of them: where two registries with this
+/// history are asked, and memory ran out for neither, they answer the same, and have the same history afterwards.
+pub fn one_outcome()
+    ensures { (most seat : ℕ) (before after other : List Entry) (call : Option Call) (result another : Result Reply Refusal)
+        → IsAnswered most seat before after call result → IsAnswered most seat before other call another
+        → (result ≡ Err NoMemory) ⊎ (another ≡ Err NoMemory) ⊎ ((result ≡ another) × (after ≡ other)) }
+{}
+
+/// A watch that is not behind has its next change among those that are kept: the changes from its cursor on are a part of them.
+pub fn kept_changes_suffice()
+    ensures { (kept : Option ℕ) (changes : List Change) (watch : WatchState) → (IsBehind kept changes watch → ⊥)
+        → forgotten kept (length changes) ≤ watch.cursor }
 {}

@@ -9,6 +9,7 @@ mod change;
 mod desk;
 mod entry;
 mod history;
+mod keep;
 mod lawful;
 mod laws;
 mod name;
@@ -30,10 +31,11 @@ pub use catalogue::{Catalogue, CatalogueFault};
 pub use change::Change;
 pub use desk::Desk;
 pub use entry::Entry;
+pub use keep::{Keep, KeepAll, KeepMany};
 pub use laws::{
-    changes_grow, depends_on_all, events_decide, faultless_names, last_call_decides,
-    last_change_is_shown, legal_fronts, legal_growth, slots_and_names, steps_leave_none_out,
-    walks_tell_the_story, watchers_end_up_right,
+    changes_grow, depends_on_all, events_decide, faultless_names, kept_changes_suffice,
+    last_call_decides, last_change_is_shown, legal_fronts, legal_growth, one_outcome,
+    slots_and_names, steps_leave_none_out, walks_tell_the_story, watchers_end_up_right,
 };
 pub use name::Name;
 pub use order::Order;
@@ -42,7 +44,7 @@ pub use registered::{Handed, Registered};
 pub use registrar::{Registrar, carry_out};
 pub use reply::Reply;
 pub use slot::Slot;
-pub use watch::Watch;
+pub use watch::{Behind, Watch};
 
 #[cfg(test)]
 mod tests;

@@ -12,6 +12,7 @@ mod board;
 mod cached;
 mod counted;
 mod desks;
+mod keeping;
 mod memory;
 mod registering;
 mod rows;

@@ -5,6 +5,11 @@ use crate::change::Change;
 use crate::slot::Slot;
 use health_wire::Serving;
 use std::marker::Model;
+use tail::Tail;
+
+/// The watch is before the oldest change that is kept, so that its next one may be forgotten.
+#[derive(Clone, Copy, Debug, PartialEq, Eq)]
+pub struct Behind;
 
 /// A watcher of a service, or of a name that has no slot: it is told each later change once, in order.
 #[derive(Debug, Drop)]
@@ -23,13 +28,13 @@ impl Model for Watch {
 }
 
 impl Watch {
-    ghost use Rattle.std.specs.Prelude.{◌≡◌, length};
-    ghost use Rattle.desk_core.specs.Watch.{opened, answer_of, stepped};
+    ghost use Rattle.std.specs.Prelude.{◌≡◌, ◌↔◌, length, IsErr, IfOk, OnOk, OnErr};
+    ghost use Rattle.desk_core.specs.Watch.{IsBehind, opened, answer_of, stepped};
 
-    pub(crate) fn new(changes: &[Change], slot: Option<Slot>) -> Watch
-        ensures { result ≡ opened changes.now slot }
+    pub(crate) fn new(changes: &Tail<Change>, slot: Option<Slot>) -> Watch
+        ensures { result ≡ opened changes.now.items slot }
     {
-        let start = changes.len() as u64;
+        let start = changes.len();
         Watch {
             slot,
             start,
@@ -57,32 +62,35 @@ impl Watch {
         self.cursor
     }
 
-    /// Answers the service's next change, and moves past it.
-    pub(crate) fn step(&mut self, changes: &[Change]) -> Option<Serving>
-        ensures status { result ≡ answer_of changes.now self.old }
-        ensures watch { self.new ≡ (stepped changes.now self.old).1 }
+    /// Answers the service's next change, and moves past it, or to the end of the changes where there is none.
+    pub(crate) fn step(&mut self, changes: &Tail<Change>) -> Result<Option<Serving>, Behind>
+        ensures status { IfOk result (λ status. status ≡ answer_of changes.now.items self.old) }
+        ensures watch { OnOk result (self.new ≡ (stepped changes.now.items self.old).1) }
+        ensures behind { IsErr result ↔ IsBehind changes.now.keep changes.now.items self.old }
+        ensures stays { OnErr result (self.new ≡ self.old) }
     {
-        match next_change(changes, self.slot, self.cursor) {
+        let len = changes.len();
+        let Some(rest) = changes.since(self.cursor) else {
+            return Err(Behind);
+        };
+        match next_in(rest, self.slot) {
             Some(place) => {
-                self.cursor = place as u64 + 1;
-                Some(changes[place].status)
+                self.cursor += place as u64 + 1;
+                Ok(Some(rest[place].status))
             }
             None => {
-                self.cursor = self.cursor.max(changes.len() as u64);
-                None
+                self.cursor = self.cursor.max(len);
+                Ok(None)
             }
         }
     }
 }
 
-/// The place of the slot's first change that is not before the cursor.
-fn next_change(changes: &[Change], slot: Option<Slot>, cursor: u64) -> Option<usize>
-    ensures { result ≡ next_change changes.now slot cursor }
+/// The place of the slot's first change; a watcher of no slot has none.
+fn next_in(rest: &[Change], slot: Option<Slot>) -> Option<usize>
+    ensures { result ≡ next_change rest.now slot 0 }
 {
-    let slot = slot?;
-    let cursor = cursor as usize;
-    let place = first_of(changes.get(cursor..)?, slot)?;
-    Some(cursor + place)
+    first_of(rest, slot?)
 }
 
 fn first_of(changes: &[Change], slot: Slot) -> Option<usize>

@@ -4,12 +4,12 @@ ghost use Rattle.desk_core.specs.Mutation.{entry_of};
 use crate::gate::{enter, finish, leave};
 use crate::hall::Hall;
 use crate::seat::Seat;
-use desk_core::{Call, Entry, Finding, Handed, Refusal, Registered, Reply, Setting};
+use desk_core::{Call, Entry, Finding, Handed, Keep, Refusal, Registered, Reply, Setting};
 use probe_core::Probe;
 use std::sync::Wait;
 
 /// The changes. Each waits for the seat's turn, but that of a name that is not listed.
-impl<P: Probe> Hall<P> {
+impl<P: Probe, K: Keep> Hall<P, K> {
     ghost use Rattle.std.specs.Prelude.{◌≡◌, None, Some, Ok, Err, IfSome, IfOk, IfErr, MatchResult, drop};
     ghost use Rattle.std.specs.Option.{option_map};
     ghost use Rattle.desk_core.specs.declared.call.Call.TheVariants as calls;
@@ -24,7 +24,7 @@ impl<P: Probe> Hall<P> {
     pub fn change<R: Wait>(
         &self,
         rt: &R,
-        seat: &mut Seat<P>,
+        seat: &mut Seat<P, K>,
         call: Option<Call>,
         probe: Option<P>,
     ) -> Result<(Reply, Option<P>), (Refusal, Option<P>)>
@@ -57,7 +57,7 @@ impl<P: Probe> Hall<P> {
     pub fn register<R: Wait>(
         &self,
         rt: &R,
-        seat: &mut Seat<P>,
+        seat: &mut Seat<P, K>,
         name: &str,
         probe: P,
     ) -> Result<Registered<P>, Handed<P>>
@@ -84,7 +84,7 @@ impl<P: Probe> Hall<P> {
     pub fn retire<R: Wait>(
         &self,
         rt: &R,
-        seat: &mut Seat<P>,
+        seat: &mut Seat<P, K>,
         name: &str,
     ) -> Result<(Reply, Option<P>), Refusal>
         requires { IsOf self.now seat.old }
@@ -102,7 +102,7 @@ impl<P: Probe> Hall<P> {
     pub fn observe<R: Wait>(
         &self,
         rt: &R,
-        seat: &mut Seat<P>,
+        seat: &mut Seat<P, K>,
         name: &str,
         finding: Finding,
     ) -> Result<Reply, Refusal>
@@ -120,7 +120,7 @@ impl<P: Probe> Hall<P> {
     pub fn set<R: Wait>(
         &self,
         rt: &R,
-        seat: &mut Seat<P>,
+        seat: &mut Seat<P, K>,
         name: &str,
         setting: Setting,
     ) -> Result<Reply, Refusal>
@@ -135,7 +135,7 @@ impl<P: Probe> Hall<P> {
     }
 
     /// Shows every registered service as not serving, until the next resume.
-    pub fn shutdown<R: Wait>(&self, rt: &R, seat: &mut Seat<P>) -> Result<Reply, Refusal>
+    pub fn shutdown<R: Wait>(&self, rt: &R, seat: &mut Seat<P, K>) -> Result<Reply, Refusal>
         requires { IsOf self.now seat.old }
         ensures answered { IsCarriedOut seat.old seat.new (Some calls.Shutdown) result }
     {
@@ -143,7 +143,7 @@ impl<P: Probe> Hall<P> {
     }
 
     /// Takes every probe back to its opening state, also where nothing was shut down.
-    pub fn resume<R: Wait>(&self, rt: &R, seat: &mut Seat<P>) -> Result<Reply, Refusal>
+    pub fn resume<R: Wait>(&self, rt: &R, seat: &mut Seat<P, K>) -> Result<Reply, Refusal>
         requires { IsOf self.now seat.old }
         ensures answered { IsCarriedOut seat.old seat.new (Some calls.Resume) result }
     {
@@ -154,7 +154,7 @@ impl<P: Probe> Hall<P> {
     fn make<R: Wait>(
         &self,
         rt: &R,
-        seat: &mut Seat<P>,
+        seat: &mut Seat<P, K>,
         call: Option<Call>,
     ) -> Result<Reply, Refusal>
         requires ours { IsOf self.now seat.old }

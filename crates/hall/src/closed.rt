@@ -8,26 +8,26 @@ use crate::gate::DESK;
 use crate::hall::Hall;
 use crate::seat::Seat;
 use crate::steps::{Gather, Place, Shared};
-use desk_core::{Catalogue, Desk};
+use desk_core::{Catalogue, Desk, Keep, KeepAll};
 use probe_core::Probe;
 
 /// What is left of a hall that was closed.
 #[derive(Drop)]
-pub struct Closed<P: Probe> {
+pub struct Closed<P: Probe, K: Keep = KeepAll> {
     /// The registry, with its journal and its probes.
-    pub desk: Desk<P>,
+    pub desk: Desk<P, K>,
     pub catalogue: Catalogue,
 }
 
 /// A hall that was not closed, since some of its seats were missing.
 #[derive(Drop)]
-pub struct Unclosed<P: Probe> {
-    pub hall: Hall<P>,
+pub struct Unclosed<P: Probe, K: Keep = KeepAll> {
+    pub hall: Hall<P, K>,
     /// The seats that were given, in their order.
-    pub seats: Vec<Seat<P>>,
+    pub seats: Vec<Seat<P, K>>,
 }
 
-impl<P: Probe> Hall<P> {
+impl<P: Probe, K: Keep> Hall<P, K> {
     ghost use Rattle.std.specs.Prelude.{◌≡◌, ◌≢◌, length, IfOk, IfErr};
     ghost use Rattle.std.specs.List.{All, sum_by};
     ghost use Rattle.desk_core.specs.Legal.{IsLegal};
@@ -35,7 +35,7 @@ impl<P: Probe> Hall<P> {
     ghost use Rattle.hall.specs.Seats.{IsOf, IsSeenIn, own_calls};
 
     /// The desk of a hall whose seats have all come back. Where one is missing, all is handed back.
-    pub fn close(self, seats: Vec<Seat<P>>) -> Result<Closed<P>, Unclosed<P>>
+    pub fn close(self, seats: Vec<Seat<P, K>>) -> Result<Closed<P, K>, Unclosed<P, K>>
         requires { All (IsOf self) seats.items }
         ensures closed { IfOk result (λ closed. length seats.items ≡ self.seats) }
         ensures unclosed { IfErr result (λ unclosed. (length seats.items ≢ self.seats) × (unclosed.hall ≡ self) × (unclosed.seats.items ≡ seats.items)) }
@@ -64,7 +64,7 @@ impl<P: Probe> Hall<P> {
 }
 
 /// One view for all seats.
-fn gather<P: Probe>(shared: &Shared<P>, seats: Vec<Seat<P>>) -> Place<P>
+fn gather<P: Probe, K: Keep>(shared: &Shared<P, K>, seats: Vec<Seat<P, K>>) -> Place<P, K>
     requires table { IsHall shared.now.table_id }
     requires seats { All (λ seat. seat.table ≡ shared.now.table_id) seats.items }
     requires some { 0 < length seats.items }

@@ -6,7 +6,7 @@ ghost use Rattle.hall.specs.Views.{at_stage, seat_view};
 ghost use Rattle.hall.specs.Steps.{IsHall, Rests, HasDesk, Follows, number_in, seen_in};
 
 use crate::steps::{Commit, Draw, Look, Making, Pass, Place, Shared, Turn};
-use desk_core::{Desk, Entry};
+use desk_core::{Desk, Entry, Keep};
 use probe_core::Probe;
 use std::marker::Brand;
 use std::sync::Wait;
@@ -28,7 +28,11 @@ pub(crate) const DESK: usize = 0;
 const SPINS: u32 = 100;
 
 /// Waits until the seat's turn comes, and takes the desk.
-pub(crate) fn enter<P: Probe, R: Wait>(rt: &R, shared: &Shared<P>, place: &mut Place<P>) -> Desk<P>
+pub(crate) fn enter<P: Probe, K: Keep, R: Wait>(
+    rt: &R,
+    shared: &Shared<P, K>,
+    place: &mut Place<P, K>,
+) -> Desk<P, K>
     requires table { IsHall shared.now.table_id × (place.old.table_id ≡ shared.now.table_id) }
     requires rests { Rests place.old.me }
     ensures place { place.new.table_id ≡ place.old.table_id }
@@ -54,7 +58,7 @@ pub(crate) fn enter<P: Probe, R: Wait>(rt: &R, shared: &Shared<P>, place: &mut P
     unreachable!()
 }
 
-fn draw<P: Probe>(shared: &Shared<P>, place: &mut Place<P>) -> u64
+fn draw<P: Probe, K: Keep>(shared: &Shared<P, K>, place: &mut Place<P, K>) -> u64
     requires table { IsHall shared.now.table_id × (place.old.table_id ≡ shared.now.table_id) }
     requires rests { Rests place.old.me }
     ensures place { place.new.table_id ≡ place.old.table_id }
@@ -64,11 +68,11 @@ fn draw<P: Probe>(shared: &Shared<P>, place: &mut Place<P>) -> u64
 }
 
 /// Stores the board of a desk whose newest entry is this one.
-fn commit<P: Probe, J: Making>(
-    shared: &Shared<P>,
-    place: &mut Place<P>,
+fn commit<P: Probe, K: Keep, J: Making>(
+    shared: &Shared<P, K>,
+    place: &mut Place<P, K>,
     entry: Entry,
-    desk: &Desk<P>,
+    desk: &Desk<P, K>,
 )
     requires entry { J.made ≡ entry }
     requires table { IsHall shared.now.table_id × (place.old.table_id ≡ shared.now.table_id) }
@@ -83,11 +87,11 @@ fn commit<P: Probe, J: Making>(
 }
 
 /// Commits the newest entry of the desk, counts it, gives the desk back and passes the turn.
-pub(crate) fn finish<P: Probe>(
-    shared: &Shared<P>,
-    place: &mut Place<P>,
+pub(crate) fn finish<P: Probe, K: Keep>(
+    shared: &Shared<P, K>,
+    place: &mut Place<P, K>,
     made: &mut u64,
-    desk: Desk<P>,
+    desk: Desk<P, K>,
     entry: Entry,
 )
     requires table { IsHall shared.now.table_id × (place.old.table_id ≡ shared.now.table_id) }
@@ -100,13 +104,17 @@ pub(crate) fn finish<P: Probe>(
     ensures legal { IsLegal (past desk.journal) }
     ensures room { length desk.journal ≤ desk.max_entries }
 {
-    commit::<P, Brand>(shared, place, entry, &desk);
+    commit::<P, K, Brand>(shared, place, entry, &desk);
     leave(shared, place, desk);
     *made += 1;
 }
 
 /// Gives the desk back, and passes the turn.
-pub(crate) fn leave<P: Probe>(shared: &Shared<P>, place: &mut Place<P>, desk: Desk<P>)
+pub(crate) fn leave<P: Probe, K: Keep>(
+    shared: &Shared<P, K>,
+    place: &mut Place<P, K>,
+    desk: Desk<P, K>,
+)
     requires table { IsHall shared.now.table_id × (place.old.table_id ≡ shared.now.table_id) }
     requires desk { HasDesk place.old.me (number_in place.old.me) desk.max_entries (past desk.journal) }
     ensures place { place.new.table_id ≡ place.old.table_id }

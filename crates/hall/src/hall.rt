@@ -7,20 +7,20 @@ use crate::fault::HallFault;
 use crate::seat::Seat;
 use crate::steps::{Deal, Place, Table};
 use crate::view::Limits;
-use desk_core::{Catalogue, Desk};
+use desk_core::{Catalogue, Desk, Keep, KeepAll};
 use probe_core::Probe;
 use std::alloc::{AllocError, Global};
 use std::marker::Model;
 
 /// The registry that threads share: each comes with a seat of its own.
 #[derive(Drop)]
-pub struct Hall<P: Probe> {
-    pub(crate) table: Table<P>,
+pub struct Hall<P: Probe, K: Keep = KeepAll> {
+    pub(crate) table: Table<P, K>,
     pub(crate) catalogue: Catalogue,
     pub(crate) seats: u16,
 }
 
-impl<P: Probe> Model for Hall<P> {
+impl<P: Probe, K: Keep> Model for Hall<P, K> {
     ghost use Rattle.std.specs.Prelude.{◌≡◌, ◌<◌};
     ghost use Rattle.hall.specs.Seats.{HallState};
     ghost use Rattle.hall.specs.Steps.{IsHall};
@@ -32,7 +32,7 @@ impl<P: Probe> Model for Hall<P> {
     ghost invariant = { λ hall. IsHall hall.table.shared.table_id × (hall.table.shared.key.seats ≡ hall.seats) × (0 < hall.seats) };
 }
 
-impl<P: Probe> Hall<P> {
+impl<P: Probe, K: Keep> Hall<P, K> {
     ghost use Rattle.std.specs.Prelude.{◌≡◌, Err, IfSome, IfNone, IfOk, IsOkUnless};
     ghost use Rattle.hall.specs.Fault.{hall_fault};
     ghost use Rattle.hall.specs.Seats.{new_seats};
@@ -43,7 +43,7 @@ impl<P: Probe> Hall<P> {
         catalogue: Catalogue,
         max_entries: u32,
         seats: u16,
-    ) -> Result<(Hall<P>, Vec<Seat<P>>), HallFault>
+    ) -> Result<(Hall<P, K>, Vec<Seat<P, K>>), HallFault>
         ensures hall { IfOk result (λ made. (made.0.most ≡ max_entries) × (made.0.seats ≡ seats) × (made.0.names ≡ catalogue)) }
         ensures seats { IfOk result (λ made. made.1.items ≡ new_seats made.0.table max_entries seats) }
         ensures fault { IfSome (hall_fault seats) (λ fault. result ≡ Err fault) }
@@ -77,7 +77,11 @@ impl<P: Probe> Hall<P> {
 }
 
 /// A table with the desk at home, and the view that deals out the seats.
-fn lay<P: Probe>(alloc: Global, most: u32, seats: u16) -> Result<(Table<P>, Place<P>), AllocError>
+fn lay<P: Probe, K: Keep>(
+    alloc: Global,
+    most: u32,
+    seats: u16,
+) -> Result<(Table<P, K>, Place<P, K>), AllocError>
     ensures table { IfOk result (λ made. IsHall made.0.shared.table_id × (made.0.shared.key ≡ record { most = most; seats = seats })) }
     ensures dealer { IfOk result (λ made. (made.1.table_id ≡ made.0.shared.table_id) × (made.1.me ≡ (dealer 0 most, []))) }
 {
@@ -91,13 +95,13 @@ fn lay<P: Probe>(alloc: Global, most: u32, seats: u16) -> Result<(Table<P>, Plac
 }
 
 /// Deals out all seats.
-fn deal<P: Probe>(
+fn deal<P: Probe, K: Keep>(
     alloc: Global,
-    table: &Table<P>,
-    first: &mut Place<P>,
+    table: &Table<P, K>,
+    first: &mut Place<P, K>,
     most: u32,
     seats: u16,
-) -> Result<Vec<Seat<P>>, AllocError>
+) -> Result<Vec<Seat<P, K>>, AllocError>
     requires table { IsHall table.now.shared.table_id × (table.now.shared.key ≡ record { most = most; seats = seats }) }
     requires first { (first.old.table_id ≡ table.now.shared.table_id) × (first.old.me ≡ (dealer 0 most, [])) }
     ensures { IfOk result (λ dealt. dealt.items ≡ new_seats table.now.shared.table_id most seats) }

@@ -9,22 +9,22 @@ use crate::hall::Hall;
 use crate::note::Note;
 use crate::seat::Seat;
 use crate::steps::{Look, Meet, Tell};
-use desk_core::{Slot, Watch, board_entries, board_status};
+use desk_core::{Behind, Keep, KeepAll, Slot, Watch, board_entries, board_status};
 use health_wire::Serving;
 use probe_core::Probe;
 use std::sync::Wait;
 
 /// The calls that change nothing.
-impl<P: Probe> Hall<P> {
-    ghost use Rattle.std.specs.Prelude.{◌≡◌, length};
+impl<P: Probe, K: Keep> Hall<P, K> {
+    ghost use Rattle.std.specs.Prelude.{◌≡◌, ◌↔◌, length, IfOk, IsErr, OnOk, OnErr};
     ghost use Rattle.desk_core.specs.Catalogue.{slot_of};
     ghost use Rattle.desk_core.specs.Changes.{changes_of};
     ghost use Rattle.desk_core.specs.Status.{shown, status_map};
-    ghost use Rattle.desk_core.specs.Watch.{IsOlder, opened, stepped};
+    ghost use Rattle.desk_core.specs.Watch.{IsBehind, IsOlder, opened, stepped};
     ghost use Rattle.hall.specs.Seats.{IsOf, GoesOn, own_calls};
 
     /// The status of the name, and how many entries the journal has where it is so. It waits for nobody: it is one load.
-    pub fn check(&self, seat: &mut Seat<P>, name: &str) -> Answer
+    pub fn check(&self, seat: &mut Seat<P, K>, name: &str) -> Answer
         requires { IsOf self.now seat.old }
         ensures goes_on { GoesOn seat.old seat.new }
         ensures kept { own_calls seat.new ≡ own_calls seat.old }
@@ -39,7 +39,7 @@ impl<P: Probe> Hall<P> {
     }
 
     /// What is shown of the name now, and a watch of what changes from now on. It waits for the seat's turn.
-    pub fn open<R: Wait>(&self, rt: &R, seat: &mut Seat<P>, name: &str) -> (Watch, Serving)
+    pub fn open<R: Wait>(&self, rt: &R, seat: &mut Seat<P, K>, name: &str) -> (Watch, Serving)
         requires { IsOf self.now seat.old }
         ensures goes_on { GoesOn seat.old seat.new }
         ensures kept { own_calls seat.new ≡ own_calls seat.old }
@@ -53,22 +53,30 @@ impl<P: Probe> Hall<P> {
         opened
     }
 
-    /// The next change of the watch's service, if there is one by now. It waits for the seat's turn.
-    pub fn step<R: Wait>(&self, rt: &R, seat: &mut Seat<P>, watch: &mut Watch) -> Option<Serving>
+    /// The next change of the watch's service, if there is one by now, unless the watch is behind: then it stays as it is, and is
+    /// behind for good. It waits for the seat's turn.
+    pub fn step_kept<R: Wait>(
+        &self,
+        rt: &R,
+        seat: &mut Seat<P, K>,
+        watch: &mut Watch,
+    ) -> Result<Option<Serving>, Behind>
         requires { IsOf self.now seat.old }
         ensures goes_on { GoesOn seat.old seat.new }
         ensures kept { own_calls seat.new ≡ own_calls seat.old }
-        ensures status { result ≡ (stepped (changes_of seat.new.seen) watch.old).0 }
-        ensures watch { watch.new ≡ (stepped (changes_of seat.new.seen) watch.old).1 }
+        ensures status { IfOk result (λ status. status ≡ (stepped (changes_of seat.new.seen) watch.old).0) }
+        ensures watch { OnOk result (watch.new ≡ (stepped (changes_of seat.new.seen) watch.old).1) }
+        ensures behind { IsErr result ↔ IsBehind K.kept (changes_of seat.new.seen) watch.old }
+        ensures stays { OnErr result (watch.new ≡ watch.old) }
     {
         let desk = enter(rt, &self.table.shared, &mut seat.place);
-        let status = desk.step(watch);
+        let status = desk.step_kept(watch);
         leave(&self.table.shared, &mut seat.place, desk);
         status
     }
 
     /// Writes down what the seat has seen, for another seat.
-    pub fn note(&self, seat: &mut Seat<P>) -> Note<P>
+    pub fn note(&self, seat: &mut Seat<P, K>) -> Note<P, K>
         requires { IsOf self.now seat.old }
         ensures seat { seat.new ≡ seat.old }
         ensures note { result ≡ record { table = seat.old.table; seen = seat.old.seen } }
@@ -79,7 +87,7 @@ impl<P: Probe> Hall<P> {
     }
 
     /// Lets the seat see what the note says too, so that its next answers hold both.
-    pub fn meet(&self, seat: &mut Seat<P>, note: Note<P>)
+    pub fn meet(&self, seat: &mut Seat<P, K>, note: Note<P, K>)
         requires seat { IsOf self.now seat.old }
         requires note { note.table ≡ self.now.table }
         ensures goes_on { GoesOn seat.old seat.new }
@@ -89,6 +97,28 @@ impl<P: Probe> Hall<P> {
         let Note { place } = note;
         self.table.shared.join_seat::<Meet>(&mut seat.place, place);
         self.table.shared.load::<Look>(&mut seat.place, BOARD);
+    }
+}
+
+/// What a hall that keeps all can tell.
+impl<P: Probe> Hall<P, KeepAll> {
+    ghost use Rattle.std.specs.Prelude.{◌≡◌};
+    ghost use Rattle.desk_core.specs.Changes.{changes_of};
+    ghost use Rattle.desk_core.specs.Watch.{stepped};
+    ghost use Rattle.hall.specs.Seats.{IsOf, GoesOn, own_calls};
+
+    /// The next change of the watch's service, if there is one by now. It waits for the seat's turn.
+    pub fn step<R: Wait>(&self, rt: &R, seat: &mut Seat<P>, watch: &mut Watch) -> Option<Serving>
+        requires { IsOf self.now seat.old }
+        ensures goes_on { GoesOn seat.old seat.new }
+        ensures kept { own_calls seat.new ≡ own_calls seat.old }
+        ensures status { result ≡ (stepped (changes_of seat.new.seen) watch.old).0 }
+        ensures watch { watch.new ≡ (stepped (changes_of seat.new.seen) watch.old).1 }
+    {
+        match self.step_kept(rt, seat, watch) {
+            Ok(status) => status,
+            Err(Behind) => unreachable!(),
+        }
     }
 }
 

@@ -1,14 +1,15 @@
 use crate::steps::Place;
+use desk_core::{Keep, KeepAll};
 use probe_core::Probe;
 use std::marker::Model;
 
 /// What a seat had seen when the note was written. It may be sent to another thread, whose seat then sees that too.
 #[derive(Drop)]
-pub struct Note<P: Probe> {
-    pub(crate) place: Place<P>,
+pub struct Note<P: Probe, K: Keep = KeepAll> {
+    pub(crate) place: Place<P, K>,
 }
 
-impl<P: Probe> Model for Note<P> {
+impl<P: Probe, K: Keep> Model for Note<P, K> {
     ghost use Rattle.std.specs.Prelude.{◌≡◌, []};
     ghost use Rattle.hall.specs.Seats.{NoteState};
     ghost use Rattle.hall.specs.Views.{note_view};

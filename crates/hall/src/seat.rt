@@ -1,16 +1,17 @@
 use crate::steps::Place;
+use desk_core::{Keep, KeepAll};
 use probe_core::Probe;
 use std::marker::Model;
 
 /// A place at a hall, which one thread at a time uses, and which may be sent to another.
 #[derive(Drop)]
-pub struct Seat<P: Probe> {
-    pub(crate) place: Place<P>,
+pub struct Seat<P: Probe, K: Keep = KeepAll> {
+    pub(crate) place: Place<P, K>,
     pub(crate) number: u16,
     pub(crate) made: u64,
 }
 
-impl<P: Probe> Model for Seat<P> {
+impl<P: Probe, K: Keep> Model for Seat<P, K> {
     ghost use Rattle.hall.specs.Seats.{SeatState};
     ghost use Rattle.hall.specs.Steps.{IsSeat, seen_in};
 
@@ -21,7 +22,7 @@ impl<P: Probe> Model for Seat<P> {
     ghost invariant = { λ seat. IsSeat seat.place.me seat.number seat.made };
 }
 
-impl<P: Probe> Seat<P> {
+impl<P: Probe, K: Keep> Seat<P, K> {
     ghost use Rattle.std.specs.Prelude.{◌≡◌, length};
     ghost use Rattle.desk_core.specs.Legal.{IsLegal};
     ghost use Rattle.hall.specs.Seats.{own_calls};

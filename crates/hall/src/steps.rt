@@ -2,21 +2,21 @@
 
 use crate::view::{Limits, View};
 use atomic_table::{Join, Play, Split, TableRule};
-use desk_core::Desk;
+use desk_core::{Desk, Keep};
 use probe_core::Probe;
 use std::alloc::Global;
 use std::marker::{Brand, PhantomData};
 
-pub(crate) type Table<P> = atomic_table::Table<Option<Desk<P>>, View, Limits, Gate, Global>;
+pub(crate) type Table<P, K> = atomic_table::Table<Option<Desk<P, K>>, View, Limits, Gate, Global>;
 
-pub(crate) type Shared<P> = atomic_table::Shared<Option<Desk<P>>, View, Limits, Gate>;
+pub(crate) type Shared<P, K> = atomic_table::Shared<Option<Desk<P, K>>, View, Limits, Gate>;
 
-pub(crate) type Place<P> = atomic_table::Seat<Option<Desk<P>>, View>;
+pub(crate) type Place<P, K> = atomic_table::Seat<Option<Desk<P, K>>, View>;
 
 /// The rule that every step keeps.
 pub struct Gate;
 
-impl<P: Probe> TableRule<Option<Desk<P>>, View, Limits> for Gate {
+impl<P: Probe, K: Keep> TableRule<Option<Desk<P, K>>, View, Limits> for Gate {
     ghost use Rattle.hall.specs.Gates.{IsGated};
     ghost use Rattle.hall.specs.Views.{dealer};
 
@@ -28,7 +28,7 @@ impl<P: Probe> TableRule<Option<Desk<P>>, View, Limits> for Gate {
 /// Draws a ticket.
 pub struct Draw;
 
-impl<P: Probe> Play<Option<Desk<P>>, View> for Draw {
+impl<P: Probe, K: Keep> Play<Option<Desk<P, K>>, View> for Draw {
     ghost use Rattle.hall.specs.Steps.{Drawn};
 
     ghost then = { λ step. Drawn };
@@ -37,7 +37,7 @@ impl<P: Probe> Play<Option<Desk<P>>, View> for Draw {
 /// Looks at the ticket served.
 pub struct Turn;
 
-impl<P: Probe> Play<Option<Desk<P>>, View> for Turn {
+impl<P: Probe, K: Keep> Play<Option<Desk<P, K>>, View> for Turn {
     ghost use Rattle.hall.specs.Steps.{Turned};
 
     ghost then = { λ step. Turned };
@@ -46,7 +46,7 @@ impl<P: Probe> Play<Option<Desk<P>>, View> for Turn {
 /// Reads the board.
 pub struct Look;
 
-impl<P: Probe> Play<Option<Desk<P>>, View> for Look {
+impl<P: Probe, K: Keep> Play<Option<Desk<P, K>>, View> for Look {
     ghost use Rattle.hall.specs.Steps.{Looked};
 
     ghost then = { λ step. Looked };
@@ -72,7 +72,7 @@ pub struct Commit<J> {
     making: PhantomData<J>,
 }
 
-impl<P: Probe, J: Making> Play<Option<Desk<P>>, View> for Commit<J> {
+impl<P: Probe, K: Keep, J: Making> Play<Option<Desk<P, K>>, View> for Commit<J> {
     ghost use Rattle.hall.specs.Steps.{Committed};
 
     ghost then = { λ step. Committed J.made };
@@ -81,7 +81,7 @@ impl<P: Probe, J: Making> Play<Option<Desk<P>>, View> for Commit<J> {
 /// Passes the turn.
 pub struct Pass;
 
-impl<P: Probe> Play<Option<Desk<P>>, View> for Pass {
+impl<P: Probe, K: Keep> Play<Option<Desk<P, K>>, View> for Pass {
     ghost use Rattle.hall.specs.Steps.{Passed};
 
     ghost then = { λ step. Passed };

@@ -23,8 +23,8 @@ pub(super) enum Row {
     Entries(usize),
 }
 
-pub(super) fn make<P: Probe>(
-    desk: &mut Desk<P>,
+pub(super) fn make<P: Probe, K: Keep>(
+    desk: &mut Desk<P, K>,
     step: Step,
 ) -> Result<Result<Reply, Refusal>, Fail> {
     Ok(match step {

@@ -1,4 +1,4 @@
-use Rattle.std.proofs.Common.{◌≡◌, ◌+◌, ◌-◌, ◌/◌, ◌%◌, ◌^◌, ◌++◌, unwrap_or, sym, ap, ◌∙◌, arith}
+use Rattle.std.proofs.Common.{◌≡◌, ◌+◌, ◌-◌, ◌/◌, ◌%◌, ◌^◌, ◌++◌, unwrap_or, refl, sym, ap, ◌∙◌, arith}
 use Rattle.std.proofs.Math.Nat.{div-one}
 use Rattle.health_wire.specs.declared.serving.Serving.TheVariants.{ServiceUnknown}
 use Rattle.desk_core.specs.Board.{status_of_code}
@@ -12,7 +12,9 @@ loop-old-init c = record {
   range = omega arith;
   old_is = c.word-old.ensures.value ∙ sym (div-one c.args.before);
   new_is = c.word-new.ensures.value ∙ sym (div-one c.args.after);
-  room = omega (arith, c.requires);
+  room = omega (arith, c.requires.room);
+  few = omega (arith, c.requires.few);
+  kept = refl;
   told = told_none c.args.changes.now.items c.args.at (shown_in c.args.before) (shown_in c.args.after);
 }
 
@@ -29,15 +31,17 @@ loop-old-preserved c =
       range = omega (arith, left);
       old_is = rest_more c.loop-old.old c.args.before c.loop-old.number c.loop-old.invariant.old_is;
       new_is = rest_more c.loop-old.new c.args.after c.loop-old.number c.loop-old.invariant.new_is;
-      room = omega (arith, c.loop-old.invariant.room, c.tell_slot.ensures.len, c.tell_slot.ensures.capacity);
+      room = omega (arith, c.loop-old.invariant.room, c.tell_slot.ensures.room);
+      few = omega (arith, c.loop-old.invariant.few, c.tell_slot.ensures.len);
+      kept = c.tell_slot.ensures.kept ∙ c.loop-old.invariant.kept;
       told = told_next _ _ _ c.args.at c.loop-old.number _ (shown_in c.args.before) (shown_in c.args.after) _ _
           c.loop-old.invariant.told c.tell_slot.ensures.told c.at-slot.ensures
           (c.first_shown.ensures ∙ ap (λ w. unwrap_or (status_of_code (w % 4)) ServiceUnknown) c.loop-old.invariant.old_is)
           (c.first_shown-in-loop-old.ensures ∙ ap (λ w. unwrap_or (status_of_code (w % 4)) ServiceUnknown) c.loop-old.invariant.new_is);
     }
 
-pub returns : goal.returns
-returns c =
+pub returns-clause-told : goal.returns-clause-told
+returns-clause-told c =
     let whole : c.loop-old.number + (16 - c.loop-old.number) ≡ 16 = omega (arith, c.loop-old.invariant.range) in
     let same : c.args.before / 4 ^ c.loop-old.number ≡ c.args.after / 4 ^ c.loop-old.number = sym c.loop-old.invariant.old_is ∙ c.loop-old-test.false ∙ c.loop-old.invariant.new_is in
     c.loop-old.invariant.told

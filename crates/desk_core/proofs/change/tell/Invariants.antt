@@ -1,5 +1,4 @@
-use Rattle.std.proofs.Common.{◌≡◌, ◌+◌, ◌-◌, ◌/◌, ◌^◌, ◌≤◌, ◌++◌}
-use Rattle.std.specs.Vec.{vec_len, vec_capacity}
+use Rattle.std.proofs.Common.{◌≡◌, ◌+◌, ◌-◌, ◌/◌, ◌^◌, ◌≤◌, ◌<◌, ◌++◌, length}
 use Rattle.desk_core.specs.Changes.{changed}
 use Rattle.desk_core.specs.Slots.{shown_in}
 use Rattle.desk_core.proofs.change.tell.Given as goal
@@ -9,7 +8,9 @@ invariant-loop-old l = record {
   range : l.number ≤ 16;
   old_is : l.old ≡ l.fn.before / 4 ^ l.number;
   new_is : l.new ≡ l.fn.after / 4 ^ l.number;
-  room : vec_len l.changes + 16 ≤ vec_capacity l.changes + l.number;
+  room : 16 ≤ l.changes.room + l.number;
+  few : length l.changes.items + 16 < 9223372036854775808 + l.number;
+  kept : l.changes.keep ≡ l.fn.changes.keep;
   told : l.changes.items ≡ l.fn.changes.items ++ changed l.at (shown_in l.fn.before) (shown_in l.fn.after) l.number;
 }
 

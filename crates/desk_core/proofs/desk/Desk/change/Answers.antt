@@ -3,15 +3,23 @@ use Rattle.desk_core.specs.Mutation.{entry_of}
 use Rattle.desk_core.specs.Past.{past}
 use Rattle.desk_core.specs.Reply.{reply_to}
 use Rattle.desk_core.proofs.DeskLemmas.{has_answered, unanswered, is_desk_changed, is_desk_room}
+use Rattle.desk_core.proofs.KeptLemmas.{room_left}
 use Rattle.desk_core.proofs.desk.Desk.change.Goals as goal
 
 pub returns-in_default-reserve-clause-answered : goal.returns-in_default-reserve-clause-answered
 returns-in_default-reserve-clause-answered g c = unanswered _ _ _ _ _ c.self.view_is refl refl c.in_default.ensures.none
 
 pub invariant_of-self-in_default-append : goal.invariant_of-self-in_default-append
-invariant_of-self-in_default-append g c =
-    is_desk_room _ _ _ _ _ _ _ _ _ _ _ _ c.self.invariant c.reserve.ensures.same c.in_default-append.ensures.err c.append.ensures.changes
-    (ap (λ cache. cache.statuses) c.append.ensures.cache) (ap (λ cache. cache.dependents) c.append.ensures.cache)
+invariant_of-self-in_default-append g c = (
+  is_desk_room _ _ _ _ _ _ _ _ _ _ _ _ c.self.invariant.0 c.reserve.ensures.same c.in_default-append.ensures.err c.append.ensures.changes
+      (ap (λ cache. cache.statuses) c.append.ensures.cache) (ap (λ cache. cache.dependents) c.append.ensures.cache),
+  c.append.ensures.kept.0 ∙ c.self.invariant.1,
+  c.append.ensures.kept.1 ∙ c.self.invariant.2,
+)
+
+pub show-requires-clause-few : goal.show-requires-clause-few
+show-requires-clause-few g c =
+    room_left _ _ _ _ c.self.invariant.0.told c.append.ensures.changes c.self.invariant.0.parts.room c.self.invariant.0.parts.limit
 
 pub returns-in_default-append-clause-answered : goal.returns-in_default-append-clause-answered
 returns-in_default-append-clause-answered g c = unanswered _ _ _ _ _ c.self.view_is c.in_default-append.ensures.err refl c.in_default.ensures.none
@@ -19,11 +27,14 @@ returns-in_default-append-clause-answered g c = unanswered _ _ _ _ _ c.self.view
 pub invariant_of-self-2 : goal.invariant_of-self-2
 invariant_of-self-2 g c =
     let lawful = c.in_default.ensures.none.0 in
-    let room : length c.self.inside.history.journal.items < c.self.inside.max_entries = subst (λ state. length state.journal < state.max_entries) (sym c.self.view_is) c.in_default.ensures.none.1 in
-    is_desk_changed _ _ _ _ _ _ _ _ _ _ _ _ _ _ _ _ _ _ _ _ c.args.call c.reply_to-reply.result c.self.invariant c.reserve.ensures.same room lawful
-    (c.reply_to-reply.ensures ∙ ap (λ state. reply_to (past state.journal) c.args.call) (sym c.self.view_is)) c.in-Ok-append.ensures.ok c.show.ensures.journal
-    c.in-Ok-append.ensures.at c.append.ensures.changes (ap (λ cache. cache.statuses) c.append.ensures.cache) (ap (λ cache. cache.dependents) c.append.ensures.cache)
-    c.apply-old.ensures.applied c.shut_after-self-inside.ensures c.show.ensures.dependents c.show.ensures.statuses c.show.ensures.changes
+    let room : length c.self.inside.history.journal.items < c.self.inside.max_entries = subst (λ state. length state.journal < state.max_entries) (sym c.self.view_is) c.in_default.ensures.none.1 in (
+      is_desk_changed _ _ _ _ _ _ _ _ _ _ _ _ _ _ _ _ _ _ _ _ c.args.call c.reply_to-reply.result c.self.invariant.0 c.reserve.ensures.same room lawful
+          (c.reply_to-reply.ensures ∙ ap (λ state. reply_to (past state.journal) c.args.call) (sym c.self.view_is)) c.in-Ok-append.ensures.ok c.show.ensures.journal
+          c.in-Ok-append.ensures.at c.append.ensures.changes (ap (λ cache. cache.statuses) c.append.ensures.cache) (ap (λ cache. cache.dependents) c.append.ensures.cache)
+          c.apply-old.ensures.applied c.shut_after-self-inside.ensures c.show.ensures.dependents c.show.ensures.statuses c.show.ensures.changes,
+      c.show.ensures.kept.0 ∙ (c.append.ensures.kept.0 ∙ c.self.invariant.1),
+      c.show.ensures.kept.1 ∙ (c.append.ensures.kept.1 ∙ c.self.invariant.2),
+    )
 
 pub returns-clause-answered : goal.returns-clause-answered
 returns-clause-answered g c =

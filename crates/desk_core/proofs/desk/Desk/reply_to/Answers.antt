@@ -14,7 +14,7 @@ returns-in-Retire g c = rw c.in-Retire.is (c.reply_to_retire.ensures ∙ ap (λ 
 
 pub returns-in-Observe : goal.returns-in-Observe
 returns-in-Observe g c =
-    let shut : c.self.inside.is_shut ≡ is_shut (past c.args.self.now.journal) = c.self.invariant.parts.shut_is ∙ ap (λ state. is_shut (past state.journal)) c.self.view_is in
+    let shut : c.self.inside.is_shut ≡ is_shut (past c.args.self.now.journal) = c.self.invariant.0.parts.shut_is ∙ ap (λ state. is_shut (past state.journal)) c.self.view_is in
     rw c.in-Observe.is
     (c.reply_to_event.ensures ∙ ap (λ o. reply_to_event o c.self.inside.is_shut c.event.result) c.rule-in-Observe.ensures
     ∙ ap (λ b. reply_to_event (rule_at (past c.args.self.now.journal) c.in-Observe.slot) b c.event.result) shut
@@ -22,7 +22,7 @@ returns-in-Observe g c =
 
 pub returns-in-Set : goal.returns-in-Set
 returns-in-Set g c =
-    let shut : c.self.inside.is_shut ≡ is_shut (past c.args.self.now.journal) = c.self.invariant.parts.shut_is ∙ ap (λ state. is_shut (past state.journal)) c.self.view_is in
+    let shut : c.self.inside.is_shut ≡ is_shut (past c.args.self.now.journal) = c.self.invariant.0.parts.shut_is ∙ ap (λ state. is_shut (past state.journal)) c.self.view_is in
     rw c.in-Set.is
     (c.reply_to_event-in-Set.ensures ∙ ap (λ o. reply_to_event o c.self.inside.is_shut c.event-in-Set.result) c.rule-in-Set.ensures
     ∙ ap (λ b. reply_to_event (rule_at (past c.args.self.now.journal) c.in-Set.slot) b c.event-in-Set.result) shut

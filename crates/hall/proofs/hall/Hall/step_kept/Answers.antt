@@ -1,6 +1,6 @@
 use Rattle.std.proofs.Common.{refl}
 use Rattle.hall.proofs.Taken.{may_leave}
-use Rattle.hall.proofs.hall.Hall.step.Goals as goal
+use Rattle.hall.proofs.hall.Hall.step_kept.Goals as goal
 
 pub leave-requires-clause-desk : goal.leave-requires-clause-desk
 leave-requires-clause-desk g c =
