@@ -3,11 +3,16 @@ use std::alloc::{AllocError, Global};
 use std::test::Fail;
 use test_support::{Scarcity, same};
 
+/// More items than any list has here.
+const MOST: u64 = 1_000;
+
 /// Puts the numbers from the length of the list up to before `end` at its end, with room taken for each.
 fn put(tail: &mut Tail<u64>, end: u64) -> Result<(), AllocError> {
     for number in tail.len()..end {
         tail.reserve(1)?;
-        tail.push(number);
+        if tail.len() < MOST {
+            tail.push(number);
+        }
     }
     Ok(())
 }
