@@ -2,7 +2,7 @@
 //! takes than another. Without a number of rounds it prints nothing.
 #![tactic(auto)]
 
-use desk_core::{Desk, Setting, Slot};
+use desk_core::{Desk, Keep, KeepAll, KeepMany, Setting, Slot};
 use probe_core::{Depends, Manual, Probe};
 use std::alloc::Global;
 use std::env;
@@ -25,8 +25,41 @@ fn rounds<R: Env + AllocGlobal>(rt: &R) -> Option<u32> {
     words.get(1)?.parse().ok()
 }
 
-/// Makes the probes of sixteen services in a chain, and of sixteen that nobody depends on, and times both.
+/// What sixteen services take of which each depends on the one before it.
+struct Chain {
+    check: Duration,
+    anew: Duration,
+    head: Duration,
+}
+
+/// Times the services of a chain, and those that nobody depends on, once on a registry that keeps all and once on one that forgets.
 fn bench<R: Print + Clock + AllocGlobal>(rt: &R, rounds: u32) -> Option<()> {
+    let Chain { check, anew, head } = time_chain(rt, rounds)?;
+    let alone = time_alone(rt, false, rounds)?;
+    let forgetting = time_alone(rt, true, rounds)?;
+    print(rt, "check", check, rounds)?;
+    print(rt, "change of a slot that nobody depends on", alone, rounds)?;
+    print(
+        rt,
+        "the same where the last 65,536 are kept",
+        forgetting,
+        rounds,
+    )?;
+    print(rt, "change of the head of a chain", head, rounds)?;
+    print(rt, "all sixteen anew", anew, rounds)?;
+    print_ratio(rt, "head of a chain / check", head, check)?;
+    print_ratio(rt, "all sixteen anew / check", anew, check)?;
+    print_ratio(rt, "head of a chain / slot alone", head, alone)?;
+    print_ratio(rt, "all sixteen anew / slot alone", anew, alone)?;
+    print_ratio(
+        rt,
+        "slot alone, the last kept / all kept",
+        forgetting,
+        alone,
+    )
+}
+
+fn time_chain<R: Clock + AllocGlobal>(rt: &R, rounds: u32) -> Option<Chain> {
     let alloc = rt.alloc();
     let mut chain: Vec<Box<dyn Probe + Send>> = Vec::new(alloc);
     chain.push(Box::new(alloc, Manual::new()).ok()?).ok()?;
@@ -35,36 +68,45 @@ fn bench<R: Print + Clock + AllocGlobal>(rt: &R, rounds: u32) -> Option<()> {
             .push(Box::new(alloc, Depends::new(1 << number)).ok()?)
             .ok()?;
     }
+    time_chain_of(rt, chain, rounds)
+}
+
+fn time_chain_of<R: Clock + AllocGlobal, P: Probe>(
+    rt: &R,
+    chain: Vec<P>,
+    rounds: u32,
+) -> Option<Chain> {
+    let mut desk = desk_of(rt.alloc(), chain)?;
+    let check = time_checks(rt, &desk, rounds)?;
+    let anew = time_anew(rt, &desk, rounds)?;
+    let head = time_settings(rt, &mut desk, rounds)?;
+    Some(Chain { check, anew, head })
+}
+
+/// Times a change of one of sixteen services that nobody depends on.
+fn time_alone<R: Clock + AllocGlobal>(rt: &R, forgets: bool, rounds: u32) -> Option<Duration> {
+    let alloc = rt.alloc();
     let mut alone: Vec<Box<dyn Probe + Send>> = Vec::new(alloc);
     for _ in 0..16u8 {
         alone.push(Box::new(alloc, Manual::new()).ok()?).ok()?;
     }
-    time_all(rt, chain, alone, rounds)
+    if forgets {
+        time_alone_of::<R, _, KeepMany>(rt, alone, rounds)
+    } else {
+        time_alone_of::<R, _, KeepAll>(rt, alone, rounds)
+    }
 }
 
-fn time_all<R: Print + Clock + AllocGlobal, P: Probe>(
+fn time_alone_of<R: Clock + AllocGlobal, P: Probe, K: Keep>(
     rt: &R,
-    chain: Vec<P>,
-    alone: Vec<P>,
+    probes: Vec<P>,
     rounds: u32,
-) -> Option<()> {
-    let mut chain = desk_of(rt.alloc(), chain)?;
-    let mut alone = desk_of(rt.alloc(), alone)?;
-    let check = time_checks(rt, &chain, rounds)?;
-    let anew = time_anew(rt, &chain, rounds)?;
-    let alone = time_settings(rt, &mut alone, rounds)?;
-    let head = time_settings(rt, &mut chain, rounds)?;
-    print(rt, "check", check, rounds)?;
-    print(rt, "change of a slot that nobody depends on", alone, rounds)?;
-    print(rt, "change of the head of a chain", head, rounds)?;
-    print(rt, "all sixteen anew", anew, rounds)?;
-    print_ratio(rt, "head of a chain / check", head, check)?;
-    print_ratio(rt, "all sixteen anew / check", anew, check)?;
-    print_ratio(rt, "head of a chain / slot alone", head, alone)?;
-    print_ratio(rt, "all sixteen anew / slot alone", anew, alone)
+) -> Option<Duration> {
+    let mut desk: Desk<P, K> = desk_of(rt.alloc(), probes)?;
+    time_settings(rt, &mut desk, rounds)
 }
 
-fn desk_of<P: Probe>(alloc: Global, probes: Vec<P>) -> Option<Desk<P>> {
+fn desk_of<P: Probe, K: Keep>(alloc: Global, probes: Vec<P>) -> Option<Desk<P, K>> {
     let mut desk = Desk::new(alloc, u32::MAX);
     for (number, probe) in probes.into_iter().enumerate() {
         let slot = Slot::new(u8::try_from(number).ok()?)?;
@@ -104,9 +146,9 @@ fn time_anew<P: Probe>(clock: &impl Clock, desk: &Desk<P>, rounds: u32) -> Optio
 }
 
 /// Sets the first slot down and up in turn.
-fn time_settings<P: Probe>(
+fn time_settings<P: Probe, K: Keep>(
     clock: &impl Clock,
-    desk: &mut Desk<P>,
+    desk: &mut Desk<P, K>,
     rounds: u32,
 ) -> Option<Duration> {
     let slot = Slot::new(0)?;

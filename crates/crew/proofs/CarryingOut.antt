@@ -175,14 +175,14 @@ are_ours hall old new calls results ours met =
     record { table = ap (λ (s : SeatState). s.table) same ∙ ours.table; most = ap (λ (s : SeatState). s.most) same ∙ ours.most }
 
 -- what a door is asked for, its seat is
-pub by_door : {R P : Type 0} (old new : HallDoor R P) (calls : List (Option Call)) (results : List (Result Reply Refusal)) → AreAnswered CarriesOut old new calls results
+pub by_door : {R P K : Type 0} (old new : HallDoor R P K) (calls : List (Option Call)) (results : List (Result Reply Refusal)) → AreAnswered CarriesOut old new calls results
     → AreAnswered IsCarriedOut (door_seat old) (door_seat new) calls results
 by_door old new calls results (Ends door) = Ends (door_seat door)
 by_door old new calls results (Then old' between new' call result calls' results' one rest) =
     Then (door_seat old) (door_seat between) (door_seat new) call result calls' results' one.carried (by_door between new calls' results' rest)
 
 -- and it stays the seat that the door was lent
-pub same_reference : {R P : Type 0} (old new : HallDoor R P) (calls : List (Option Call)) (results : List (Result Reply Refusal)) → AreAnswered CarriesOut old new calls results
+pub same_reference : {R P K : Type 0} (old new : HallDoor R P K) (calls : List (Option Call)) (results : List (Result Reply Refusal)) → AreAnswered CarriesOut old new calls results
     → new.seat.ghost_name ≡ old.seat.ghost_name
 same_reference old new calls results (Ends door) = refl
 same_reference old new calls results (Then old' between new' call result calls' results' one rest) =

@@ -1,6 +1,6 @@
 ghost use Rattle.hall.specs.Seats.{IsOf};
 
-use desk_core::{Call, Catalogue, Refusal, Registrar, Reply, Watch};
+use desk_core::{Behind, Call, Catalogue, Keep, KeepAll, Refusal, Registrar, Reply, Watch};
 use hall::{Hall, Seat};
 use health_wire::Serving;
 use probe_core::Probe;
@@ -9,20 +9,20 @@ use web_call::Door;
 
 /// A door over a hall: it looks, and makes changes, with a seat, which it is lent.
 #[derive(Drop)]
-pub struct HallDoor<'a, R: Wait, P: Probe> {
+pub struct HallDoor<'a, R: Wait, P: Probe, K: Keep = KeepAll> {
     rt: &'a R,
-    hall: &'a Hall<P>,
-    seat: &'a mut Seat<P>,
+    hall: &'a Hall<P, K>,
+    seat: &'a mut Seat<P, K>,
     ghost fits: { IsOf hall.now seat.now },
 }
 
-impl<'a, R: Wait, P: Probe> HallDoor<'a, R, P> {
+impl<'a, R: Wait, P: Probe, K: Keep> HallDoor<'a, R, P, K> {
     ghost use Rattle.std.specs.Prelude.{◌≡◌};
     ghost use Rattle.hall.specs.Seats.{IsOf};
     ghost use Rattle.crew.specs.HallDoor.{door_hall, door_seat};
 
     /// The seat is one of this hall's. A Check waits for nobody; `open`, `step` and `change` wait for the seat's turn.
-    pub fn new(rt: &'a R, hall: &'a Hall<P>, seat: &'a mut Seat<P>) -> HallDoor<'a, R, P>
+    pub fn new(rt: &'a R, hall: &'a Hall<P, K>, seat: &'a mut Seat<P, K>) -> HallDoor<'a, R, P, K>
         requires { IsOf hall.now seat.old }
         ensures reference { result.seat.ghost_name ≡ seat.entry.ghost_name }
         ensures seat { door_seat result ≡ seat.old }
@@ -32,7 +32,7 @@ impl<'a, R: Wait, P: Probe> HallDoor<'a, R, P> {
     }
 }
 
-impl<'a, R: Wait, P: Probe> Door for HallDoor<'a, R, P> {
+impl<'a, R: Wait, P: Probe, K: Keep> Door for HallDoor<'a, R, P, K> {
     ghost use Rattle.std.specs.Prelude.{[], ◌++◌, refl};
     ghost use Rattle.std.proofs.Common.{ap, sym, ◌∙◌};
     ghost use Rattle.std.proofs.lemmas.List.{append_assoc};
@@ -45,6 +45,8 @@ impl<'a, R: Wait, P: Probe> Door for HallDoor<'a, R, P> {
     ghost seen = { λ door. (door_seat door).seen };
 
     ghost follows = { IsOlder };
+
+    ghost kept = { K.kept };
 
     ghost stays = { StaysAt };
 
@@ -78,12 +80,12 @@ impl<'a, R: Wait, P: Probe> Door for HallDoor<'a, R, P> {
         self.hall.open(self.rt, self.seat, name)
     }
 
-    fn step(&mut self, watch: &mut Watch) -> Option<Serving> {
-        self.hall.step(self.rt, self.seat, watch)
+    fn step(&mut self, watch: &mut Watch) -> Result<Option<Serving>, Behind> {
+        self.hall.step_kept(self.rt, self.seat, watch)
     }
 }
 
-impl<'a, R: Wait, P: Probe> Registrar<P> for HallDoor<'a, R, P> {
+impl<'a, R: Wait, P: Probe, K: Keep> Registrar<P> for HallDoor<'a, R, P, K> {
     ghost use Rattle.std.specs.Prelude.{◌≡◌, IfSome};
     ghost use Rattle.std.specs.Option.{option_map};
     ghost use Rattle.desk_core.specs.Mutation.{rule_of};

@@ -5,7 +5,7 @@ use crate::call::{Call, Finding, Setting};
 use crate::change::{Change, shown};
 use crate::entry::Entry;
 use crate::history::History;
-use crate::keep::{Keep, KeepAll};
+use crate::keep::{Capacity, Keep, KeepAll};
 use crate::lawful::is_lawful_call;
 use crate::refusal::Refusal;
 use crate::registered::{Handed, Registered};
@@ -42,7 +42,7 @@ impl<P: Probe, K: Keep> Model for Desk<P, K> {
 }
 
 impl<P: Probe, K: Keep> Desk<P, K> {
-    ghost use Rattle.std.specs.Prelude.{◌≡◌, ◌<◌, ◌≤◌, ◌*◌, ◌↔◌, ℕ, [], length, None, Ok, Err, IfSome, IfNone, IfOk, IfErr, IsErr, OnOk, OnErr, MatchResult};
+    ghost use Rattle.std.specs.Prelude.{◌≡◌, ◌<◌, ◌≤◌, ◌↔◌, ℕ, [], length, None, Ok, Err, IfSome, IfNone, IfOk, IfErr, IsErr, OnOk, OnErr, MatchResult};
     ghost use Rattle.std.specs.Option.{option_map};
     ghost use Rattle.desk_core.specs.Past.{past};
     ghost use Rattle.desk_core.specs.Mutation.{rule_of};
@@ -77,8 +77,10 @@ impl<P: Probe, K: Keep> Desk<P, K> {
     }
 
     /// For how many entries and changes there is memory.
-    pub fn capacity(&self) -> usize
-        ensures { IfSome K.kept (λ kept. result ≤ 2 * most_held kept) }
+    pub fn capacity(&self) -> Capacity
+        ensures entries { length (kept_of K.kept self.now.journal) ≤ result.entries }
+        ensures changes { length (kept_of K.kept (changes_of (past self.now.journal))) ≤ result.changes }
+        ensures most { IfSome K.kept (λ kept. (result.entries ≤ most_held kept) × (result.changes ≤ most_held kept)) }
     {
         self.history.capacity()
     }

@@ -5,6 +5,7 @@ use crate::cache::Cache;
 use crate::call::Call;
 use crate::change::{Change, tell};
 use crate::entry::Entry;
+use crate::keep::Capacity;
 use crate::reply::Reply;
 use crate::slot::Slot;
 use crate::slots::Slots;
@@ -22,7 +23,7 @@ pub(crate) struct History {
 }
 
 impl History {
-    ghost use Rattle.std.specs.Prelude.{◌≡◌, ◌+◌, ◌*◌, ◌^◌, ◌<◌, ◌≤◌, ℕ, Some, [], ◌∷◌, ◌++◌, length, replicate, IfOk, OnOk, OnErr};
+    ghost use Rattle.std.specs.Prelude.{◌≡◌, ◌+◌, ◌^◌, ◌<◌, ◌≤◌, [], ◌∷◌, ◌++◌, length, replicate, IfSome, IfOk, OnOk, OnErr};
     ghost use Rattle.desk_core.specs.Cache.{IsRelated};
     ghost use Rattle.desk_core.specs.Changes.{changed};
     ghost use Rattle.desk_core.specs.Mutation.{entry_of};
@@ -66,12 +67,16 @@ impl History {
     }
 
     /// For how many entries and changes there is memory.
-    pub(crate) fn capacity(&self) -> usize
-        ensures { (kept : ℕ) → self.now.journal.keep ≡ Some kept → self.now.changes.keep ≡ Some kept → result ≤ 2 * most_held kept }
+    pub(crate) fn capacity(&self) -> Capacity
+        ensures entries { length (kept_of self.now.journal.keep self.now.journal.items) ≤ result.entries }
+        ensures changes { length (kept_of self.now.changes.keep self.now.changes.items) ≤ result.changes }
+        ensures most_entries { IfSome self.now.journal.keep (λ kept. result.entries ≤ most_held kept) }
+        ensures most_changes { IfSome self.now.changes.keep (λ kept. result.changes ≤ most_held kept) }
     {
-        self.journal
-            .capacity()
-            .saturating_add(self.changes.capacity())
+        Capacity {
+            entries: self.journal.capacity(),
+            changes: self.changes.capacity(),
+        }
     }
 
     pub(crate) fn statuses(&self) -> Statuses

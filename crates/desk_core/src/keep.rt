@@ -36,3 +36,10 @@ impl Keep for KeepMany {
         Some(65_536)
     }
 }
+
+/// For how many entries, and for how many changes, there is memory.
+#[derive(Clone, Copy, Debug, Drop, PartialEq, Eq)]
+pub struct Capacity {
+    pub entries: usize,
+    pub changes: usize,
+}

@@ -31,7 +31,7 @@ pub use catalogue::{Catalogue, CatalogueFault};
 pub use change::Change;
 pub use desk::Desk;
 pub use entry::Entry;
-pub use keep::{Keep, KeepAll, KeepMany};
+pub use keep::{Capacity, Keep, KeepAll, KeepMany};
 pub use laws::{
     changes_grow, depends_on_all, events_decide, faultless_names, kept_changes_suffice,
     last_call_decides, last_change_is_shown, legal_fronts, legal_growth, one_outcome,

@@ -6,6 +6,7 @@ mod faults;
 mod fields;
 mod full;
 mod halls;
+mod keeping;
 mod memory;
 mod notes;
 mod races;

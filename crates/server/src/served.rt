@@ -42,7 +42,7 @@ fn put_end(output: &mut String, number: usize, end: CallEnd) -> Result<(), Alloc
             writeln!(output, "call {number} status {code}")
         }
         CallEnd::Done(Outcome::Http(code)) => writeln!(output, "call {number} http {code}"),
-        CallEnd::Done(Outcome::Watched { messages }) => {
+        CallEnd::Done(Outcome::Watched { messages } | Outcome::Behind { messages }) => {
             writeln!(output, "call {number} watch {messages}")
         }
         CallEnd::Fault(fault) => {

@@ -34,7 +34,7 @@ impl<T: Drop> Model for Tail<T> {
 }
 
 impl<T: Drop> Tail<T> {
-    ghost use Rattle.std.specs.Prelude.{◌≡◌, ◌+◌, ◌<◌, ◌≤◌, ◌^◌, ◌↔◌, [], length, drop, IfSome, IsNone, OnOk};
+    ghost use Rattle.std.specs.Prelude.{◌≡◌, ◌+◌, ◌<◌, ◌≤◌, ◌^◌, ◌↔◌, [], length, drop, IfSome, IsNone, IsOk, OnOk};
     ghost use Rattle.tail.specs.Tail.{forgotten, kept_of, most_held, put};
 
     /// An empty list, which takes no memory yet. Without a number it keeps all.
@@ -99,6 +99,7 @@ impl<T: Drop> Tail<T> {
         ensures items { self.new.items ≡ self.old.items }
         ensures keep { self.new.keep ≡ self.old.keep }
         ensures room { OnOk result (more ≤ self.new.room) }
+        ensures enough { 16 ≤ self.old.room → IsOk result }
     {
         let Some(keep) = self.keep else {
             return self.held.reserve(more);
@@ -117,17 +118,6 @@ impl<T: Drop> Tail<T> {
         self.held.reserve_exact(held.max(SPARE).min(most - held))
     }
 
-    /// Forgets all that need not be kept. It takes no memory, and no contract tells that it ran.
-    pub fn forget(&mut self)
-        ensures items { self.new.items ≡ self.old.items }
-        ensures keep { self.new.keep ≡ self.old.keep }
-        ensures room { self.old.room ≤ self.new.room }
-    {
-        let gone = (self.forgotten() - self.gone) as usize;
-        drop_front(&mut self.held, gone);
-        self.gone += gone as u64;
-    }
-
     /// Puts an item at the end.
     pub fn push(&mut self, item: T)
         requires room { 0 < self.old.room }
@@ -140,7 +130,8 @@ impl<T: Drop> Tail<T> {
 
     /// For how many items there is memory.
     pub fn capacity(&self) -> usize
-        ensures { IfSome self.now.keep (λ keep. result ≤ most_held keep) }
+        ensures holds { length (kept_of self.now.keep self.now.items) + self.now.room ≤ result }
+        ensures most { IfSome self.now.keep (λ keep. result ≤ most_held keep) }
     {
         self.held.capacity()
     }

@@ -6,7 +6,7 @@ use Rattle.desk_core.specs.declared.entry.Entry.{Entry}
 use Rattle.desk_core.specs.Catalogue.{slot_of}
 use Rattle.desk_core.specs.Changes.{changes_of}
 use Rattle.desk_core.specs.Status.{shown, status_map}
-use Rattle.desk_core.specs.Watch.{WatchState, answer_of, opened, stepped, told}
+use Rattle.desk_core.specs.Watch.{IsBehind, WatchState, answer_of, opened, stepped, told}
 use Rattle.web_call.specs.declared.call.Call.{Call}
 use Rattle.web_call.specs.declared.call.Stage.{Stage}
 use Rattle.web_call.specs.declared.call.Stage.TheVariants.{Reading, Watching, Ending, Starved}
@@ -15,13 +15,13 @@ use Rattle.web_call.specs.declared.intake.Reading.TheVariants as readings
 use Rattle.web_call.specs.declared.intake.Reading.{Reading as HowFar}
 use Rattle.web_call.specs.declared.method.Method.{Method}
 use Rattle.web_call.specs.declared.outcome.Outcome.{Outcome}
-use Rattle.web_call.specs.declared.outcome.Outcome.TheVariants.{Status, Watched}
+use Rattle.web_call.specs.declared.outcome.Outcome.TheVariants.{Status, Watched, Behind}
 use Rattle.web_call.specs.declared.outgoing.Outgoing.{Outgoing}
 use Rattle.web_call.specs.declared.text.Text.{Text}
-use Rattle.web_call.specs.Answer.{Asking, Asks, Sends, Tells, IsStarvedAt, check_code, told_pieces}
-use Rattle.web_call.specs.Answer.Sends.{Check, WatchEnd}
+use Rattle.web_call.specs.Answer.{Asking, Asks, IsWatch, Sends, Source, Tells, IsStarvedAt, check_code, told_pieces}
+use Rattle.web_call.specs.Answer.Sends.{Check, WatchBehind, WatchEnd}
 use Rattle.web_call.specs.Answer.Tells.{First, Step}
-use Rattle.web_call.specs.Ask.{IsAsked, Checked, Watched as WatchesName}
+use Rattle.web_call.specs.Ask.{Asked as WhatIsAsked, IsAsked, Checked, Watched as WatchesName}
 use Rattle.web_call.specs.Head.{IsHeaded}
 use Rattle.web_call.specs.HeadAnswer.{HeadAnswer, Asked}
 use Rattle.web_call.specs.InputHead.{IsHead}
@@ -38,11 +38,11 @@ use Rattle.web_call.specs.Walk.{told_by, watch_after}
 use Rattle.web_call.proofs.HeadLemmas.{one_answer}
 use Rattle.web_call.proofs.OutgoingLemmas.{all_sent, frames_sent, frames_whole}
 use Rattle.web_call.proofs.PieceLemmas.{frames_of}
-use Rattle.web_call.proofs.WalkLemmas.{frames_of-told, tells_all, watch_after-snoc}
+use Rattle.web_call.proofs.WalkLemmas.{KeepsUp-snoc, frames_of-told, tells_all, watch_after-snoc}
 
 -- a call that is given no byte
-pub given_none : (names : List (List ℕ)) (past : Past) (call : Call) → Stands names past call → Stands names (with_received [] past) call
-given_none names past call stands = subst (λ bytes. Stands names (record past { received = bytes }) call) (sym (append-nil past.received)) stands
+pub given_none : (source : Source) (past : Past) (call : Call) → Stands source past call → Stands source (with_received [] past) call
+given_none source past call stands = subst (λ bytes. Stands source (record past { received = bytes }) call) (sym (append-nil past.received)) stands
 
 -- where no byte is left, none is sent
 pub silent_left : (outgoing : Outgoing) (sent : List ℕ) → IsSilent outgoing sent → left_of outgoing ≡ []
@@ -61,10 +61,10 @@ silent_on old new sent bytes none goes silent = record {
   goes_out = goes [] [] sent silent.goes_out;
 }
 
-sending_on : (names : List (List ℕ)) (past : Past) (stage : Stage) (old new : Outgoing) (bytes : List ℕ)
+sending_on : (source : Source) (past : Past) (stage : Stage) (old new : Outgoing) (bytes : List ℕ)
     → ((done part : List Piece) (before : List ℕ) → GoesOut old done part before → GoesOut new done part (before ++ bytes))
-    → IsSending names past stage old → IsSending names (with_sent bytes past) stage new
-sending_on names past stage old new bytes goes s = record {
+    → IsSending source past stage old → IsSending source (with_sent bytes past) stage new
+sending_on source past stage old new bytes goes s = record {
   head = s.head;
   body = s.body;
   done = s.done;
@@ -74,14 +74,14 @@ sending_on names past stage old new bytes goes s = record {
   goes_out = goes s.done s.part past.sent s.goes_out;
 }
 
-pub sent_on : (names : List (List ℕ)) (past : Past) (stage : Stage) (old new : Outgoing) (bytes : List ℕ) → (left_of old ≡ [] → bytes ≡ [])
+pub sent_on : (source : Source) (past : Past) (stage : Stage) (old new : Outgoing) (bytes : List ℕ) → (left_of old ≡ [] → bytes ≡ [])
     → ((done part : List Piece) (before : List ℕ) → GoesOut old done part before → GoesOut new done part (before ++ bytes))
-    → StandsAt names past stage old → StandsAt names (with_sent bytes past) stage new
-sent_on names past (Reading intake) old new bytes none goes h =
+    → StandsAt source past stage old → StandsAt source (with_sent bytes past) stage new
+sent_on source past (Reading intake) old new bytes none goes h =
     record { silent = silent_on old new past.sent bytes none goes h.silent; none_asked = h.none_asked; has_read = h.has_read }
-sent_on names past (Watching watch) old new bytes none goes h = sending_on names past (Watching watch) old new bytes goes h
-sent_on names past (Ending outcome) old new bytes none goes h = sending_on names past (Ending outcome) old new bytes goes h
-sent_on names past Starved old new bytes none goes h = record { silent = silent_on old new past.sent bytes none goes h.silent; starved = h.starved }
+sent_on source past (Watching watch) old new bytes none goes h = sending_on source past (Watching watch) old new bytes goes h
+sent_on source past (Ending outcome) old new bytes none goes h = sending_on source past (Ending outcome) old new bytes goes h
+sent_on source past Starved old new bytes none goes h = record { silent = silent_on old new past.sent bytes none goes h.silent; starved = h.starved }
 
 -- a watch that took a step, by what it answered
 tells_more : {slot : Option ℕ} {first : List Entry} {later : List (List Entry)} {done part : List Piece} (next : List Entry) (answer : Option Serving)
@@ -92,12 +92,19 @@ tells_more {slot} {first} {later} {done} {part} next answer tells is =
     (subst (λ pieces. Tells slot first (later ++ next ∷ []) pieces (flat_map message_chunk (told (answer_of (changes_of next) (watch_after (opened (changes_of first) slot) later)))))
     (sym (tells_all tells)) (Step later next))
 
-pub looked : (names : List (List ℕ)) (past : Past) (watch after : WatchState) (old new : Outgoing) (given : Text) (next : List Entry) (answer : Option Serving)
-    → answer ≡ (stepped (changes_of next) watch).0 → after ≡ (stepped (changes_of next) watch).1
+same_asks : (asking other : Asking) → asking.head ≡ other.head → asking.body ≡ other.body → {what : WhatIsAsked} → Asks asking what → Asks other what
+same_asks asking other head body {what} asks = record {
+  method = asks.method;
+  is_headed = subst (λ h. IsHeaded h (Asked asks.method (length other.body))) head (subst (λ b. IsHeaded asking.head (Asked asks.method (length b))) body asks.is_headed);
+  is_asked = subst (λ b. IsAsked asks.method b what) body asks.is_asked;
+}
+
+pub looked : (source : Source) (past : Past) (watch after : WatchState) (old new : Outgoing) (given : Text) (next : List Entry) (answer : Option Serving)
+    → (IsBehind source.kept (changes_of next) watch → ⊥) → answer ≡ (stepped (changes_of next) watch).0 → after ≡ (stepped (changes_of next) watch).1
     → ((done part more : List Piece) (sent : List ℕ) → GoesOut old done part sent → IsTextOf given more → GoesOut new (done ++ part) more sent)
-    → IsTextOf given (flat_map message_chunk (told answer)) → IsSending names past (Watching watch) old
-    → IsSending names (with_asked (next ∷ []) past) (Watching after) new
-looked names past watch after old new given next answer is moved goes text s =
+    → IsTextOf given (flat_map message_chunk (told answer)) → IsSending source past (Watching watch) old
+    → IsSending source (with_asked (next ∷ []) past) (Watching after) new
+looked source past watch after old new given next answer up is moved goes text s =
     let w = s.sends in record {
       head = s.head;
       body = s.body;
@@ -108,10 +115,14 @@ looked names past watch after old new given next answer is moved goes text s =
         name = w.name;
         first = w.first;
         later = w.later ++ next ∷ [];
-        asks = record { method = w.asks.method; is_headed = w.asks.is_headed; is_asked = w.asks.is_asked };
+        is_watch = record {
+          asks = same_asks (asking_of source past s.head s.body) (asking_of source (with_asked (next ∷ []) past) s.head s.body) refl refl w.is_watch.asks;
+          keeps_up = KeepsUp-snoc source.kept (opened (changes_of w.first) (slot_of source.names w.name)) w.later next w.is_watch.keeps_up
+              (subst (λ x. IsBehind source.kept (changes_of next) x → ⊥) w.watch_is up);
+        };
         asked_is = ap (λ asked. asked ++ next ∷ []) w.asked_is;
         tells = tells_more next answer w.tells (sym (ap (answer_of (changes_of next)) w.watch_is) ∙ sym is);
-        watch_is = moved ∙ ap (λ x. (stepped (changes_of next) x).1) w.watch_is ∙ sym (watch_after-snoc (opened (changes_of w.first) (slot_of names w.name)) w.later next);
+        watch_is = moved ∙ ap (λ x. (stepped (changes_of next) x).1) w.watch_is ∙ sym (watch_after-snoc (opened (changes_of w.first) (slot_of source.names w.name)) w.later next);
       };
       goes_out = goes s.done s.part (flat_map message_chunk (told answer)) past.sent s.goes_out text;
     }
@@ -123,12 +134,16 @@ frames_told statuses {done} {part} outgoing sent all none goes =
     frames_sent goes ∙ ap (λ bytes. counted (frames_within (done ++ part) (length bytes))) (all_sent none goes)
     ∙ ap counted (frames_whole (done ++ part) ∙ ap frames_of all ∙ frames_of-told statuses)
 
-ended : (names : List (List ℕ)) (past : Past) (watch : WatchState) (old new : Outgoing) (given : Text) (messages : ℕ) → left_of old ≡ [] → messages ≡ frames_out old
-    → ((done part more : List Piece) (sent : List ℕ) → GoesOut old done part sent → IsTextOf given more → GoesOut new (done ++ part) more sent)
-    → IsTextOf given watch_end → IsSending names past (Watching watch) old → IsSending names past (Ending (Watched messages)) new
-ended names past watch old new given messages none count goes text s =
+-- a watch that ends so, once this was asked
+ends_as : (source : Source) (past : Past) (asked : List (List Entry)) (watch : WatchState) (old new : Outgoing) (outcome : ℕ → Outcome) (messages : ℕ)
+    → left_of old ≡ [] → messages ≡ frames_out old → (s : IsSending source past (Watching watch) old)
+    → Sends (asking_of source (record past { asked = asked }) s.head s.body) (told_pieces (told_by (slot_of source.names s.sends.name) s.sends.first s.sends.later)) watch_end
+    (Some (outcome (counted (length (told_by (slot_of source.names s.sends.name) s.sends.first s.sends.later)))))
+    → ((done part : List Piece) (sent : List ℕ) → GoesOut old done part sent → GoesOut new (done ++ part) watch_end sent)
+    → IsSending source (record past { asked = asked }) (Ending (outcome messages)) new
+ends_as source past asked watch old new outcome messages none count s sends goes =
     let w = s.sends in
-    let statuses = told_by (slot_of names w.name) w.first w.later in
+    let statuses = told_by (slot_of source.names w.name) w.first w.later in
     let all = tells_all w.tells in
     let is = count ∙ frames_told statuses old past.sent all none s.goes_out in record {
       head = s.head;
@@ -136,40 +151,60 @@ ended names past watch old new given messages none count goes text s =
       done = s.done ++ s.part;
       part = watch_end;
       requested = s.requested;
-      sends = subst (λ pieces. Sends (asking_of names past s.head s.body) pieces watch_end (Some (Watched messages))) (sym all)
-          (subst (λ n. Sends (asking_of names past s.head s.body) (told_pieces statuses) watch_end (Some (Watched n))) (sym is)
-          (WatchEnd w.name w.first w.later w.asks w.asked_is));
-      goes_out = goes s.done s.part watch_end past.sent s.goes_out text;
+      sends = subst (λ pieces. Sends (asking_of source (record past { asked = asked }) s.head s.body) pieces watch_end (Some (outcome messages))) (sym all)
+          (subst (λ n. Sends (asking_of source (record past { asked = asked }) s.head s.body) (told_pieces statuses) watch_end (Some (outcome n))) (sym is) sends);
+      goes_out = goes s.done s.part past.sent s.goes_out;
     }
 
-pub ended_at : (names : List (List ℕ)) (past : Past) (stage : Stage) (old new : Outgoing) (given : Text) (messages : ℕ) → watches stage ≡ true → left_of old ≡ []
-    → messages ≡ frames_out old
-    → ((done part more : List Piece) (sent : List ℕ) → GoesOut old done part sent → IsTextOf given more → GoesOut new (done ++ part) more sent)
-    → IsTextOf given watch_end → StandsAt names past stage old → IsSending names past (Ending (Watched messages)) new
-ended_at names past (Reading intake) old new given messages is none count goes text h = absurd (grind arith)
-ended_at names past (Watching watch) old new given messages is none count goes text h = ended names past watch old new given messages none count goes text h
-ended_at names past (Ending outcome) old new given messages is none count goes text h = absurd (grind arith)
-ended_at names past Starved old new given messages is none count goes text h = absurd (grind arith)
+-- a watch that was ended
+ended : (source : Source) (past : Past) (watch : WatchState) (old new : Outgoing) (messages : ℕ) → left_of old ≡ [] → messages ≡ frames_out old
+    → ((done part : List Piece) (sent : List ℕ) → GoesOut old done part sent → GoesOut new (done ++ part) watch_end sent)
+    → IsSending source past (Watching watch) old → IsSending source past (Ending (Watched messages)) new
+ended source past watch old new messages none count goes s =
+    ends_as source past past.asked watch old new (λ n. Watched n) messages none count s
+    (WatchEnd s.sends.name s.sends.first s.sends.later s.sends.is_watch s.sends.asked_is) goes
+
+pub ended_at : (source : Source) (past : Past) (stage : Stage) (old new : Outgoing) (messages : ℕ) → watches stage ≡ true → left_of old ≡ []
+    → messages ≡ frames_out old → ((done part : List Piece) (sent : List ℕ) → GoesOut old done part sent → GoesOut new (done ++ part) watch_end sent)
+    → StandsAt source past stage old → IsSending source past (Ending (Watched messages)) new
+ended_at source past (Reading intake) old new messages is none count goes h = absurd (grind arith)
+ended_at source past (Watching watch) old new messages is none count goes h = ended source past watch old new messages none count goes h
+ended_at source past (Ending outcome) old new messages is none count goes h = absurd (grind arith)
+ended_at source past Starved old new messages is none count goes h = absurd (grind arith)
+
+-- a watch that was behind
+pub left_behind : (source : Source) (past : Past) (watch : WatchState) (old new : Outgoing) (next : List Entry) (messages : ℕ)
+    → IsBehind source.kept (changes_of next) watch → left_of old ≡ [] → messages ≡ frames_out old
+    → ((done part : List Piece) (sent : List ℕ) → GoesOut old done part sent → GoesOut new (done ++ part) watch_end sent)
+    → IsSending source past (Watching watch) old → IsSending source (with_asked (next ∷ []) past) (Ending (Behind messages)) new
+left_behind source past watch old new next messages behind none count goes s =
+    let w = s.sends in
+    let watches : IsWatch (asking_of source (with_asked (next ∷ []) past) s.head s.body) w.name w.first w.later = record {
+      asks = same_asks (asking_of source past s.head s.body) (asking_of source (with_asked (next ∷ []) past) s.head s.body) refl refl w.is_watch.asks;
+      keeps_up = w.is_watch.keeps_up;
+    } in
+    ends_as source past (past.asked ++ next ∷ []) watch old new (λ n. Behind n) messages none count s
+    (WatchBehind w.name w.first w.later next watches (ap (λ asked. asked ++ next ∷ []) w.asked_is) (subst (IsBehind source.kept (changes_of next)) w.watch_is behind)) goes
 
 -- a call that ends with this text, or for which memory was wanting
-pub ends : (names : List (List ℕ)) (received head body : List ℕ) (asked : List (List Entry)) (part : List Piece) (outcome : Outcome) (call : Call)
-    → IsRequested head body received → Sends (record { names = names; asked = asked; head = head; body = body }) [] part (Some outcome) → IsStarvedAt asked received
+pub ends : (source : Source) (received head body : List ℕ) (asked : List (List Entry)) (part : List Piece) (outcome : Outcome) (call : Call)
+    → IsRequested head body received → Sends (record { source = source; asked = asked; head = head; body = body }) [] part (Some outcome) → IsStarvedAt asked received
     → ((call.stage ≡ Ending outcome) × GoesOut call.outgoing [] part []) ⊎ ((call.stage ≡ Starved) × GoesOut call.outgoing [] [] [])
-    → Stands names (record { received = received; sent = []; asked = asked }) call
-ends names received head body asked part outcome call requested sends starved (inl (is, goes)) =
-    subst (λ stage. StandsAt names (record { received = received; sent = []; asked = asked }) stage call.outgoing) (sym is)
+    → Stands source (record { received = received; sent = []; asked = asked }) call
+ends source received head body asked part outcome call requested sends starved (inl (is, goes)) =
+    subst (λ stage. StandsAt source (record { received = received; sent = []; asked = asked }) stage call.outgoing) (sym is)
     (record { head = head; body = body; done = []; part = part; requested = requested; sends = sends; goes_out = goes })
-ends names received head body asked part outcome call requested sends starved (inr (is, goes)) =
-    subst (λ stage. StandsAt names (record { received = received; sent = []; asked = asked }) stage call.outgoing) (sym is)
+ends source received head body asked part outcome call requested sends starved (inr (is, goes)) =
+    subst (λ stage. StandsAt source (record { received = received; sent = []; asked = asked }) stage call.outgoing) (sym is)
     (record { silent = record { none_sent = refl; goes_out = goes }; starved = starved })
 
 -- a call that was not answered before
-pub answers_first : (names : List (List ℕ)) (past : Past) (intake : Intake) (outgoing : Outgoing) (asked : List (List Entry)) (call : Call)
-    → IsReading past intake outgoing → Stands names (record { received = past.received; sent = []; asked = asked }) call
-    → Stands names (with_asked asked past) call
-answers_first names past intake outgoing asked call reads stands =
-    subst (λ sent. Stands names (record { received = past.received; sent = sent; asked = past.asked ++ asked }) call) (sym reads.silent.none_sent)
-    (subst (λ before. Stands names (record { received = past.received; sent = []; asked = before ++ asked }) call) (sym reads.none_asked) stands)
+pub answers_first : (source : Source) (past : Past) (intake : Intake) (outgoing : Outgoing) (asked : List (List Entry)) (call : Call)
+    → IsReading past intake outgoing → Stands source (record { received = past.received; sent = []; asked = asked }) call
+    → Stands source (with_asked asked past) call
+answers_first source past intake outgoing asked call reads stands =
+    subst (λ sent. Stands source (record { received = past.received; sent = sent; asked = past.asked ++ asked }) call) (sym reads.silent.none_sent)
+    (subst (λ before. Stands source (record { received = past.received; sent = []; asked = before ++ asked }) call) (sym reads.none_asked) stands)
 
 -- the head of a whole request
 pub whole_head : (reading : HowFar) (head body : List ℕ) → is_whole reading ≡ true → Rattle.web_call.specs.Intake.AreRead reading head body → HasHead head (length body) 0
@@ -192,29 +227,29 @@ body_is past intake outgoing answer whole reads headed =
 
 -- what a Check is answered
 pub checks : {asking : Asking} (name : List ℕ) (seen : List Entry) (status : Option Serving) (code : Code)
-    → Asks asking (Checked name) → asking.asked ≡ seen ∷ [] → status ≡ status_map asking.names seen name → code ≡ check_code status
+    → Asks asking (Checked name) → asking.asked ≡ seen ∷ [] → status ≡ status_map asking.source.names seen name → code ≡ check_code status
     → Sends asking [] (check_pieces status) (Some (Status code))
 checks {asking} name seen status code asks asked is codes =
     subst (λ c. Sends asking [] (check_pieces status) (Some (Status c))) (sym codes)
     (subst (λ s. Sends asking [] (check_pieces s) (Some (Status (check_code s)))) (sym is) (Check name seen asks asked))
 
 -- a watch that was opened
-pub opens : (names : List (List ℕ)) (received head body : List ℕ) (method : Method) (name : List ℕ) (seen : List Entry) (watch : WatchState) (status : Serving) (outgoing : Outgoing)
+pub opens : (source : Source) (received head body : List ℕ) (method : Method) (name : List ℕ) (seen : List Entry) (watch : WatchState) (status : Serving) (outgoing : Outgoing)
     → IsRequested head body received → IsHeaded head (Asked method (length body)) → IsAsked method body (WatchesName name)
-    → watch ≡ opened (changes_of seen) (slot_of names name) → status ≡ shown seen (slot_of names name)
+    → watch ≡ opened (changes_of seen) (slot_of source.names name) → status ≡ shown seen (slot_of source.names name)
     → GoesOut outgoing [] (plain watch_head_text ∷ message_chunk status) []
-    → IsSending names (record { received = received; sent = []; asked = seen ∷ [] }) (Watching watch) outgoing
-opens names received head body method name seen watch status outgoing requested headed asked is shows goes = record {
+    → IsSending source (record { received = received; sent = []; asked = seen ∷ [] }) (Watching watch) outgoing
+opens source received head body method name seen watch status outgoing requested headed asked is shows goes = record {
   head = head;
   body = body;
   done = [];
-  part = plain watch_head_text ∷ message_chunk (shown seen (slot_of names name));
+  part = plain watch_head_text ∷ message_chunk (shown seen (slot_of source.names name));
   requested = requested;
   sends = record {
     name = name;
     first = seen;
     later = [];
-    asks = record { method = method; is_headed = headed; is_asked = asked };
+    is_watch = record { asks = record { method = method; is_headed = headed; is_asked = asked }; keeps_up = tt };
     asked_is = refl;
     tells = First;
     watch_is = is;

@@ -1,5 +1,5 @@
 -- What an exchange has read, written and asked so far.
-use Rattle.std.proofs.Common.{◌≡◌, ◌≤◌, ◌+◌, ℕ, Bool, Option, true, false, Some, None, List, [], ◌∷◌, ◌++◌, length, take, drop, refl, ap, sym, ◌∙◌, subst, append_assoc, append-nil, length-append, arith}
+use Rattle.std.proofs.Common.{◌≡◌, ◌≤◌, ◌+◌, ℕ, ◌⊎◌, inl, inr, Bool, Option, true, false, Some, None, List, [], ◌∷◌, ◌++◌, length, take, drop, refl, ap, sym, ◌∙◌, subst, append_assoc, append-nil, length-append, arith}
 use Rattle.std.proofs.KnownBytes.{Appends-trans, Appends-nil}
 use Rattle.std.proofs.lemmas.List.{take-append-le, take-take, length-take-le}
 use Rattle.std.specs.Io.KnownBytes.{Appends, Consumes}
@@ -8,8 +8,9 @@ use Rattle.web_call.specs.declared.call.Call.{Call}
 use Rattle.web_call.specs.declared.call.Stage.{Stage}
 use Rattle.web_call.specs.declared.call.Stage.TheVariants.{Reading, Watching, Ending, Starved}
 use Rattle.web_call.specs.declared.outcome.Outcome.{Outcome}
-use Rattle.web_call.specs.declared.outcome.Outcome.TheVariants.{Http, Status, Watched}
+use Rattle.web_call.specs.declared.outcome.Outcome.TheVariants.{Http, Status, Watched, Behind}
 use Rattle.web_call.specs.declared.outgoing.Outgoing.{Outgoing}
+use Rattle.web_call.specs.Answer.{Source}
 use Rattle.web_call.specs.Exchange.{GivesLooks, HasEnded, Meets, Rings}
 use Rattle.web_call.specs.Past.{Past, Stands, StandsAt, Carries, CarriesFor, begun, with_asked, with_received, with_sent}
 use Rattle.web_call.specs.Stages.{ending_of, ends_watch, ends_with, is_watching, watches}
@@ -27,22 +28,22 @@ given_all xs ys count wanted n within room all =
 
 -- what a past grows by, twice
 pub received_more : (old mid new : Call) (a b : List ℕ) → Carries old mid (with_received a) → Carries mid new (with_received b) → Carries old new (with_received (a ++ b))
-received_more old mid new a b p q names past h = subst (λ l. Stands names (record past { received = l }) new) (append_assoc past.received a b) (q names _ (p names past h))
+received_more old mid new a b p q source past h = subst (λ l. Stands source (record past { received = l }) new) (append_assoc past.received a b) (q source _ (p source past h))
 
 pub sent_more : (old mid new : Call) (a b : List ℕ) → Carries old mid (with_sent a) → Carries mid new (with_sent b) → Carries old new (with_sent (a ++ b))
-sent_more old mid new a b p q names past h = subst (λ l. Stands names (record past { sent = l }) new) (append_assoc past.sent a b) (q names _ (p names past h))
+sent_more old mid new a b p q source past h = subst (λ l. Stands source (record past { sent = l }) new) (append_assoc past.sent a b) (q source _ (p source past h))
 
 pub sent_none : (call : Call) → Carries call call (with_sent [])
-sent_none call names past h = subst (λ l. Stands names (record past { sent = l }) call) (sym (append-nil past.sent)) h
+sent_none call source past h = subst (λ l. Stands source (record past { sent = l }) call) (sym (append-nil past.sent)) h
 
-pub asked_none : (names : List (List ℕ)) (old new : Call) → Carries old new (λ past. past) → CarriesFor names old new (with_asked [])
-asked_none names old new carries past h = subst (λ l. Stands names (record past { asked = l }) new) (sym (append-nil past.asked)) (carries names past h)
+pub asked_none : (source : Source) (old new : Call) → Carries old new (λ past. past) → CarriesFor source old new (with_asked [])
+asked_none source old new carries past h = subst (λ l. Stands source (record past { asked = l }) new) (sym (append-nil past.asked)) (carries source past h)
 
 -- what an exchange has done so far: a past with which the call stands, and that is what was read, written and asked
-pub record SoFar {D B : Type 0} (names : List (List ℕ)) (seen : D → List Entry) (follows : List Entry → List Entry → Type 0) (given : B → ℕ)
+pub record SoFar {D B : Type 0} (source : Source) (seen : D → List Entry) (follows : List Entry → List Entry → Type 0) (given : B → ℕ)
     (is_over : B → Bool) (looks : ℕ) (door door_now : D) (bell bell_now : B) (input input_now output output_now : Option (List ℕ)) (call : Call) (had : ℕ) : Type 0 where
   pub past : Past
-  pub stands : Stands names past call
+  pub stands : Stands source past call
   pub has_read : Consumes input input_now past.received
   pub wrote : Appends output output_now past.sent
   pub meets : Meets seen follows given is_over looks door door_now bell bell_now past.asked (ending_of call)
@@ -55,12 +56,12 @@ no_ending (Watching watch) is = refl
 no_ending (Ending outcome) is = absurd (grind arith)
 no_ending Starved is = refl
 
-has_asked : (names : List (List ℕ)) (past : Past) (stage : Stage) (outgoing : Outgoing) → watches stage ≡ true → StandsAt names past stage outgoing
+has_asked : (source : Source) (past : Past) (stage : Stage) (outgoing : Outgoing) → watches stage ≡ true → StandsAt source past stage outgoing
     → 1 ≤ length past.asked
-has_asked names past (Reading intake) outgoing is h = absurd (grind arith)
-has_asked names past (Watching watch) outgoing is h = omega (arith, ap length h.sends.asked_is)
-has_asked names past (Ending outcome) outgoing is h = absurd (grind arith)
-has_asked names past Starved outgoing is h = absurd (grind arith)
+has_asked source past (Reading intake) outgoing is h = absurd (grind arith)
+has_asked source past (Watching watch) outgoing is h = omega (arith, ap length h.sends.asked_is)
+has_asked source past (Ending outcome) outgoing is h = absurd (grind arith)
+has_asked source past Starved outgoing is h = absurd (grind arith)
 
 -- the steps of a watch that asks more
 steps_more : (asked more : List (List Entry)) → 1 ≤ length asked → length (drop 1 (asked ++ more)) ≡ length (drop 1 asked) + length more
@@ -78,17 +79,18 @@ unrung given is_over looks bell steps None none is = record { each = omega (arit
 unrung given is_over looks bell steps (Some (Http http)) none is = refl
 unrung given is_over looks bell steps (Some (Status code)) none is = refl
 unrung given is_over looks bell steps (Some (Watched messages)) none is = absurd (grind arith)
+unrung given is_over looks bell steps (Some (Behind messages)) none is = absurd (grind arith)
 
-module _ {D B : Type 0} {names : List (List ℕ)} {seen : D → List Entry} {follows : List Entry → List Entry → Type 0} {given : B → ℕ}
+module _ {D B : Type 0} {source : Source} {seen : D → List Entry} {follows : List Entry → List Entry → Type 0} {given : B → ℕ}
     {is_over : B → Bool} {looks : ℕ} {door : D} {bell : B} {input input_now output : Option (List ℕ)} where
   -- a request was read and answered
-  pub so_replied : {door_now : D} (first read call : Call) (bytes : List ℕ) (asked : List (List Entry)) → Stands names begun first
+  pub so_replied : {door_now : D} (first read call : Call) (bytes : List ℕ) (asked : List (List Entry)) → Stands source begun first
       → Consumes input input_now bytes → Carries first read (with_received bytes) → length asked ≤ 1 → AsksDoor seen follows door door_now asked
-      → CarriesFor names read call (with_asked asked) → ends_watch (ending_of call) ≡ false
-      → SoFar names seen follows given is_over looks door door_now bell bell input input_now output output call 0
+      → CarriesFor source read call (with_asked asked) → ends_watch (ending_of call) ≡ false
+      → SoFar source seen follows given is_over looks door door_now bell bell input input_now output output call 0
   so_replied first read call bytes asked begins has_read carries few asks more goes = record {
     past = with_asked asked (with_received bytes begun);
-    stands = more (with_received bytes begun) (carries names begun begins);
+    stands = more (with_received bytes begun) (carries source begun begins);
     has_read = has_read;
     wrote = Appends-nil output;
     meets = record { asks = asks; rings = unrung given is_over looks bell (length (drop 1 asked)) (ending_of call) (few_steps asked few) goes };
@@ -97,12 +99,12 @@ module _ {D B : Type 0} {names : List (List ℕ)} {seen : D → List Entry} {fol
 
   -- bytes were sent
   pub so_sent : {door_now : D} {bell_now : B} {output_now after : Option (List ℕ)} {call new : Call} {had : ℕ} (bytes : List ℕ)
-      → SoFar names seen follows given is_over looks door door_now bell bell_now input input_now output output_now call had
+      → SoFar source seen follows given is_over looks door door_now bell bell_now input input_now output output_now call had
       → Appends output_now after bytes → Carries call new (with_sent bytes) → is_watching new ≡ is_watching call → ending_of new ≡ ending_of call
-      → SoFar names seen follows given is_over looks door door_now bell bell_now input input_now output after new had
+      → SoFar source seen follows given is_over looks door door_now bell bell_now input input_now output after new had
   so_sent {bell_now = bell_now} {call = call} bytes s wrote carries watching ending = record {
     past = with_sent bytes s.past;
-    stands = carries names s.past s.stands;
+    stands = carries source s.past s.stands;
     has_read = s.has_read;
     wrote = Appends-trans output _ _ s.past.sent bytes s.wrote wrote;
     meets = record {
@@ -114,15 +116,16 @@ module _ {D B : Type 0} {names : List (List ℕ)} {seen : D → List Entry} {fol
 
   -- a watch took a step, or was ended
   pub so_stepped : {door_now door_next : D} {bell_now bell_next : B} {output_now : Option (List ℕ)} {call new : Call} {had now : ℕ} (more : List (List Entry))
-      → SoFar names seen follows given is_over looks door door_now bell bell_now input input_now output output_now call had
-      → is_watching call ≡ true → AsksDoor seen follows door_now door_next more → CarriesFor names call new (with_asked more)
+      → SoFar source seen follows given is_over looks door door_now bell bell_now input input_now output output_now call had
+      → is_watching call ≡ true → AsksDoor seen follows door_now door_next more → CarriesFor source call new (with_asked more)
       → now ≡ had + length more → given bell_next ≡ given bell_now + length more → now ≤ looks
-      → (is_watching new ≡ false → HasEnded now looks (is_over bell_next) × ((messages : ℕ) × (ending_of new ≡ Some (Watched messages))))
-      → SoFar names seen follows given is_over looks door door_next bell bell_next input input_now output output_now new now
+      → (is_watching new ≡ false → (messages : ℕ)
+      × (((ending_of new ≡ Some (Watched messages)) × HasEnded now looks (is_over bell_next)) ⊎ (ending_of new ≡ Some (Behind messages))))
+      → SoFar source seen follows given is_over looks door door_next bell bell_next input input_now output output_now new now
   so_stepped {bell_now = bell_now} {bell_next = bell_next} {call = call} {new = new} {had = had} {now = now} more s is asks carries turns rung most ends =
       let before : GivesLooks given looks bell bell_now (length (drop 1 s.past.asked)) =
       subst (λ ending. Rings given is_over looks bell bell_now (length (drop 1 s.past.asked)) ending) (no_ending call.stage is) s.meets.rings in
-      let steps = steps_more s.past.asked more (has_asked names s.past call.stage call.outgoing is s.stands) in
+      let steps = steps_more s.past.asked more (has_asked source s.past call.stage call.outgoing is s.stands) in
       let looked = s.has_looked is in
       let all : GivesLooks given looks bell bell_next (length (drop 1 (s.past.asked ++ more))) =
       record { each = omega (arith, before.each, rung, steps); most = omega (arith, steps, looked, turns, most) } in record {
@@ -137,7 +140,8 @@ module _ {D B : Type 0} {names : List (List ℕ)} {seen : D → List Entry} {fol
       rings_on : (w : Bool) → is_watching new ≡ w → GivesLooks given looks bell bell_next (length (drop 1 (s.past.asked ++ more)))
           → now ≡ length (drop 1 (s.past.asked ++ more)) → Rings given is_over looks bell bell_next (length (drop 1 (s.past.asked ++ more))) (ending_of new)
       rings_on true w all as_many = subst (λ ending. Rings given is_over looks bell bell_next (length (drop 1 (s.past.asked ++ more))) ending) (sym (no_ending new.stage w)) all
-      rings_on false w all as_many =
-          let over = ends w in
-          subst (λ ending. Rings given is_over looks bell bell_next (length (drop 1 (s.past.asked ++ more))) ending) (sym over.1.1)
-          (all, subst (λ n. HasEnded n looks (is_over bell_next)) as_many over.0)
+      rings_on false w all as_many = elim (ends w).1 [
+        | inl over ↦ subst (λ ending. Rings given is_over looks bell bell_next (length (drop 1 (s.past.asked ++ more))) ending) (sym over.0)
+            (all, subst (λ n. HasEnded n looks (is_over bell_next)) as_many over.1)
+        | inr behind ↦ subst (λ ending. Rings given is_over looks bell bell_next (length (drop 1 (s.past.asked ++ more))) ending) (sym behind) all
+      ]

@@ -6,12 +6,12 @@ use Rattle.desk_core.specs.declared.entry.Entry.{Entry}
 use Rattle.desk_core.specs.Changes.{changes_of}
 use Rattle.desk_core.specs.Legal.{IsLegal}
 use Rattle.desk_core.specs.Status.{shown}
-use Rattle.desk_core.specs.Watch.{WatchState, answer_of, opened, stepped, told, walk, last_of}
+use Rattle.desk_core.specs.Watch.{IsBehind, WatchState, answer_of, opened, stepped, told, walk, last_of}
 use Rattle.web_call.specs.Answer.{Tells, told_pieces}
 use Rattle.web_call.specs.Answer.Tells.{First, Step}
 use Rattle.web_call.specs.Pieces.{Piece, plain}
 use Rattle.web_call.specs.Texts.{message_chunk, watch_head_text}
-use Rattle.web_call.specs.Walk.{AsksDoor, InTurn, told_by, watch_after}
+use Rattle.web_call.specs.Walk.{AsksDoor, InTurn, KeepsUp, told_by, watch_after}
 use Rattle.web_call.proofs.PieceLemmas.{frames_of, frames_of-append}
 
 -- one more history at the end
@@ -27,6 +27,12 @@ pub watch_after-snoc : (watch : WatchState) (later : List (List Entry)) (next : 
     → watch_after watch (later ++ next ∷ []) ≡ (stepped (changes_of next) (watch_after watch later)).1
 watch_after-snoc watch [] next = refl
 watch_after-snoc watch (entries ∷ later) next = watch_after-snoc (stepped (changes_of entries) watch).1 later next
+
+pub KeepsUp-snoc : (kept : Option ℕ) (watch : WatchState) (later : List (List Entry)) (next : List Entry) → KeepsUp kept watch later
+    → (IsBehind kept (changes_of next) (watch_after watch later) → ⊥) → KeepsUp kept watch (later ++ next ∷ [])
+KeepsUp-snoc kept watch [] next keeps_up up = (up, tt)
+KeepsUp-snoc kept watch (entries ∷ later) next keeps_up up =
+    (keeps_up.0, KeepsUp-snoc kept (stepped (changes_of entries) watch).1 later next keeps_up.1 up)
 
 pub last_of-append : (entries : List Entry) (asked more : List (List Entry)) → last_of entries (asked ++ more) ≡ last_of (last_of entries asked) more
 last_of-append entries [] more = refl

@@ -9,7 +9,7 @@ use Rattle.web_call.specs.declared.intake.Reading.{Reading as HowFar}
 use Rattle.web_call.specs.declared.intake.Reading.TheVariants as readings
 use Rattle.web_call.specs.declared.outcome.Outcome.{Outcome}
 use Rattle.web_call.specs.declared.outgoing.Outgoing.{Outgoing}
-use Rattle.web_call.specs.Answer.{IsStarvedAt, Sends}
+use Rattle.web_call.specs.Answer.{IsStarvedAt, Sends, Source}
 use Rattle.web_call.specs.Answer.IsStarvedAt.{Head}
 use Rattle.web_call.specs.Answer.Sends.{Watch}
 use Rattle.web_call.specs.HeadAnswer.{HeadAnswer, Refused, Ended, Asked}
@@ -43,15 +43,15 @@ cut_read (readings.Body left) head body bytes o is read = cut_body read.0.answer
 cut_read readings.Whole head body bytes o is read = absurd (grind arith)
 cut_read readings.Starved head body bytes o is read = absurd (grind arith)
 
-cut_at : (names : List (List ℕ)) (past : Past) (stage : Stage) (outgoing : Outgoing) → opens stage ≡ true → StandsAt names past stage outgoing → IsCutRequest past.received
-cut_at names past (Reading intake) outgoing o h = cut_read intake.reading intake.head.items intake.body.items past.received o h.has_read.is h.has_read.read
-cut_at names past (Watching watch) outgoing o h = absurd (grind arith)
-cut_at names past (Ending outcome) outgoing o h = absurd (grind arith)
-cut_at names past Starved outgoing o h = absurd (grind arith)
+cut_at : (source : Source) (past : Past) (stage : Stage) (outgoing : Outgoing) → opens stage ≡ true → StandsAt source past stage outgoing → IsCutRequest past.received
+cut_at source past (Reading intake) outgoing o h = cut_read intake.reading intake.head.items intake.body.items past.received o h.has_read.is h.has_read.read
+cut_at source past (Watching watch) outgoing o h = absurd (grind arith)
+cut_at source past (Ending outcome) outgoing o h = absurd (grind arith)
+cut_at source past Starved outgoing o h = absurd (grind arith)
 
 -- a call that is still read was given a cut request
-pub read_cut : (names : List (List ℕ)) (past : Past) (call : Call) → is_open call ≡ true → Stands names past call → IsCutRequest past.received
-read_cut names past call o h = cut_at names past call.stage call.outgoing o h
+pub read_cut : (source : Source) (past : Past) (call : Call) → is_open call ≡ true → Stands source past call → IsCutRequest past.received
+read_cut source past call o h = cut_at source past call.stage call.outgoing o h
 
 -- a call for which memory was wanting
 starved_read : (r : HowFar) (head body bytes : List ℕ) (asked : List (List Entry)) → reading.starves r ≡ true → bytes ≡ head ++ body → AreRead r head body → asked ≡ []
@@ -62,15 +62,15 @@ starved_read readings.Whole head body bytes asked s is read none = absurd (grind
 starved_read readings.Starved head body bytes asked s is read none =
     Head (subst IsHead (sym (is ∙ ap (λ rest. head ++ rest) read.1 ∙ append-nil head)) read.0.1.is_head) none
 
-starved_stage : (names : List (List ℕ)) (past : Past) (stage : Stage) (outgoing : Outgoing) → starves stage ≡ true → StandsAt names past stage outgoing
+starved_stage : (source : Source) (past : Past) (stage : Stage) (outgoing : Outgoing) → starves stage ≡ true → StandsAt source past stage outgoing
     → IsStarvedAt past.asked past.received
-starved_stage names past (Reading intake) outgoing s h = starved_read intake.reading intake.head.items intake.body.items past.received past.asked s h.has_read.is h.has_read.read h.none_asked
-starved_stage names past (Watching watch) outgoing s h = absurd (grind arith)
-starved_stage names past (Ending outcome) outgoing s h = absurd (grind arith)
-starved_stage names past Starved outgoing s h = h.starved
+starved_stage source past (Reading intake) outgoing s h = starved_read intake.reading intake.head.items intake.body.items past.received past.asked s h.has_read.is h.has_read.read h.none_asked
+starved_stage source past (Watching watch) outgoing s h = absurd (grind arith)
+starved_stage source past (Ending outcome) outgoing s h = absurd (grind arith)
+starved_stage source past Starved outgoing s h = h.starved
 
-pub starved_at : (names : List (List ℕ)) (past : Past) (call : Call) → is_starved call ≡ true → Stands names past call → IsStarvedAt past.asked past.received
-starved_at names past call s h = starved_stage names past call.stage call.outgoing s h
+pub starved_at : (source : Source) (past : Past) (call : Call) → is_starved call ≡ true → Stands source past call → IsStarvedAt past.asked past.received
+starved_at source past call s h = starved_stage source past call.stage call.outgoing s h
 
 -- a call that has ended
 ended_by : (left : List ℕ) (ending : Option Outcome) (outcome : Outcome) → (if nat_eq (length left) 0 then ending else None) ≡ Some outcome
@@ -78,42 +78,42 @@ ended_by : (left : List ℕ) (ending : Option Outcome) (outcome : Outcome) → (
 ended_by [] ending outcome is = (refl, is)
 ended_by (byte ∷ left) ending outcome is = absurd (grind (arith, is))
 
-whole_at : (names : List (List ℕ)) (past : Past) (stage : Stage) (outgoing : Outgoing) (outcome : Outcome) → ends_with stage ≡ Some outcome → left_of outgoing ≡ []
-    → StandsAt names past stage outgoing → IsWholeCall names past outcome
-whole_at names past (Reading intake) outgoing outcome e none h = absurd (no_outcome e)
+whole_at : (source : Source) (past : Past) (stage : Stage) (outgoing : Outgoing) (outcome : Outcome) → ends_with stage ≡ Some outcome → left_of outgoing ≡ []
+    → StandsAt source past stage outgoing → IsWholeCall source past outcome
+whole_at source past (Reading intake) outgoing outcome e none h = absurd (no_outcome e)
   where
     no_outcome : None ≡ Some outcome → ⊥
     no_outcome e = search rules
-whole_at names past (Watching watch) outgoing outcome e none h = absurd (no_outcome e)
+whole_at source past (Watching watch) outgoing outcome e none h = absurd (no_outcome e)
   where
     no_outcome : None ≡ Some outcome → ⊥
     no_outcome e = search rules
-whole_at names past (Ending other) outgoing outcome e none h = record {
+whole_at source past (Ending other) outgoing outcome e none h = record {
   head = h.head;
   body = h.body;
   pieces = h.done ++ h.part;
   requested = h.requested;
-  answered = record { done = h.done; part = h.part; all = refl; sends = subst (λ ending. Sends (asking_of names past h.head h.body) h.done h.part ending) e h.sends };
+  answered = record { done = h.done; part = h.part; all = refl; sends = subst (λ ending. Sends (asking_of source past h.head h.body) h.done h.part ending) e h.sends };
   all_sent = all_sent none h.goes_out;
 }
-whole_at names past Starved outgoing outcome e none h = absurd (no_outcome e)
+whole_at source past Starved outgoing outcome e none h = absurd (no_outcome e)
   where
     no_outcome : None ≡ Some outcome → ⊥
     no_outcome e = search rules
 
-pub whole_of : (names : List (List ℕ)) (past : Past) (call : Call) (outcome : Outcome) → outcome_of call ≡ Some outcome → Stands names past call
-    → (ending_of call ≡ Some outcome) × IsWholeCall names past outcome
-whole_of names past call outcome is h =
+pub whole_of : (source : Source) (past : Past) (call : Call) (outcome : Outcome) → outcome_of call ≡ Some outcome → Stands source past call
+    → (ending_of call ≡ Some outcome) × IsWholeCall source past outcome
+whole_of source past call outcome is h =
     let e = ended_by (to_send call) (ending_of call) outcome is in
-    (e.1, whole_at names past call.stage call.outgoing outcome e.1 e.0 h)
+    (e.1, whole_at source past call.stage call.outgoing outcome e.1 e.0 h)
 
 -- a call whose answer is being sent
-abbrev pub Cut : List (List ℕ) → Past → Option Outcome → Outgoing → Type 0
-Cut names past ending outgoing = (cut : IsCutCall names past ending (left_of outgoing) (frames_out outgoing)) × (text_bytes outgoing.text ≡ text_of cut.part)
+abbrev pub Cut : Source → Past → Option Outcome → Outgoing → Type 0
+Cut source past ending outgoing = (cut : IsCutCall source past ending (left_of outgoing) (frames_out outgoing)) × (text_bytes outgoing.text ≡ text_of cut.part)
 
-sending : (names : List (List ℕ)) (past : Past) (ending : Option Outcome) (outgoing : Outgoing) (head body : List ℕ) (done part : List Piece)
-    → IsRequested head body past.received → Sends (asking_of names past head body) done part ending → GoesOut outgoing done part past.sent → Cut names past ending outgoing
-sending names past ending outgoing head body done part requested sends goes = (
+sending : (source : Source) (past : Past) (ending : Option Outcome) (outgoing : Outgoing) (head body : List ℕ) (done part : List Piece)
+    → IsRequested head body past.received → Sends (asking_of source past head body) done part ending → GoesOut outgoing done part past.sent → Cut source past ending outgoing
+sending source past ending outgoing head body done part requested sends goes = (
   record {
     head = head;
     body = body;
@@ -129,21 +129,21 @@ sending names past ending outgoing head body done part requested sends goes = (
   goes.is_text.bytes,
 )
 
-sending_at : (names : List (List ℕ)) (past : Past) (stage : Stage) (outgoing : Outgoing) → answers stage ≡ true → StandsAt names past stage outgoing
-    → Cut names past (ends_with stage) outgoing
-sending_at names past (Reading intake) outgoing a h = absurd (grind arith)
-sending_at names past (Watching watch) outgoing a h =
+sending_at : (source : Source) (past : Past) (stage : Stage) (outgoing : Outgoing) → answers stage ≡ true → StandsAt source past stage outgoing
+    → Cut source past (ends_with stage) outgoing
+sending_at source past (Reading intake) outgoing a h = absurd (grind arith)
+sending_at source past (Watching watch) outgoing a h =
     let w = h.sends in
-    sending names past None outgoing h.head h.body h.done h.part h.requested (Watch w.name w.first w.later h.done h.part w.asks w.asked_is w.tells) h.goes_out
-sending_at names past (Ending outcome) outgoing a h = sending names past (Some outcome) outgoing h.head h.body h.done h.part h.requested h.sends h.goes_out
-sending_at names past Starved outgoing a h = absurd (grind arith)
+    sending source past None outgoing h.head h.body h.done h.part h.requested (Watch w.name w.first w.later h.done h.part w.is_watch w.asked_is w.tells) h.goes_out
+sending_at source past (Ending outcome) outgoing a h = sending source past (Some outcome) outgoing h.head h.body h.done h.part h.requested h.sends h.goes_out
+sending_at source past Starved outgoing a h = absurd (grind arith)
 
-pub cut_of : (names : List (List ℕ)) (past : Past) (call : Call) → is_answered call ≡ true → Stands names past call → Cut names past (ending_of call) call.outgoing
-cut_of names past call a h = sending_at names past call.stage call.outgoing a h
+pub cut_of : (source : Source) (past : Past) (call : Call) → is_answered call ≡ true → Stands source past call → Cut source past (ending_of call) call.outgoing
+cut_of source past call a h = sending_at source past call.stage call.outgoing a h
 
 -- and what of it was written
-pub cut_written : {names : List (List ℕ)} {past : Past} {ending : Option Outcome} {left : List ℕ} {frames told : ℕ} {contents contents_after : Option (List ℕ)}
-    (cut : IsCutCall names past ending left frames) → Appends contents contents_after past.sent → told ≡ frames → IsCut cut.done cut.part contents contents_after told
+pub cut_written : {source : Source} {past : Past} {ending : Option Outcome} {left : List ℕ} {frames told : ℕ} {contents contents_after : Option (List ℕ)}
+    (cut : IsCutCall source past ending left frames) → Appends contents contents_after past.sent → told ≡ frames → IsCut cut.done cut.part contents contents_after told
 cut_written {left = left} {contents = contents} {contents_after = contents_after} cut wrote same = record {
   front = cut.front;
   of_part = record { rest = left; is = cut.is_left };
@@ -156,30 +156,30 @@ silent : (outgoing : Outgoing) (sent : List ℕ) → IsSilent outgoing sent → 
 silent outgoing sent s =
     (s.none_sent, silent_left outgoing sent s, frames_sent s.goes_out ∙ ap (λ bytes. counted (frames_within [] (length bytes))) s.none_sent ∙ omega (arith, frames_within-nil 0))
 
-silent_at : (names : List (List ℕ)) (past : Past) (stage : Stage) (outgoing : Outgoing) → answers stage ≡ false → StandsAt names past stage outgoing
+silent_at : (source : Source) (past : Past) (stage : Stage) (outgoing : Outgoing) → answers stage ≡ false → StandsAt source past stage outgoing
     → (past.sent ≡ []) × (left_of outgoing ≡ []) × (frames_out outgoing ≡ 0)
-silent_at names past (Reading intake) outgoing a h = silent outgoing past.sent h.silent
-silent_at names past (Watching watch) outgoing a h = absurd (grind arith)
-silent_at names past (Ending outcome) outgoing a h = absurd (grind arith)
-silent_at names past Starved outgoing a h = silent outgoing past.sent h.silent
+silent_at source past (Reading intake) outgoing a h = silent outgoing past.sent h.silent
+silent_at source past (Watching watch) outgoing a h = absurd (grind arith)
+silent_at source past (Ending outcome) outgoing a h = absurd (grind arith)
+silent_at source past Starved outgoing a h = silent outgoing past.sent h.silent
 
-pub silent_of : (names : List (List ℕ)) (past : Past) (call : Call) → is_answered call ≡ false → Stands names past call
+pub silent_of : (source : Source) (past : Past) (call : Call) → is_answered call ≡ false → Stands source past call
     → (past.sent ≡ []) × (to_send call ≡ []) × (frames_of call ≡ 0)
-silent_of names past call a h = silent_at names past call.stage call.outgoing a h
+silent_of source past call a h = silent_at source past call.stage call.outgoing a h
 
 -- a call that is still read has asked nobody
-unasked_at : (names : List (List ℕ)) (past : Past) (stage : Stage) (outgoing : Outgoing) → opens stage ≡ true → StandsAt names past stage outgoing → past.asked ≡ []
-unasked_at names past (Reading intake) outgoing o h = h.none_asked
-unasked_at names past (Watching watch) outgoing o h = absurd (grind arith)
-unasked_at names past (Ending outcome) outgoing o h = absurd (grind arith)
-unasked_at names past Starved outgoing o h = absurd (grind arith)
+unasked_at : (source : Source) (past : Past) (stage : Stage) (outgoing : Outgoing) → opens stage ≡ true → StandsAt source past stage outgoing → past.asked ≡ []
+unasked_at source past (Reading intake) outgoing o h = h.none_asked
+unasked_at source past (Watching watch) outgoing o h = absurd (grind arith)
+unasked_at source past (Ending outcome) outgoing o h = absurd (grind arith)
+unasked_at source past Starved outgoing o h = absurd (grind arith)
 
-pub unasked_of : (names : List (List ℕ)) (past : Past) (call : Call) → is_open call ≡ true → Stands names past call → past.asked ≡ []
-unasked_of names past call o h = unasked_at names past call.stage call.outgoing o h
+pub unasked_of : (source : Source) (past : Past) (call : Call) → is_open call ≡ true → Stands source past call → past.asked ≡ []
+unasked_of source past call o h = unasked_at source past call.stage call.outgoing o h
 
 -- a call that waits to be answered
-waiting_at : (names : List (List ℕ)) (past : Past) (stage : Stage) (outgoing : Outgoing) → waits stage ≡ true → StandsAt names past stage outgoing → IsWholeRequest past
-waiting_at names past (Reading intake) outgoing w h =
+waiting_at : (source : Source) (past : Past) (stage : Stage) (outgoing : Outgoing) → waits stage ≡ true → StandsAt source past stage outgoing → IsWholeRequest past
+waiting_at source past (Reading intake) outgoing w h =
     let whole = whole_head intake.reading intake.head.items intake.body.items w h.has_read.read in record {
       head = intake.head.items;
       body = intake.body.items;
@@ -189,12 +189,12 @@ waiting_at names past (Reading intake) outgoing w h =
       len = omega (arith, whole.len);
       unasked = h.none_asked;
     }
-waiting_at names past (Watching watch) outgoing w h = absurd (grind arith)
-waiting_at names past (Ending outcome) outgoing w h = absurd (grind arith)
-waiting_at names past Starved outgoing w h = absurd (grind arith)
+waiting_at source past (Watching watch) outgoing w h = absurd (grind arith)
+waiting_at source past (Ending outcome) outgoing w h = absurd (grind arith)
+waiting_at source past Starved outgoing w h = absurd (grind arith)
 
-pub waiting_of : (names : List (List ℕ)) (past : Past) (call : Call) → is_whole call ≡ true → Stands names past call → IsWholeRequest past
-waiting_of names past call w h = waiting_at names past call.stage call.outgoing w h
+pub waiting_of : (source : Source) (past : Past) (call : Call) → is_whole call ≡ true → Stands source past call → IsWholeRequest past
+waiting_of source past call w h = waiting_at source past call.stage call.outgoing w h
 
 -- a call is read, waits to be answered, watches, has starved, or sends the last of its answer
 reading_turn : (r : HowFar) → (reading.is_open r ≡ true) ⊎ (reading.is_whole r ≡ true) ⊎ (reading.starves r ≡ true)

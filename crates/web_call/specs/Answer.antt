@@ -8,17 +8,17 @@ use Rattle.desk_core.specs.declared.entry.Entry.{Entry}
 use Rattle.desk_core.specs.Catalogue.{slot_of}
 use Rattle.desk_core.specs.Changes.{changes_of}
 use Rattle.desk_core.specs.Status.{shown, status_map}
-use Rattle.desk_core.specs.Watch.{answer_of, opened, told}
+use Rattle.desk_core.specs.Watch.{IsBehind, answer_of, opened, told}
 use Rattle.web_call.specs.declared.method.Method.{Method}
 use Rattle.web_call.specs.declared.outcome.Outcome.{Outcome}
-use Rattle.web_call.specs.declared.outcome.Outcome.TheVariants.{Http, Status, Watched}
+use Rattle.web_call.specs.declared.outcome.Outcome.TheVariants.{Http, Status, Watched, Behind}
 use Rattle.web_call.specs.Ask.{Asked as WhatIsAsked, IsAsked, Refused as RefusesBody, Checked as ChecksName, Watched as WatchesName}
 use Rattle.web_call.specs.Head.{IsHeaded}
 use Rattle.web_call.specs.HeadAnswer.{Refused, Ended, Asked}
 use Rattle.web_call.specs.InputHead.{IsHead}
 use Rattle.web_call.specs.Pieces.{Piece, plain, counted}
 use Rattle.web_call.specs.Texts.{refusal_pieces, status_pieces, check_pieces, message_chunk, watch_head_text, watch_end}
-use Rattle.web_call.specs.Walk.{told_by, watch_after}
+use Rattle.web_call.specs.Walk.{KeepsUp, told_by, watch_after}
 
 -- the status code of a Check
 abbrev pub check_code : Option Serving → Code
@@ -38,10 +38,14 @@ pub data Tells (slot : Option ℕ) (first : List Entry) : List (List Entry) → 
       → Tells slot first (earlier ++ next ∷ []) (told_pieces (told_by slot first earlier))
       (flat_map message_chunk (told (answer_of (changes_of next) (watch_after (opened (changes_of first) slot) earlier))))
 
--- what is answered: a request of this head and body, by the names of the catalogue, at the histories that the door had each time it
--- was asked
-pub record Asking : Type 0 where
+-- whence it is answered: the names of the catalogue, and how many changes the registry keeps, or none where it keeps all
+pub record Source : Type 0 where
   pub names : List (List ℕ)
+  pub kept : Option ℕ
+
+-- what is answered: a request of this head and body, at the histories that the door had each time it was asked
+pub record Asking : Type 0 where
+  pub source : Source
   pub asked : List (List Entry)
   pub head : List ℕ
   pub body : List ℕ
@@ -51,6 +55,11 @@ pub record Asks (asking : Asking) (what : WhatIsAsked) : Type 0 where
   pub method : Method
   pub is_headed : IsHeaded asking.head (Asked method (length asking.body))
   pub is_asked : IsAsked method asking.body what
+
+-- a Watch of this service that was opened at the first history, and was never behind at the later ones
+pub record IsWatch (asking : Asking) (name : List ℕ) (first : List Entry) (later : List (List Entry)) : Type 0 where
+  pub asks : Asks asking (WatchesName name)
+  pub keeps_up : KeepsUp asking.source.kept (opened (changes_of first) (slot_of asking.source.names name)) later
 
 -- the answer: what is done, what is being sent, and the outcome if that is the last of it
 pub data Sends (asking : Asking) : List Piece → List Piece → Option Outcome → Type 0 where
@@ -64,14 +73,20 @@ pub data Sends (asking : Asking) : List Piece → List Piece → Option Outcome 
       → Sends asking [] (status_pieces code text) (Some (Status code))
   -- a Check gets the status that the map has at the one history that was asked
   Check : (name : List ℕ) (seen : List Entry) → Asks asking (ChecksName name) → asking.asked ≡ seen ∷ []
-      → Sends asking [] (check_pieces (status_map asking.names seen name)) (Some (Status (check_code (status_map asking.names seen name))))
+      → Sends asking [] (check_pieces (status_map asking.source.names seen name)) (Some (Status (check_code (status_map asking.source.names seen name))))
   -- a Watch is told its first status and what each step answers
-  Watch : (name : List ℕ) (first : List Entry) (later : List (List Entry)) (done part : List Piece) → Asks asking (WatchesName name)
-      → asking.asked ≡ first ∷ later → Tells (slot_of asking.names name) first later done part → Sends asking done part None
+  Watch : (name : List ℕ) (first : List Entry) (later : List (List Entry)) (done part : List Piece) → IsWatch asking name first later
+      → asking.asked ≡ first ∷ later → Tells (slot_of asking.source.names name) first later done part → Sends asking done part None
   -- its end, behind all that was told
-  WatchEnd : (name : List ℕ) (first : List Entry) (later : List (List Entry)) → Asks asking (WatchesName name) → asking.asked ≡ first ∷ later
-      → Sends asking (told_pieces (told_by (slot_of asking.names name) first later)) watch_end
-      (Some (Watched (counted (length (told_by (slot_of asking.names name) first later)))))
+  WatchEnd : (name : List ℕ) (first : List Entry) (later : List (List Entry)) → IsWatch asking name first later → asking.asked ≡ first ∷ later
+      → Sends asking (told_pieces (told_by (slot_of asking.source.names name) first later)) watch_end
+      (Some (Watched (counted (length (told_by (slot_of asking.source.names name) first later)))))
+  -- the same end of one that was behind when the door was asked once more
+  WatchBehind : (name : List ℕ) (first : List Entry) (later : List (List Entry)) (next : List Entry) → IsWatch asking name first later
+      → asking.asked ≡ first ∷ later ++ next ∷ []
+      → IsBehind asking.source.kept (changes_of next) (watch_after (opened (changes_of first) (slot_of asking.source.names name)) later)
+      → Sends asking (told_pieces (told_by (slot_of asking.source.names name) first later)) watch_end
+      (Some (Behind (counted (length (told_by (slot_of asking.source.names name) first later)))))
 
 -- all pieces of the answer, and its outcome
 pub record IsAnswered (asking : Asking) (pieces : List Piece) (outcome : Outcome) : Type 0 where

@@ -2,7 +2,7 @@
 use Rattle.std.specs.Prelude.{ℕ, ◌≡◌, ◌≤◌, ◌+◌, ◌⊎◌, Bool, true, Option, None, Some, List, length, drop}
 use Rattle.desk_core.specs.declared.entry.Entry.{Entry}
 use Rattle.web_call.specs.declared.outcome.Outcome.{Outcome}
-use Rattle.web_call.specs.declared.outcome.Outcome.TheVariants.{Http, Status, Watched}
+use Rattle.web_call.specs.declared.outcome.Outcome.TheVariants.{Http, Status, Watched, Behind}
 use Rattle.web_call.specs.Walk.{AsksDoor}
 
 -- a watch ends where it had all the Looks that it may take, or where its bell is over
@@ -14,12 +14,13 @@ pub record GivesLooks {B : Type 0} (given : B → ℕ) (looks : ℕ) (bell bell_
   pub each : given bell_after ≡ given bell + steps
   pub most : steps ≤ looks
 
--- what a bell was asked, by the steps that a watch has taken and how the call ends: a Look for each step of a Watch, which ends
--- where it has; a call that is no Watch asks none
+-- what a bell was asked, by the steps that a watch has taken and how the call ends: a Look for each step of a Watch, the one that
+-- found it behind too, and else it ends where it has; a call that is no Watch asks none
 abbrev pub Rings : {B : Type 0} → (B → ℕ) → (B → Bool) → ℕ → B → B → ℕ → Option Outcome → Type 0
 Rings given is_over looks bell bell_after steps None = GivesLooks given looks bell bell_after steps
 Rings given is_over looks bell bell_after steps (Some (Watched messages)) =
     GivesLooks given looks bell bell_after steps × HasEnded steps looks (is_over bell_after)
+Rings given is_over looks bell bell_after steps (Some (Behind messages)) = GivesLooks given looks bell bell_after steps
 Rings given is_over looks bell bell_after steps (Some (Http http)) = bell_after ≡ bell
 Rings given is_over looks bell bell_after steps (Some (Status code)) = bell_after ≡ bell
 

@@ -10,8 +10,7 @@ use Rattle.web_call.specs.declared.call.Stage.{Stage}
 use Rattle.web_call.specs.declared.call.Stage.TheVariants.{Reading, Watching, Ending, Starved}
 use Rattle.web_call.specs.declared.intake.Intake.{Intake}
 use Rattle.web_call.specs.declared.outgoing.Outgoing.{Outgoing}
-use Rattle.web_call.specs.Answer.{Asking, Asks, Sends, Tells, IsStarvedAt}
-use Rattle.web_call.specs.Ask.{Watched}
+use Rattle.web_call.specs.Answer.{Asking, IsWatch, Sends, Source, Tells, IsStarvedAt}
 use Rattle.web_call.specs.Intake.{HasRead}
 use Rattle.web_call.specs.Outgoing.{GoesOut}
 use Rattle.web_call.specs.Pieces.{Piece}
@@ -43,10 +42,10 @@ pub record IsWatching (asking : Asking) (watch : Watch) (done part : List Piece)
   pub name : List ℕ
   pub first : List Entry
   pub later : List (List Entry)
-  pub asks : Asks asking (Watched name)
+  pub is_watch : IsWatch asking name first later
   pub asked_is : asking.asked ≡ first ∷ later
-  pub tells : Tells (slot_of asking.names name) first later done part
-  pub watch_is : watch ≡ watch_after (opened (changes_of first) (slot_of asking.names name)) later
+  pub tells : Tells (slot_of asking.source.names name) first later done part
+  pub watch_is : watch ≡ watch_after (opened (changes_of first) (slot_of asking.source.names name)) later
 
 -- what is sent at this stage
 abbrev pub SendsAt : Asking → Stage → List Piece → List Piece → Type 0
@@ -56,17 +55,17 @@ SendsAt asking (Ending outcome) done part = Sends asking done part (Some outcome
 SendsAt asking Starved done part = ⊥
 
 -- what is answered by a call with this past
-abbrev pub asking_of : List (List ℕ) → Past → List ℕ → List ℕ → Asking
-asking_of names past head body = record { names = names; asked = past.asked; head = head; body = body }
+abbrev pub asking_of : Source → Past → List ℕ → List ℕ → Asking
+asking_of source past head body = record { source = source; asked = past.asked; head = head; body = body }
 
 -- a request was received and is being answered
-pub record IsSending (names : List (List ℕ)) (past : Past) (stage : Stage) (outgoing : Outgoing) : Type 0 where
+pub record IsSending (source : Source) (past : Past) (stage : Stage) (outgoing : Outgoing) : Type 0 where
   pub head : List ℕ
   pub body : List ℕ
   pub done : List Piece
   pub part : List Piece
   pub requested : IsRequested head body past.received
-  pub sends : SendsAt (asking_of names past head body) stage done part
+  pub sends : SendsAt (asking_of source past head body) stage done part
   pub goes_out : GoesOut outgoing done part past.sent
 
 -- no byte was sent, and none is left
@@ -85,20 +84,20 @@ pub record HasStarved (past : Past) (outgoing : Outgoing) : Type 0 where
   pub silent : IsSilent outgoing past.sent
   pub starved : IsStarvedAt past.asked past.received
 
-abbrev pub StandsAt : List (List ℕ) → Past → Stage → Outgoing → Type 0
-StandsAt names past (Reading intake) outgoing = IsReading past intake outgoing
-StandsAt names past (Watching watch) outgoing = IsSending names past (Watching watch) outgoing
-StandsAt names past (Ending outcome) outgoing = IsSending names past (Ending outcome) outgoing
-StandsAt names past Starved outgoing = HasStarved past outgoing
+abbrev pub StandsAt : Source → Past → Stage → Outgoing → Type 0
+StandsAt source past (Reading intake) outgoing = IsReading past intake outgoing
+StandsAt source past (Watching watch) outgoing = IsSending source past (Watching watch) outgoing
+StandsAt source past (Ending outcome) outgoing = IsSending source past (Ending outcome) outgoing
+StandsAt source past Starved outgoing = HasStarved past outgoing
 
--- with this past the call stands so, over a door with these names
-abbrev pub Stands : List (List ℕ) → Past → Call → Type 0
-Stands names past call = StandsAt names past call.stage call.outgoing
+-- with this past the call stands so, over a door with this source
+abbrev pub Stands : Source → Past → Call → Type 0
+Stands source past call = StandsAt source past call.stage call.outgoing
 
--- whatever its past was, it has grown by this, over a door with these names
-abbrev pub CarriesFor : List (List ℕ) → Call → Call → (Past → Past) → Type 0
-CarriesFor names old new more = (past : Past) → Stands names past old → Stands names (more past) new
+-- whatever its past was, it has grown by this, over a door with this source
+abbrev pub CarriesFor : Source → Call → Call → (Past → Past) → Type 0
+CarriesFor source old new more = (past : Past) → Stands source past old → Stands source (more past) new
 
 -- the same over any door
 abbrev pub Carries : Call → Call → (Past → Past) → Type 0
-Carries old new more = (names : List (List ℕ)) → CarriesFor names old new more
+Carries old new more = (source : Source) → CarriesFor source old new more

@@ -1,10 +1,13 @@
 -- How far a call has come.
 use Rattle.std.specs.Prelude.{ℕ, Bool, true, false, ◌||◌, is_some, Option, None, Some, List, vec_len, length, nat_eq, if◌then◌else◌}
+use Rattle.desk_core.specs.declared.entry.Entry.{Entry}
+use Rattle.desk_core.specs.Changes.{changes_of}
+use Rattle.desk_core.specs.Watch.{IsBehind}
 use Rattle.web_call.specs.declared.call.Call.{Call}
 use Rattle.web_call.specs.declared.call.Stage.{Stage}
 use Rattle.web_call.specs.declared.call.Stage.TheVariants.{Reading, Watching, Ending, Starved}
 use Rattle.web_call.specs.declared.outcome.Outcome.{Outcome}
-use Rattle.web_call.specs.declared.outcome.Outcome.TheVariants.{Http, Status, Watched}
+use Rattle.web_call.specs.declared.outcome.Outcome.TheVariants.{Http, Status, Watched, Behind}
 use Rattle.web_call.specs.Outgoing.{left_of, frames_out}
 use Rattle.web_call.specs.Reading as reading
 use Rattle.web_call.specs.Text.{text_bytes}
@@ -89,10 +92,21 @@ ends_with Starved = None
 abbrev pub ending_of : Call → Option Outcome
 ending_of call = ends_with call.stage
 
+abbrev pub IsBehindAt : Option ℕ → List Entry → Stage → Type 0
+IsBehindAt kept entries (Reading intake) = ⊥
+IsBehindAt kept entries (Watching watch) = IsBehind kept (changes_of entries) watch
+IsBehindAt kept entries (Ending outcome) = ⊥
+IsBehindAt kept entries Starved = ⊥
+
+-- the call is a Watch that is behind at this history, of whose changes so many are kept
+abbrev pub IsLeftBehind : Option ℕ → List Entry → Call → Type 0
+IsLeftBehind kept entries call = IsBehindAt kept entries call.stage
+
 -- the call ends as a Watch does
 abbrev pub ends_watch : Option Outcome → Bool
 ends_watch None = false
 ends_watch (Some (Watched messages)) = true
+ends_watch (Some (Behind messages)) = true
 ends_watch (Some (Http http)) = false
 ends_watch (Some (Status code)) = false
 

@@ -5,7 +5,7 @@ use Rattle.desk_core.specs.declared.entry.Entry.{Entry}
 use Rattle.desk_core.specs.Changes.{changes_of}
 use Rattle.desk_core.specs.Legal.{IsLegal}
 use Rattle.desk_core.specs.Status.{shown}
-use Rattle.desk_core.specs.Watch.{WatchState, opened, stepped, walk, last_of}
+use Rattle.desk_core.specs.Watch.{IsBehind, WatchState, opened, stepped, walk, last_of}
 use Rattle.health_wire.specs.declared.serving.Serving.{Serving}
 
 -- each of these histories is legal and follows the one before it
@@ -28,3 +28,8 @@ pub record AsksDoor {D : Type 0} (seen : D → List Entry) (follows : List Entry
 abbrev pub watch_after : WatchState → List (List Entry) → WatchState
 watch_after watch [] = watch
 watch_after watch (entries ∷ later) = watch_after (stepped (changes_of entries) watch).1 later
+
+-- the watch is at none of these histories behind, of whose changes so many are kept
+abbrev pub KeepsUp : Option ℕ → WatchState → List (List Entry) → Type 0
+KeepsUp kept watch [] = Unit {0}
+KeepsUp kept watch (next ∷ later) = (IsBehind kept (changes_of next) watch → ⊥) × KeepsUp kept (stepped (changes_of next) watch).1 later

@@ -1,21 +1,21 @@
 use crate::Door;
-use desk_core::{Catalogue, Desk, Watch};
+use desk_core::{Behind, Catalogue, Desk, Keep, KeepAll, Watch};
 use health_wire::Serving;
 use probe_core::Probe;
 
 /// A door over a desk that stands still.
 #[derive(Drop)]
-pub struct DeskDoor<'a, P: Probe> {
-    desk: &'a Desk<P>,
+pub struct DeskDoor<'a, P: Probe, K: Keep = KeepAll> {
+    desk: &'a Desk<P, K>,
     catalogue: &'a Catalogue,
 }
 
-impl<'a, P: Probe> DeskDoor<'a, P> {
+impl<'a, P: Probe, K: Keep> DeskDoor<'a, P, K> {
     ghost use Rattle.std.specs.Prelude.{◌≡◌};
     ghost use Rattle.web_call.specs.DeskDoor.{door_names, door_journal};
 
     /// The slots of the desk are those of the catalogue.
-    pub fn new(desk: &'a Desk<P>, catalogue: &'a Catalogue) -> DeskDoor<'a, P>
+    pub fn new(desk: &'a Desk<P, K>, catalogue: &'a Catalogue) -> DeskDoor<'a, P, K>
         ensures names { door_names result ≡ catalogue.now }
         ensures journal { door_journal result ≡ desk.now.journal }
     {
@@ -23,7 +23,7 @@ impl<'a, P: Probe> DeskDoor<'a, P> {
     }
 }
 
-impl<'a, P: Probe> Door for DeskDoor<'a, P> {
+impl<'a, P: Probe, K: Keep> Door for DeskDoor<'a, P, K> {
     ghost use Rattle.std.specs.Prelude.{◌≡◌};
     ghost use Rattle.std.proofs.Common.{refl, ◌∙◌};
     ghost use Rattle.desk_core.specs.Past.{past};
@@ -34,6 +34,8 @@ impl<'a, P: Probe> Door for DeskDoor<'a, P> {
     ghost seen = { λ door. past (door_journal door) };
 
     ghost follows = { λ entries next. next ≡ entries };
+
+    ghost kept = { K.kept };
 
     ghost stays = { λ a b. b ≡ a };
 
@@ -49,7 +51,7 @@ impl<'a, P: Probe> Door for DeskDoor<'a, P> {
         self.desk.open(self.catalogue.slot(name))
     }
 
-    fn step(&mut self, watch: &mut Watch) -> Option<Serving> {
-        self.desk.step(watch)
+    fn step(&mut self, watch: &mut Watch) -> Result<Option<Serving>, Behind> {
+        self.desk.step_kept(watch)
     }
 }

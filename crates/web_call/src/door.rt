@@ -1,24 +1,27 @@
-use desk_core::Watch;
+use desk_core::{Behind, Watch};
 use health_wire::Serving;
 
 /// What an exchange asks for statuses: a catalogue that stays, and a history of the registry that each call may look at anew.
 ///
 /// `seen` is the history that it has seen, the newest entry first, and `follows` says how a call may change it. `stays` says
-/// what else of the door every call keeps, so that whoever lends something to a door knows of it afterwards. Each call may wait.
+/// what else of the door every call keeps, so that whoever lends something to a door knows of it afterwards. `kept` is how many
+/// changes the registry keeps, or none where it keeps all. Each call may wait.
 pub trait Door {
-    ghost use Rattle.std.specs.Prelude.{◌≡◌, ℕ, List};
+    ghost use Rattle.std.specs.Prelude.{◌≡◌, ◌↔◌, ℕ, List, Option, IsErr, IfOk, OnOk, OnErr};
     ghost use Rattle.desk_core.specs.declared.entry.Entry.{Entry};
     ghost use Rattle.desk_core.specs.Catalogue.{slot_of};
     ghost use Rattle.desk_core.specs.Changes.{changes_of};
     ghost use Rattle.desk_core.specs.Legal.{IsLegal};
     ghost use Rattle.desk_core.specs.Status.{shown, status_map};
-    ghost use Rattle.desk_core.specs.Watch.{opened, stepped};
+    ghost use Rattle.desk_core.specs.Watch.{IsBehind, opened, stepped};
 
     ghost names: { Self → List (List ℕ) };
 
     ghost seen: { Self → List Entry };
 
     ghost follows: { List Entry → List Entry → Type 0 };
+
+    ghost kept: { Option ℕ };
 
     ghost stays: { Self → Self → Type 0 };
 
@@ -43,12 +46,14 @@ pub trait Door {
         ensures watch { result.0 ≡ opened (changes_of (seen self.new)) (slot_of (names self.old) name.now) }
         ensures status { result.1 ≡ shown (seen self.new) (slot_of (names self.old) name.now) };
 
-    /// The next change of the watch's service, if there is one by now.
-    fn step(&mut self, watch: &mut Watch) -> Option<Serving>
+    /// The next change of the watch's service, if there is one by now, unless the watch is behind: then it stays as it is.
+    fn step(&mut self, watch: &mut Watch) -> Result<Option<Serving>, Behind>
         ensures names { names self.new ≡ names self.old }
         ensures legal { IsLegal (seen self.new) }
         ensures follows { follows (seen self.old) (seen self.new) }
         ensures stays { stays self.old self.new }
-        ensures status { result ≡ (stepped (changes_of (seen self.new)) watch.old).0 }
-        ensures watch { watch.new ≡ (stepped (changes_of (seen self.new)) watch.old).1 };
+        ensures status { IfOk result (λ status. status ≡ (stepped (changes_of (seen self.new)) watch.old).0) }
+        ensures watch { OnOk result (watch.new ≡ (stepped (changes_of (seen self.new)) watch.old).1) }
+        ensures behind { IsErr result ↔ IsBehind kept (changes_of (seen self.new)) watch.old }
+        ensures left { OnErr result (watch.new ≡ watch.old) };
 }

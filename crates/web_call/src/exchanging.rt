@@ -110,7 +110,7 @@ fn reply<D: Door>(alloc: Global, door: &mut D, call: &mut Call)
     requires read { is_open call.old ≡ false }
     requires unanswered { is_answered call.old ≡ false }
     ensures asked { (asked : List (List Entry)) × (length asked ≤ 1) × AsksDoor D.seen D.follows door.old door.new asked
-        × CarriesFor (D.names door.old) call.old call.new (with_asked asked) }
+        × CarriesFor (record { names = D.names door.old; kept = D.kept }) call.old call.new (with_asked asked) }
     ensures ready { is_answered call.new ≡ not (is_starved call.new) }
     ensures no_end { ends_watch (ending_of call.new) ≡ false }
     ensures names { D.names door.new ≡ D.names door.old }
@@ -149,19 +149,21 @@ fn send<W: Write>(writer: &mut Tap<W>, call: &mut Call) -> bool
     writer.flush().is_ok()
 }
 
-/// Looks, where there may be a Look more and the bell gives one, or else ends the Watch. It tells how many Looks there were.
+/// Looks, where there may be a Look more and the bell gives one, or else ends the Watch, which a Look ends too that finds it behind. It
+/// tells how many Looks there were.
 fn step<D: Door, B: Bell>(door: &mut D, bell: &mut B, call: &mut Call, had: u32, looks: u32) -> u32
     requires watching { is_watching call.old ≡ true }
     requires told { to_send call.old ≡ [] }
     requires most { had ≤ looks }
     ensures asked { (more : List (List Entry)) × AsksDoor D.seen D.follows door.old door.new more
-        × CarriesFor (D.names door.old) call.old call.new (with_asked more)
+        × CarriesFor (record { names = D.names door.old; kept = D.kept }) call.old call.new (with_asked more)
         × (result ≡ had + length more) × (B.given bell.new ≡ B.given bell.old + length more) }
     ensures most { result ≤ looks }
     ensures goes_on { is_watching call.new ≡ true → result ≡ had + 1 }
     ensures answered { is_answered call.new ≡ true }
-    ensures ends { is_watching call.new ≡ false → HasEnded result looks (B.is_over bell.new)
-        × ((messages : ℕ) × (ending_of call.new ≡ Some (Outcome.Watched messages))) }
+    ensures ends { is_watching call.new ≡ false → (messages : ℕ)
+        × (((ending_of call.new ≡ Some (Outcome.Watched messages)) × HasEnded result looks (B.is_over bell.new))
+        ⊎ (ending_of call.new ≡ Some (Outcome.Behind messages))) }
     ensures names { D.names door.new ≡ D.names door.old }
     ensures stays { D.stays door.old door.new }
 {
@@ -193,7 +195,7 @@ pub fn exchange<R: Read, W: Write, D: Door, B: Bell>(
     ensures ok { IfOk result (λ outcome. (head body : List ℕ) × (asked : List (List Entry)) × (pieces : List Piece)
         × IsHead head × Consumes (R.remaining (tap_inner reader.old)) (R.remaining (tap_inner reader.new)) (head ++ body)
         × Meets D.seen D.follows B.given B.is_over limits.looks door.old door.new bell.old bell.new asked (Some outcome)
-        × IsAnswered (record { names = D.names door.old; asked = asked; head = head; body = body }) pieces outcome
+        × IsAnswered (record { source = record { names = D.names door.old; kept = D.kept }; asked = asked; head = head; body = body }) pieces outcome
         × Appends (W.contents (tap_inner writer.old)) (W.contents (tap_inner writer.new)) (text_of pieces)) }
     ensures kept { OnOk result ((tap_failed reader.new ≡ tap_failed reader.old) × (tap_failed writer.new ≡ tap_failed writer.old)) }
 
@@ -216,7 +218,7 @@ pub fn exchange<R: Read, W: Write, D: Door, B: Bell>(
         × (done part : List Piece) × (ending : Option Outcome)
         × IsHead head × Consumes (R.remaining (tap_inner reader.old)) (R.remaining (tap_inner reader.new)) (head ++ body)
         × Meets D.seen D.follows B.given B.is_over limits.looks door.old door.new bell.old bell.new asked ending
-        × Sends (record { names = D.names door.old; asked = asked; head = head; body = body }) done part ending × (part ≢ [])
+        × Sends (record { source = record { names = D.names door.old; kept = D.kept }; asked = asked; head = head; body = body }) done part ending × (part ≢ [])
         × IsCut done part (W.contents (tap_inner writer.old)) (W.contents (tap_inner writer.new)) fault.frames) }
 
     ensures looks { B.given bell.new ≤ B.given bell.old + limits.looks }

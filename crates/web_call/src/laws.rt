@@ -1,10 +1,12 @@
-ghost use Rattle.std.specs.Prelude.{◌≡◌, ◌⊎◌, [], ℕ, List, Some, is_some, false, true};
+ghost use Rattle.std.specs.Prelude.{◌≡◌, ◌⊎◌, [], ℕ, List, None, Some, is_some, false, true};
 ghost use Rattle.web_call.specs.declared.call.Call.{Call};
 ghost use Rattle.web_call.specs.declared.outcome.Outcome.{Outcome};
-ghost use Rattle.web_call.specs.Answer.{IsStarvedAt};
+ghost use Rattle.web_call.specs.declared.outcome.Outcome.TheVariants.{Behind};
+ghost use Rattle.web_call.specs.Answer.{Asking, IsStarvedAt, Sends, Source};
 ghost use Rattle.web_call.specs.Head.{IsHeaded};
 ghost use Rattle.web_call.specs.HeadAnswer.{HeadAnswer};
 ghost use Rattle.web_call.specs.Past.{Past, Stands};
+ghost use Rattle.web_call.specs.Pieces.{Piece};
 ghost use Rattle.web_call.specs.Request.{IsCutRequest};
 ghost use Rattle.web_call.specs.Stages.{ending_of, frames_of, is_answered, is_open, is_starved, is_watching, is_whole, outcome_of, to_send};
 ghost use Rattle.web_call.specs.WholeCall.{IsCutCall, IsWholeCall, IsWholeRequest};
@@ -18,18 +20,24 @@ pub fn one_head()
 /// the rest to send, and the whole answer where it ended. Before it is answered nothing was sent and nothing is left to send; while
 /// more is wanted the request is cut, and nobody was asked.
 pub fn whole_calls()
-    ensures whole { (names : List (List ℕ)) (past : Past) (call : Call) (outcome : Outcome) → Stands names past call
-        → outcome_of call ≡ Some outcome → IsWholeCall names past outcome }
-    ensures front { (names : List (List ℕ)) (past : Past) (call : Call) → Stands names past call
-        → is_answered call ≡ true → IsCutCall names past (ending_of call) (to_send call) (frames_of call) }
-    ensures silent { (names : List (List ℕ)) (past : Past) (call : Call) → Stands names past call
+    ensures whole { (source : Source) (past : Past) (call : Call) (outcome : Outcome) → Stands source past call
+        → outcome_of call ≡ Some outcome → IsWholeCall source past outcome }
+    ensures front { (source : Source) (past : Past) (call : Call) → Stands source past call
+        → is_answered call ≡ true → IsCutCall source past (ending_of call) (to_send call) (frames_of call) }
+    ensures silent { (source : Source) (past : Past) (call : Call) → Stands source past call
         → is_answered call ≡ false → (past.sent ≡ []) × (to_send call ≡ []) × (frames_of call ≡ 0) }
-    ensures wanting { (names : List (List ℕ)) (past : Past) (call : Call) → Stands names past call
+    ensures wanting { (source : Source) (past : Past) (call : Call) → Stands source past call
         → is_open call ≡ true → IsCutRequest past.received × (past.asked ≡ []) }
-    ensures waiting { (names : List (List ℕ)) (past : Past) (call : Call) → Stands names past call
+    ensures waiting { (source : Source) (past : Past) (call : Call) → Stands source past call
         → is_whole call ≡ true → IsWholeRequest past }
-    ensures starved { (names : List (List ℕ)) (past : Past) (call : Call) → Stands names past call
+    ensures starved { (source : Source) (past : Past) (call : Call) → Stands source past call
         → is_starved call ≡ true → IsStarvedAt past.asked past.received }
     ensures turns { (call : Call) → (is_open call ≡ true) ⊎ (is_whole call ≡ true) ⊎ (is_watching call ≡ true)
         ⊎ (is_starved call ≡ true) ⊎ (is_some (ending_of call) ≡ true) }
+{}
+
+/// Over a registry that keeps all no Watch ends as one that is behind.
+pub fn never_behind()
+    ensures { (asking : Asking) (done part : List Piece) (messages : ℕ) → asking.source.kept ≡ None
+        → (Sends asking done part (Some (Behind messages)) → ⊥) }
 {}

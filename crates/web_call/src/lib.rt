@@ -31,7 +31,7 @@ pub use door::Door;
 pub use exchanging::{ExchangeFault, Limits, Why, exchange};
 pub use head::{Headed, head_of, is_too_large};
 pub use head_limits::{HEAD_END, MAX_HEAD_LEN, MAX_LINE_FEEDS, MAX_LINES};
-pub use laws::{one_head, whole_calls};
+pub use laws::{never_behind, one_head, whole_calls};
 pub use lines::{count_named, first_named, is_named};
 pub use method::Method;
 pub use outcome::Outcome;

@@ -1,4 +1,5 @@
 pub(crate) mod answers;
+mod behind;
 mod bells;
 mod cutting;
 mod doors;

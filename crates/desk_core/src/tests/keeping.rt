@@ -103,9 +103,10 @@ fn forgets_all_but_sixteen_of_a_hundred_flips(rt: HostRuntime) -> Result<(), Fai
     expect_told(&desk, &mut watch, &[Ok(None)])?;
     flip(&mut desk, 2)?;
     expect_told(&desk, &mut watch, &[Ok(NOT_SERVING), Ok(SERVING), Ok(None)])?;
-    let kept = desk.journal_kept().len();
-    let found = (kept, board_entries(desk.board()), desk.capacity() <= 64);
-    same(&found, &(16, 104, true), &"what is kept")
+    let found = (desk.journal_kept().len(), board_entries(desk.board()));
+    same(&found, &(16, 104), &"what is kept")?;
+    let Capacity { entries, changes } = desk.capacity();
+    same(&(entries <= 32, changes <= 32), &(true, true), &"memory")
 }
 
 /// Of each cause one: done, ignored, of the wrong kind, of a slot that is not registered.

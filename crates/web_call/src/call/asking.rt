@@ -1,4 +1,4 @@
-ghost use Rattle.std.specs.Prelude.{◌≡◌, ◌≤◌, ◌⊎◌, ◌∷◌, [], ℕ, List, length, true, false, not, Some, IfOk};
+ghost use Rattle.std.specs.Prelude.{◌≡◌, ◌≤◌, ◌⊎◌, ◌↔◌, ◌∷◌, ◌++◌, [], ℕ, List, length, true, false, not, Some, IfOk};
 ghost use Rattle.desk_core.specs.declared.entry.Entry.{Entry};
 ghost use Rattle.web_call.specs.declared.call.Stage.TheVariants as stages;
 ghost use Rattle.web_call.specs.Head.{IsHeaded};
@@ -9,9 +9,10 @@ ghost use Rattle.web_call.specs.Past.{Past, Carries, CarriesFor, IsReading, Stan
 ghost use Rattle.web_call.specs.Reading.{is_whole as is_whole_reading};
 ghost use Rattle.web_call.specs.Pieces.{Piece};
 ghost use Rattle.web_call.specs.Request.{IsRequested};
-ghost use Rattle.web_call.specs.Stages.{is_whole, is_watching, is_answered, is_starved, ends_watch, ending_of, to_send};
+ghost use Rattle.web_call.specs.Stages.{IsLeftBehind, is_whole, is_watching, is_answered, is_starved, ends_watch, ending_of, to_send};
 ghost use Rattle.web_call.specs.Answer.{check_code};
 ghost use Rattle.web_call.specs.Text.{IsTextOf};
+ghost use Rattle.web_call.specs.Texts.{watch_end};
 ghost use Rattle.web_call.specs.Walk.{AsksDoor};
 
 use super::{Call, Stage};
@@ -23,6 +24,7 @@ use crate::method::Method;
 use crate::outcome::Outcome;
 use crate::outgoing::Outgoing;
 use crate::text::Text;
+use desk_core::Behind;
 use grpc_frame::Code;
 use health_wire::Serving;
 use std::alloc::{AllocError, Global};
@@ -59,7 +61,7 @@ fn check_code(status: Option<Serving>) -> Code
 fn answer_body<D: Door>(alloc: Global, door: &mut D, method: Method, body: &[u8]) -> Call
     ensures asked { (asked : List (List Entry)) × (length asked ≤ 1) × AsksDoor D.seen D.follows door.old door.new asked
         × ((head received : List ℕ) → IsRequested head body.now received → IsHeaded head (Asked method (length body.now))
-        → Stands (D.names door.old) (record { received = received; sent = []; asked = asked }) result) }
+        → Stands (record { names = D.names door.old; kept = D.kept }) (record { received = received; sent = []; asked = asked }) result) }
     ensures ready { is_answered result ≡ not (is_starved result) }
     ensures no_end { ends_watch (ending_of result) ≡ false }
     ensures names { D.names door.new ≡ D.names door.old }
@@ -88,7 +90,7 @@ fn answer_body<D: Door>(alloc: Global, door: &mut D, method: Method, body: &[u8]
 fn answer_request<D: Door>(alloc: Global, door: &mut D, intake: &Intake) -> Call
     requires { is_whole_reading intake.now.reading ≡ true }
     ensures asked { (asked : List (List Entry)) × (length asked ≤ 1) × AsksDoor D.seen D.follows door.old door.new asked
-        × ((past : Past) (outgoing : Outgoing) → IsReading past intake.now outgoing → Stands (D.names door.old) (with_asked asked past) result) }
+        × ((past : Past) (outgoing : Outgoing) → IsReading past intake.now outgoing → Stands (record { names = D.names door.old; kept = D.kept }) (with_asked asked past) result) }
     ensures ready { is_answered result ≡ not (is_starved result) }
     ensures no_end { ends_watch (ending_of result) ≡ false }
     ensures names { D.names door.new ≡ D.names door.old }
@@ -106,7 +108,7 @@ impl Call {
     pub fn answer<D: Door>(&mut self, alloc: Global, door: &mut D)
         requires { is_whole self.old ≡ true }
         ensures asked { (asked : List (List Entry)) × (length asked ≤ 1) × AsksDoor D.seen D.follows door.old door.new asked
-            × CarriesFor (D.names door.old) self.old self.new (with_asked asked) }
+            × CarriesFor (record { names = D.names door.old; kept = D.kept }) self.old self.new (with_asked asked) }
         ensures ready { is_answered self.new ≡ not (is_starved self.new) }
         ensures no_end { ends_watch (ending_of self.new) ≡ false }
         ensures names { D.names door.new ≡ D.names door.old }
@@ -119,20 +121,28 @@ impl Call {
         *self = call;
     }
 
-    /// Takes a step of the Watch, where all is sent that it was told so far, and has what the step answers to send.
+    /// Takes a step of the Watch, where all is sent that it was told so far, and has what the step answers to send. A Watch that is
+    /// behind is ended, and has its trailers to send.
     pub fn look<D: Door>(&mut self, door: &mut D)
         requires watching { is_watching self.old ≡ true }
         requires told { to_send self.old ≡ [] }
         ensures asks { AsksDoor D.seen D.follows door.old door.new (D.seen door.new ∷ []) }
-        ensures looked { CarriesFor (D.names door.old) self.old self.new (with_asked (D.seen door.new ∷ [])) }
-        ensures watching { is_watching self.new ≡ true }
+        ensures looked { CarriesFor (record { names = D.names door.old; kept = D.kept }) self.old self.new (with_asked (D.seen door.new ∷ [])) }
+        ensures behind { is_watching self.new ≡ false ↔ IsLeftBehind D.kept (D.seen door.new) self.old }
+        ensures ended { is_watching self.new ≡ false → (messages : ℕ) × (ending_of self.new ≡ Some (Outcome.Behind messages)) }
         ensures answered { is_answered self.new ≡ true }
         ensures names { D.names door.new ≡ D.names door.old }
         ensures stays { D.stays door.old door.new }
     {
-        if let Stage::Watching(watch) = &mut self.stage {
-            let answer = door.step(watch);
-            self.outgoing.follow(Text::told(answer));
+        let Stage::Watching(watch) = &mut self.stage else {
+            unreachable!()
+        };
+        match door.step(watch) {
+            Ok(answer) => self.outgoing.follow(Text::told(answer)),
+            Err(Behind) => {
+                let messages = self.frames();
+                self.close(Outcome::Behind { messages });
+            }
         }
     }
 
@@ -145,7 +155,16 @@ impl Call {
         ensures answered { is_answered self.new ≡ true }
     {
         let messages = self.frames();
+        self.close(Outcome::Watched { messages });
+    }
+
+    /// Has the trailers of a Watch to send, and ends so.
+    fn close(&mut self, outcome: Outcome)
+        requires { to_send self.old ≡ [] }
+        ensures stage { self.new.stage ≡ stages.Ending outcome }
+        ensures goes { (done part : List Piece) (sent : List ℕ) → GoesOut self.old.outgoing done part sent → GoesOut self.new.outgoing (done ++ part) watch_end sent }
+    {
         self.outgoing.follow(Text::end());
-        self.stage = Stage::Ending(Outcome::Watched { messages });
+        self.stage = Stage::Ending(outcome);
     }
 }

@@ -1,4 +1,5 @@
 ghost use Rattle.std.specs.Prelude.{◌≡◌, ◌≤◌, ◌<◌, ◌+◌, ℕ, List, length, take, true, false, nat_lt, IfOk};
+ghost use Rattle.web_call.specs.Answer.{Source};
 ghost use Rattle.web_call.specs.Past.{Stands, Carries, begun, with_received, with_sent};
 ghost use Rattle.web_call.specs.Stages.{is_open, is_whole, is_watching, is_starved, is_answered, wanted_by, owed, to_send, being_sent, ending_of, outcome_of, is_done, frames_of};
 
@@ -12,7 +13,7 @@ use std::alloc::{AllocError, Global};
 impl Call {
     /// A call of which nothing was received. Memory is taken for the longest head.
     pub fn new(alloc: Global) -> Result<Call, AllocError>
-        ensures begun { IfOk result (λ call. (names : List (List ℕ)) → Stands names begun call) }
+        ensures begun { IfOk result (λ call. (source : Source) → Stands source begun call) }
         ensures is_open { IfOk result (λ call. is_open call ≡ true) }
     {
         Ok(Call {

@@ -83,6 +83,21 @@ pub(crate) const HEAD_TOO_LARGE: &[u8] =
 pub(crate) const VERSION_NOT_SUPPORTED: &[u8] =
     b"HTTP/1.1 505 HTTP Version Not Supported\r\nconnection: close\r\ncontent-length: 0\r\n\r\n";
 
+/// A Watch of a service that is serving.
+pub(crate) const WATCH_OF_SERVING: &[u8] = b"HTTP/1.1 200 OK\r\n\
+    connection: close\r\n\
+    content-type: application/grpc-web+proto\r\n\
+    transfer-encoding: chunked\r\n\
+    \r\n\
+    7\r\n\
+    \x00\x00\x00\x00\x02\x08\x01\r\n\
+    2f\r\n\
+    \x80\x00\x00\x00\x2agrpc-status:14\r\n\
+    grpc-message:watch ended\r\n\
+    \r\n\
+    0\r\n\
+    \r\n";
+
 /// A Watch of an unknown service.
 pub(crate) const WATCH_OF_UNKNOWN: &[u8] = b"HTTP/1.1 200 OK\r\n\
     connection: close\r\n\

@@ -11,7 +11,7 @@ use test_support::same;
 
 /// How the bytes of a request and of its response are cut, each way.
 #[derive(Clone, Copy, Debug)]
-enum Cutting {
+pub(super) enum Cutting {
     /// In two, behind so many bytes.
     InTwo(usize),
     EachByte,
@@ -30,10 +30,10 @@ impl Cutting {
 
 /// How a call went: what it sent, its outcome, and whether it was done.
 #[derive(Debug, Drop, PartialEq, Eq)]
-struct Course {
-    sent: Vec<u8>,
-    outcome: Option<Outcome>,
-    is_done: bool,
+pub(super) struct Course {
+    pub(super) sent: Vec<u8>,
+    pub(super) outcome: Option<Outcome>,
+    pub(super) is_done: bool,
 }
 
 /// Gives the call the pieces of its request, until it takes no more.
@@ -81,19 +81,30 @@ fn drive(
 ) -> Result<(Course, u32), Fail> {
     let Stage { catalogue, desk } = Stage::new(alloc, setting)?;
     let mut door = Changing::new(desk, &catalogue, scene.settings);
+    drive_at(alloc, &mut door, scene, input, cutting)
+}
+
+/// Drives a call to its end at this door, and tells how many frames it counted.
+pub(super) fn drive_at<D: Door>(
+    alloc: Global,
+    door: &mut D,
+    scene: &Scene,
+    input: &[u8],
+    cutting: Cutting,
+) -> Result<(Course, u32), Fail> {
     let mut call = Call::new(alloc)?;
     give(alloc, &mut call, input, cutting);
     if call.is_whole() {
-        call.answer(alloc, &mut door);
+        call.answer(alloc, door);
     }
     let mut sent = Vec::new(alloc);
     take(&mut call, &mut sent, cutting)?;
     for turn in scene.turns.iter().take(scene.looks as usize) {
-        if step(&mut call, &mut door, *turn) {
+        if step(&mut call, door, *turn) {
             take(&mut call, &mut sent, cutting)?;
         }
     }
-    if step(&mut call, &mut door, Turn::End) {
+    if step(&mut call, door, Turn::End) {
         take(&mut call, &mut sent, cutting)?;
     }
     let course = Course {

@@ -1,5 +1,5 @@
 use crate::{DeskDoor, Door};
-use desk_core::{Catalogue, Desk, Setting, Slot, Watch};
+use desk_core::{Behind, Catalogue, Desk, Setting, Slot, Watch};
 use health_wire::Serving;
 use probe_core::Manual;
 use std::alloc::Global;
@@ -71,6 +71,8 @@ impl<D: Door> Door for Counted<D> {
 
     ghost follows = { D.follows };
 
+    ghost kept = { D.kept };
+
     ghost stays = { λ a b. D.stays a.door b.door };
 
     ghost stays_self = { λ a. D.stays_self a.door };
@@ -87,7 +89,7 @@ impl<D: Door> Door for Counted<D> {
         self.door.open(name)
     }
 
-    fn step(&mut self, watch: &mut Watch) -> Option<Serving> {
+    fn step(&mut self, watch: &mut Watch) -> Result<Option<Serving>, Behind> {
         self.asked = self.asked.saturating_add(1);
         self.door.step(watch)
     }
@@ -122,7 +124,7 @@ fn set(desk: &mut Desk<Manual>, slot: Option<Slot>, setting: Option<Setting>) {
 }
 
 impl Door for Changing<'_> {
-    ghost use Rattle.std.specs.Prelude.{⊤};
+    ghost use Rattle.std.specs.Prelude.{⊤, None};
     ghost use Rattle.desk_core.specs.Past.{past};
 
     ghost names = { λ door. door.catalogue.now };
@@ -130,6 +132,8 @@ impl Door for Changing<'_> {
     ghost seen = { λ door. past door.desk.journal };
 
     ghost follows = { λ _ _. ⊤ };
+
+    ghost kept = { None };
 
     ghost stays = { λ _ _. ⊤ };
 
@@ -145,11 +149,11 @@ impl Door for Changing<'_> {
         self.desk.open(self.catalogue.slot(name))
     }
 
-    fn step(&mut self, watch: &mut Watch) -> Option<Serving> {
+    fn step(&mut self, watch: &mut Watch) -> Result<Option<Serving>, Behind> {
         if let [setting, rest @ ..] = self.settings {
             self.settings = rest;
             set(&mut self.desk, self.catalogue.slot(""), *setting);
         }
-        self.desk.step(watch)
+        self.desk.step_kept(watch)
     }
 }

@@ -1,6 +1,7 @@
-use Rattle.std.proofs.Common.{◌≡◌, refl, ap, subst, ◌∙◌, [], inl, inr, true, false, rules, arith}
+use Rattle.std.proofs.Common.{◌≡◌, refl, ap, subst, ◌∙◌, [], None, inl, inr, true, false, rules, arith}
 use Rattle.std.proofs.KnownBytes.{Consumes-nil}
 use Rattle.std.specs.Io.KnownBytes.{Appends, Consumes}
+use Rattle.web_call.specs.Answer.{Source}
 use Rattle.web_call.specs.Exchange.{Meets}
 use Rattle.web_call.specs.Past.{CarriesFor, begun, with_asked, with_received}
 use Rattle.web_call.specs.Pieces.{text_of}
@@ -11,27 +12,31 @@ use Rattle.web_call.proofs.WalkLemmas.{AsksDoor-none}
 use Rattle.web_call.proofs.WholeCallLemmas.{cut_of, cut_written, read_cut, starved_at, whole_of}
 use Rattle.web_call.proofs.exchanging.exchange.Goals as goal
 
+-- a source of nothing
+nowhere : Source
+nowhere = record { names = []; kept = None }
+
 pub returns-then-not-receive-clause-cut_request : goal.returns-then-not-receive-clause-cut_request
 returns-then-not-receive-clause-cut_request g c = λ _.
     let r = c.receive.ensures.received in
-    (r.0, read_cut [] (with_received r.0 begun) c.receive.new.call c.if-not-receive.ensures.is_open (r.2 [] begun (c.in-Ok.ensures.begun [])), r.1)
+    (r.0, read_cut nowhere (with_received r.0 begun) c.receive.new.call c.if-not-receive.ensures.is_open (r.2 nowhere begun (c.in-Ok.ensures.begun nowhere)), r.1)
 
 pub returns-then-is_starved-clause-starved : goal.returns-then-is_starved-clause-starved
 returns-then-is_starved-clause-starved g c = λ _.
     let r = c.receive.ensures.received in
     let a = c.reply.ensures.asked in
-    let names = g.D.Door.names c.args.door.now in
+    let source : Source = record { names = g.D.Door.names c.args.door.now; kept = g.D.Door.kept } in
     let past = with_asked a.0 (with_received r.0 begun) in
-    (r.0, a.0, inr (starved_at names past c.reply.new.call (search rules) (a.3 (with_received r.0 begun) (r.2 names begun (c.in-Ok.ensures.begun names)))), a.2, r.1)
+    (r.0, a.0, inr (starved_at source past c.reply.new.call (search rules) (a.3 (with_received r.0 begun) (r.2 source begun (c.in-Ok.ensures.begun source)))), a.2, r.1)
 
 pub loop-is_sent-init : goal.loop-is_sent-init
 loop-is_sent-init g c =
     let r = c.receive.ensures.received in
     let a = c.reply.ensures.asked in
     let sent = c.send-is_sent.ensures.sent in
-    let names = g.D.Door.names c.args.door.now in record {
+    let source : Source = record { names = g.D.Door.names c.args.door.now; kept = g.D.Door.kept } in record {
       so_far = so_sent {call = c.reply.new.call} {new = c.send-is_sent.new.call} sent.0
-          (so_replied c.in-Ok.call c.receive.new.call c.reply.new.call r.0 a.0 (c.in-Ok.ensures.begun names) r.1 r.2 a.1 a.2 a.3 c.reply.ensures.no_end)
+          (so_replied c.in-Ok.call c.receive.new.call c.reply.new.call r.0 a.0 (c.in-Ok.ensures.begun source) r.1 r.2 a.1 a.2 a.3 c.reply.ensures.no_end)
           sent.1 sent.2 c.send-is_sent.ensures.watching c.send-is_sent.ensures.ending;
       answered = c.send-is_sent.ensures.answered ∙ (search rules);
       told = search rules;
@@ -48,7 +53,7 @@ loop-is_sent-preserved g c =
     let before = c.loop-is_sent.invariant in
     let a = c.step-had.ensures.asked in
     let sent = c.send-is_sent-in-loop-is_sent.ensures.sent in
-    let carries = subst (λ names. CarriesFor names c.loop-is_sent.call c.step-had.new.call (with_asked a.0)) before.names a.2 in
+    let carries = subst (λ names. CarriesFor (record { names = names; kept = g.D.Door.kept }) c.loop-is_sent.call c.step-had.new.call (with_asked a.0)) before.names a.2 in
     let watching : is_watching c.loop-is_sent.call ≡ true = search rules in record {
       so_far = so_sent {call = c.step-had.new.call} {new = c.send-is_sent-in-loop-is_sent.new.call} sent.0
           (so_stepped {call = c.loop-is_sent.call} {new = c.step-had.new.call} a.0 before.so_far watching a.1 carries a.3 a.4 c.step-had.ensures.most c.step-had.ensures.ends)
@@ -66,7 +71,7 @@ loop-is_sent-preserved g c =
 pub returns-in-Some-clause-ok : goal.returns-in-Some-clause-ok
 returns-in-Some-clause-ok g c =
     let s = c.loop-is_sent.invariant.so_far in
-    let w = whole_of (g.D.Door.names c.args.door.now) s.past c.loop-is_sent.call c.in-Some.outcome (search rules) s.stands in (
+    let w = whole_of (record { names = g.D.Door.names c.args.door.now; kept = g.D.Door.kept }) s.past c.loop-is_sent.call c.in-Some.outcome (search rules) s.stands in (
       w.1.head,
       w.1.body,
       s.past.asked,
@@ -82,7 +87,7 @@ pub returns-clause-cut_answer : goal.returns-clause-cut_answer
 returns-clause-cut_answer g c = λ _.
     let s = c.loop-is_sent.invariant.so_far in
     let unsent : c.loop-is_sent.is_sent ≡ false = search rules in
-    let cut = cut_of (g.D.Door.names c.args.door.now) s.past c.loop-is_sent.call c.loop-is_sent.invariant.answered s.stands in (
+    let cut = cut_of (record { names = g.D.Door.names c.args.door.now; kept = g.D.Door.kept }) s.past c.loop-is_sent.call c.loop-is_sent.invariant.answered s.stands in (
       cut.0.head,
       cut.0.body,
       s.past.asked,

@@ -3,11 +3,11 @@ use Rattle.web_call.proofs.laws.whole_calls.Goals as goal
 
 pub returns : goal.returns
 returns c = record {
-  whole = λ names past call outcome stands is. (whole_of names past call outcome is stands).1;
-  front = λ names past call stands is. (cut_of names past call is stands).0;
-  silent = λ names past call stands is. silent_of names past call is stands;
-  wanting = λ names past call stands is. (read_cut names past call is stands, unasked_of names past call is stands);
-  waiting = λ names past call stands is. waiting_of names past call is stands;
-  starved = λ names past call stands is. starved_at names past call is stands;
+  whole = λ source past call outcome stands is. (whole_of source past call outcome is stands).1;
+  front = λ source past call stands is. (cut_of source past call is stands).0;
+  silent = λ source past call stands is. silent_of source past call is stands;
+  wanting = λ source past call stands is. (read_cut source past call is stands, unasked_of source past call is stands);
+  waiting = λ source past call stands is. waiting_of source past call is stands;
+  starved = λ source past call stands is. starved_at source past call is stands;
   turns = λ call. turn_of call;
 }
