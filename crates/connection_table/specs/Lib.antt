@@ -1,0 +1,3 @@
+pub mod Refused
+pub mod Table
+pub mod Lends

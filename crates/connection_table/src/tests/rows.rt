@@ -1,0 +1,63 @@
+use super::*;
+
+/// A call of a table.
+#[derive(Clone, Copy, Debug)]
+pub enum Step {
+    IsFull,
+    Insert(u32),
+    Get(usize),
+    /// Changes what a key holds.
+    Change(usize, u32),
+    Admit(usize),
+    IsAdmitted(usize),
+    Remove(usize),
+    NextKey(usize),
+}
+
+/// What a call answers.
+#[derive(Clone, Copy, Debug, PartialEq)]
+pub enum Answer {
+    Key(usize),
+    Refused(Refused, u32),
+    Holds(Option<u32>),
+    Is(bool),
+    Next(Option<usize>),
+}
+
+/// A call, its answer, and how many connections are held then, how many of them are admitted as Watches, and how many ended.
+pub type Row = (Step, Answer, (usize, usize, u64));
+
+fn change(table: &mut Table<u32>, key: usize, connection: u32) -> bool {
+    match table.get_mut(key) {
+        Some(held) => {
+            *held = connection;
+            true
+        }
+        None => false,
+    }
+}
+
+fn make(table: &mut Table<u32>, step: Step) -> Answer {
+    match step {
+        Step::IsFull => Answer::Is(table.is_full()),
+        Step::Insert(connection) => match table.insert(connection) {
+            Ok(key) => Answer::Key(key),
+            Err(back) => Answer::Refused(back.refused, back.connection),
+        },
+        Step::Get(key) => Answer::Holds(table.get(key).copied()),
+        Step::Change(key, connection) => Answer::Is(change(table, key, connection)),
+        Step::Admit(key) => Answer::Is(table.admit(key)),
+        Step::IsAdmitted(key) => Answer::Is(table.is_admitted(key)),
+        Step::Remove(key) => Answer::Holds(table.remove(key)),
+        Step::NextKey(from) => Answer::Next(table.next_key(from)),
+    }
+}
+
+pub fn expect_rows(table: &mut Table<u32>, rows: &[Row]) -> Result<(), Fail> {
+    for (at, (step, answer, counts)) in rows.iter().enumerate() {
+        let row = (at, *step);
+        same(&make(table, *step), answer, &row)?;
+        same(&(table.len(), table.watches(), table.ended()), counts, &row)?;
+    }
+    Ok(())
+}
