@@ -1,8 +1,10 @@
 -- How a call stands after a step.
-use Rattle.std.proofs.Common.{◌≡◌, ◌⊎◌, ℕ, Option, Some, List, [], ◌∷◌, ◌++◌, length, flat_map, refl, ap, sym, ◌∙◌, subst, true, append-nil, inl, inr, arith}
+use Rattle.std.proofs.Common.{◌≡◌, ◌≤◌, ◌⊎◌, ℕ, Option, Some, None, false, List, [], ◌∷◌, ◌++◌, length, flat_map, refl, ap, sym, ◌∙◌, subst, true, append-nil, inl, inr, arith}
+use Rattle.std.specs.Fmt.{digits}
 use Rattle.grpc_frame.specs.declared.code.Code.{Code}
 use Rattle.health_wire.specs.declared.serving.Serving.{Serving}
 use Rattle.desk_core.specs.declared.entry.Entry.{Entry}
+use Rattle.desk_core.specs.declared.change.Change.{Change}
 use Rattle.desk_core.specs.Catalogue.{slot_of}
 use Rattle.desk_core.specs.Changes.{changes_of}
 use Rattle.desk_core.specs.Status.{shown, status_map}
@@ -28,13 +30,14 @@ use Rattle.web_call.specs.InputHead.{IsHead}
 use Rattle.web_call.specs.Intake.{HasHead, HasRead, body_len}
 use Rattle.web_call.specs.Outgoing.{GoesOut, frames_out, left_of}
 use Rattle.web_call.specs.Past.{Past, asking_of, Stands, StandsAt, IsReading, IsSending, IsSilent, with_asked, with_received, with_sent}
-use Rattle.web_call.specs.Pieces.{Piece, plain, frames_within, counted}
+use Rattle.web_call.specs.Pieces.{Piece, plain, text_of, frames_within, counted}
 use Rattle.web_call.specs.Reading.{is_whole}
 use Rattle.web_call.specs.Request.{IsRequested}
 use Rattle.web_call.specs.Stages.{watches}
-use Rattle.web_call.specs.Text.{IsTextOf}
-use Rattle.web_call.specs.Texts.{check_pieces, message_chunk, watch_end, watch_head_text}
+use Rattle.web_call.specs.Text.{text_bytes, IsTextOf}
+use Rattle.web_call.specs.Texts.{check_pieces, crlf, message_chunk, message_frame, watch_end, watch_head_text}
 use Rattle.web_call.specs.Walk.{told_by, watch_after}
+use Rattle.desk_core.proofs.WatchLemmas.{step_tells}
 use Rattle.web_call.proofs.HeadLemmas.{one_answer}
 use Rattle.web_call.proofs.OutgoingLemmas.{all_sent, frames_sent, frames_whole}
 use Rattle.web_call.proofs.PieceLemmas.{frames_of}
@@ -269,3 +272,19 @@ no_body past intake outgoing answer whole none reads headed =
     nothing : (bytes : List ℕ) → length bytes ≡ 0 → bytes ≡ []
     nothing [] is = refl
     nothing (x ∷ bytes) is = absurd (omega (arith, is))
+
+-- a chunk has bytes
+has_bytes : {X : Type 0} (front back : List ℕ) → (front ++ crlf) ++ back ≡ [] → X
+has_bytes [] back none = absurd (omega (arith, ap length none))
+has_bytes (byte ∷ front) back none = absurd (omega (arith, ap length none))
+
+tells_nothing : (answer : Option Serving) → text_of (flat_map message_chunk (told answer)) ≡ [] → answer ≡ None
+tells_nothing None none = refl
+tells_nothing (Some status) none = has_bytes (digits 16 false (length (message_frame status))) _ none
+
+-- a step of which nothing is to be told moves past every change
+pub rests_past : (changes : List Change) (watch watch_now : WatchState) (answer : Option Serving) (text : Text) → answer ≡ (stepped changes watch).0
+    → watch_now ≡ (stepped changes watch).1 → IsTextOf text (flat_map message_chunk (told answer)) → text_bytes text ≡ [] → length changes ≤ watch_now.cursor
+rests_past changes watch watch_now answer text is now tells none =
+    subst (λ w. length changes ≤ w.cursor) (sym now)
+    ((step_tells changes watch.slot watch.start watch.cursor).none (sym is ∙ tells_nothing answer (sym tells.bytes ∙ none)))

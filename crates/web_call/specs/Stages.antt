@@ -1,5 +1,5 @@
 -- How far a call has come.
-use Rattle.std.specs.Prelude.{ℕ, Bool, true, false, ◌||◌, is_some, Option, None, Some, List, vec_len, length, nat_eq, if◌then◌else◌}
+use Rattle.std.specs.Prelude.{ℕ, ◌≤◌, Bool, true, false, ◌||◌, is_some, Option, None, Some, List, vec_len, length, nat_eq, if◌then◌else◌}
 use Rattle.desk_core.specs.declared.entry.Entry.{Entry}
 use Rattle.desk_core.specs.Changes.{changes_of}
 use Rattle.desk_core.specs.Watch.{IsBehind}
@@ -101,6 +101,16 @@ IsBehindAt kept entries Starved = ⊥
 -- the call is a Watch that is behind at this history, of whose changes so many are kept
 abbrev pub IsLeftBehind : Option ℕ → List Entry → Call → Type 0
 IsLeftBehind kept entries call = IsBehindAt kept entries call.stage
+
+abbrev pub IsPastAt : List Entry → Stage → Type 0
+IsPastAt entries (Reading intake) = ⊥
+IsPastAt entries (Watching watch) = length (changes_of entries) ≤ watch.cursor
+IsPastAt entries (Ending outcome) = ⊥
+IsPastAt entries Starved = ⊥
+
+-- the call is a Watch that is past every change of this history, so that none is left for it to be told
+abbrev pub IsPast : List Entry → Call → Type 0
+IsPast entries call = IsPastAt entries call.stage
 
 -- the call ends as a Watch does
 abbrev pub ends_watch : Option Outcome → Bool

@@ -9,7 +9,7 @@ ghost use Rattle.web_call.specs.Past.{Past, Carries, CarriesFor, IsReading, Stan
 ghost use Rattle.web_call.specs.Reading.{is_whole as is_whole_reading};
 ghost use Rattle.web_call.specs.Pieces.{Piece};
 ghost use Rattle.web_call.specs.Request.{IsRequested};
-ghost use Rattle.web_call.specs.Stages.{IsLeftBehind, is_whole, is_watching, is_answered, is_starved, ends_watch, ending_of, to_send};
+ghost use Rattle.web_call.specs.Stages.{IsLeftBehind, IsPast, is_whole, is_watching, is_answered, is_starved, ends_watch, ending_of, to_send};
 ghost use Rattle.web_call.specs.Answer.{check_code};
 ghost use Rattle.web_call.specs.Text.{IsTextOf};
 ghost use Rattle.web_call.specs.Texts.{watch_end};
@@ -128,6 +128,7 @@ impl Call {
         requires told { to_send self.old ≡ [] }
         ensures asks { AsksDoor D.seen D.follows door.old door.new (D.seen door.new ∷ []) }
         ensures looked { CarriesFor (record { names = D.names door.old; kept = D.kept }) self.old self.new (with_asked (D.seen door.new ∷ [])) }
+        ensures rests { is_watching self.new ≡ true → to_send self.new ≡ [] → IsPast (D.seen door.new) self.new }
         ensures behind { is_watching self.new ≡ false ↔ IsLeftBehind D.kept (D.seen door.new) self.old }
         ensures ended { is_watching self.new ≡ false → (messages : ℕ) × (ending_of self.new ≡ Some (Outcome.Behind messages)) }
         ensures answered { is_answered self.new ≡ true }

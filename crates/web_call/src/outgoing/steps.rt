@@ -1,7 +1,7 @@
 ghost use Rattle.std.specs.Prelude.{◌≡◌, ◌≤◌, ◌++◌, [], ℕ, List, length, take, drop};
 ghost use Rattle.web_call.specs.Outgoing.{GoesOut, frames_out, left_of};
 ghost use Rattle.web_call.specs.Pieces.{Piece};
-ghost use Rattle.web_call.specs.Text.{IsTextOf};
+ghost use Rattle.web_call.specs.Text.{text_bytes, IsTextOf};
 
 use super::Outgoing;
 use crate::text::Text;
@@ -48,6 +48,7 @@ impl Outgoing {
     pub(crate) fn follow(&mut self, text: Text)
         requires { left_of self.old ≡ [] }
         ensures text { self.new.text ≡ text }
+        ensures left { left_of self.new ≡ text_bytes text }
         ensures goes { (done part next : List Piece) (sent : List ℕ) → GoesOut self.old done part sent → IsTextOf text next
             → GoesOut self.new (done ++ part) next sent }
     {

@@ -1,0 +1,5 @@
+mod calls;
+mod ends;
+mod memory;
+mod streams;
+mod watches;
