@@ -9,7 +9,7 @@ use Rattle.script.specs.declared.script_fault.ScriptFault.{ScriptFault}
 use Rattle.script.specs.declared.script_fault.ScriptFault.TheVariants.{BadLine, Catalogue}
 use Rattle.script.specs.Line.{IsLine}
 use Rattle.script.specs.Line.IsLine.{OrderLine}
-use Rattle.script.specs.Lines.{Left, left_from, with_line}
+use Rattle.script.specs.Lines.{Left, left_from, with_line, first_numbers}
 use Rattle.script.specs.Opening.{IsCatalogueLine, IsMaxLine, TakesCatalogue, TakesMax, IsCatalogueFault, IsMaxFault}
 use Rattle.script.specs.Opening.IsCatalogueFault.{NoLine, OtherLine, BadNames}
 use Rattle.script.specs.Opening.IsMaxFault.{NoMaxLine, OtherMaxLine}
@@ -175,58 +175,61 @@ one_orders_fault body f g (NotLater n text order rest h is later) (NotHere m sam
 one_orders_fault body f g (NotLater n text order rest h is later) (NotLater m same other behind k is_o later_o) = one_orders_fault rest h k later later_o
 
 -- a script opens in one way
-one_opening : (bytes : List ℕ) (a b : List (List ℕ)) (m n : ℕ) (body other : Left) → Opens bytes a m body → Opens bytes b n other → (a ≡ b) × (m ≡ n) × (body ≡ other)
-one_opening bytes a b m n body other is_a is_b =
-    let names = one_catalogue (left_from 1 bytes) a b is_a.behind_catalogue is_b.behind_catalogue is_a.catalogue is_b.catalogue in
+one_opening : (mode : Mode) (bytes : List ℕ) (a b : List (List ℕ)) (m n : ℕ) (body other : Left) → Opens mode bytes a m body → Opens mode bytes b n other → (a ≡ b) × (m ≡ n) × (body ≡ other)
+one_opening mode bytes a b m n body other is_a is_b =
+    let names = one_catalogue (left_from mode 1 bytes) a b is_a.behind_catalogue is_b.behind_catalogue is_a.catalogue is_b.catalogue in
     let most = one_most is_a.behind_catalogue m n body other is_a.most (subst (λ (left : Left). TakesMax left n other) (sym names.1) is_b.most) in
     (names.0, most.0, most.1)
 
 -- the lines of an opened script
-same_body : (mode : Mode) (bytes : List ℕ) (a b : List (List ℕ)) (m n : ℕ) (body other : Left) (lines : List Line) (rest : List (ℕ × List ℕ)) → Opens bytes a m body → Opens bytes b n other → TakesLines mode b 0 other.lines lines rest
+same_body : (mode : Mode) (bytes : List ℕ) (a b : List (List ℕ)) (m n : ℕ) (body other : Left) (lines : List Line) (rest : List (ℕ × List ℕ)) → Opens mode bytes a m body → Opens mode bytes b n other → TakesLines mode b 0 other.lines lines rest
     → TakesLines mode a 0 body.lines lines rest
 same_body mode bytes a b m n body other lines rest is_a is_b takes =
-    let same = one_opening bytes a b m n body other is_a is_b in
+    let same = one_opening mode bytes a b m n body other is_a is_b in
     let left : TakesLines mode b 0 body.lines lines rest = subst (λ (all : Left). TakesLines mode b 0 all.lines lines rest) (sym same.2) takes in
     subst (λ (names : List (List ℕ)). TakesLines mode names 0 body.lines lines rest) (sym same.0) left
 
-same_fault : (mode : Mode) (bytes : List ℕ) (a b : List (List ℕ)) (m n : ℕ) (body other : Left) (fault : ScriptFault) → Opens bytes a m body → Opens bytes b n other → IsLinesFault mode b 0 other.lines fault
+same_fault : (mode : Mode) (bytes : List ℕ) (a b : List (List ℕ)) (m n : ℕ) (body other : Left) (fault : ScriptFault) → Opens mode bytes a m body → Opens mode bytes b n other → IsLinesFault mode b 0 other.lines fault
     → IsLinesFault mode a 0 body.lines fault
 same_fault mode bytes a b m n body other fault is_a is_b takes =
-    let same = one_opening bytes a b m n body other is_a is_b in
+    let same = one_opening mode bytes a b m n body other is_a is_b in
     let left : IsLinesFault mode b 0 body.lines fault = subst (λ (all : Left). IsLinesFault mode b 0 all.lines fault) (sym same.2) takes in
     subst (λ (names : List (List ℕ)). IsLinesFault mode names 0 body.lines fault) (sym same.0) left
 
 -- a script of these parts
-parts_of : List (List ℕ) → ℕ → List Line → List OrderOf → ScriptParts
-parts_of names max lines orders = record { names = names; max = max; lines = lines; orders = orders }
+parts_of : List (List ℕ) → ℕ → List Line → List ℕ → List OrderOf → ScriptParts
+parts_of names max lines numbers orders = record { names = names; max = max; lines = lines; numbers = numbers; orders = orders }
 
-same_parts : (a b : List (List ℕ)) (m n : ℕ) (lines others : List Line) (orders more : List OrderOf) → a ≡ b → m ≡ n → lines ≡ others → orders ≡ more → parts_of a m lines orders ≡ parts_of b n others more
-same_parts a b m n lines others orders more names max line order =
-    ap (λ (all : List (List ℕ)). parts_of all m lines orders) names ∙ ap (λ (one : ℕ). parts_of b one lines orders) max
-    ∙ ap (λ (all : List Line). parts_of b n all orders) line ∙ ap (λ (all : List OrderOf). parts_of b n others all) order
+same_parts : (a b : List (List ℕ)) (m n : ℕ) (lines others : List Line) (numbers counts : List ℕ) (orders more : List OrderOf) → a ≡ b → m ≡ n → lines ≡ others → numbers ≡ counts → orders ≡ more
+    → parts_of a m lines numbers orders ≡ parts_of b n others counts more
+same_parts a b m n lines others numbers counts orders more names max line number order =
+    ap (λ (all : List (List ℕ)). parts_of all m lines numbers orders) names ∙ ap (λ (one : ℕ). parts_of b one lines numbers orders) max
+    ∙ ap (λ (all : List Line). parts_of b n all numbers orders) line ∙ ap (λ (all : List ℕ). parts_of b n others all orders) number
+    ∙ ap (λ (all : List OrderOf). parts_of b n others counts all) order
 
 pub one_script : (mode : Mode) (bytes : List ℕ) (a b : ScriptParts) → IsScript mode bytes a → IsScript mode bytes b → a ≡ b
 unfolding parts_of
 one_script mode bytes a b is_a is_b =
-    let opening = one_opening bytes a.names b.names a.max b.max is_a.body is_b.body is_a.opens is_b.opens in
+    let opening = one_opening mode bytes a.names b.names a.max b.max is_a.body is_b.body is_a.opens is_b.opens in
     let lines = one_lines mode a.names 0 is_a.body.lines a.lines b.lines is_a.behind_go is_b.behind_go is_a.lines (same_body mode bytes a.names b.names a.max b.max is_a.body is_b.body b.lines is_b.behind_go is_a.opens is_b.opens is_b.lines) in
     let orders = one_orders is_a.behind_go a.orders b.orders is_a.orders (subst (λ (left : List (ℕ × List ℕ)). AreOrders left b.orders) (sym lines.1) is_b.orders) in
-    same_parts a.names b.names a.max b.max a.lines b.lines a.orders b.orders opening.0 opening.1 lines.0 orders
+    let counts = is_a.numbers ∙ ap (λ (all : List Line). first_numbers (length all) is_a.body.lines) lines.0 ∙ ap (λ (left : Left). first_numbers (length b.lines) left.lines) opening.2 ∙ sym is_b.numbers in
+    same_parts a.names b.names a.max b.max a.lines b.lines a.numbers b.numbers a.orders b.orders opening.0 opening.1 lines.0 counts orders
 
 -- an opened script has no fault in its opening
-opens_or_catalogue : (bytes : List ℕ) (names : List (List ℕ)) (max : ℕ) (body : Left) (fault : ScriptFault) → Opens bytes names max body → IsCatalogueFault (left_from 1 bytes) fault → ⊥
-opens_or_catalogue bytes names max body fault is wrong = catalogue_or_fault (left_from 1 bytes) (left_from 1 bytes) is.behind_catalogue names fault refl is.catalogue wrong
+opens_or_catalogue : (mode : Mode) (bytes : List ℕ) (names : List (List ℕ)) (max : ℕ) (body : Left) (fault : ScriptFault) → Opens mode bytes names max body → IsCatalogueFault (left_from mode 1 bytes) fault → ⊥
+opens_or_catalogue mode bytes names max body fault is wrong = catalogue_or_fault (left_from mode 1 bytes) (left_from mode 1 bytes) is.behind_catalogue names fault refl is.catalogue wrong
 
-opens_or_max : (bytes : List ℕ) (names others : List (List ℕ)) (max : ℕ) (body rest : Left) (fault : ScriptFault) → Opens bytes names max body → TakesCatalogue (left_from 1 bytes) others rest → IsMaxFault rest fault → ⊥
-opens_or_max bytes names others max body rest fault is takes wrong =
-    let same = one_catalogue (left_from 1 bytes) others names rest is.behind_catalogue takes is.catalogue in
+opens_or_max : (mode : Mode) (bytes : List ℕ) (names others : List (List ℕ)) (max : ℕ) (body rest : Left) (fault : ScriptFault) → Opens mode bytes names max body → TakesCatalogue (left_from mode 1 bytes) others rest → IsMaxFault rest fault → ⊥
+opens_or_max mode bytes names others max body rest fault is takes wrong =
+    let same = one_catalogue (left_from mode 1 bytes) others names rest is.behind_catalogue takes is.catalogue in
     max_or_fault rest is.behind_catalogue body max fault same.1 is.most wrong
 
 pub script_or_fault : (mode : Mode) (bytes : List ℕ) (a : ScriptParts) (fault : ScriptFault) → IsScript mode bytes a → ¬ IsScriptFault mode bytes fault
 script_or_fault mode bytes a fault is (Long long) = let short : length bytes ≤ 65536 = is.opens.is_text.short in omega arith
 script_or_fault mode bytes a fault is (NoText short not) = not is.opens.is_text.text
-script_or_fault mode bytes a fault is (InCatalogue f text wrong) = opens_or_catalogue bytes a.names a.max is.body f is.opens wrong
-script_or_fault mode bytes a fault is (InMax names rest f text takes wrong) = opens_or_max bytes a.names names a.max is.body rest f is.opens takes wrong
+script_or_fault mode bytes a fault is (InCatalogue f text wrong) = opens_or_catalogue mode bytes a.names a.max is.body f is.opens wrong
+script_or_fault mode bytes a fault is (InMax names rest f text takes wrong) = opens_or_max mode bytes a.names names a.max is.body rest f is.opens takes wrong
 script_or_fault mode bytes a fault is (InLines names max body f opens wrong) =
     lines_or_fault mode a.names 0 is.body.lines a.lines is.behind_go f is.lines (same_fault mode bytes a.names names a.max max is.body body f is.opens opens wrong)
 script_or_fault mode bytes a fault is (InOrders names max body lines rest f opens takes wrong) =
@@ -252,29 +255,29 @@ one_fault mode bytes f g (NoText short not) (InLines names max body k opens wron
 one_fault mode bytes f g (NoText short not) (InOrders names max body lines rest k opens takes wrong) = absurd (not opens.is_text.text)
 one_fault mode bytes f g (InCatalogue h text wrong) (Long long) = absurd (long_or_text bytes long text)
 one_fault mode bytes f g (InCatalogue h text wrong) (NoText short not) = absurd (not text.text)
-one_fault mode bytes f g (InCatalogue h text wrong) (InCatalogue k other bad) = one_catalogue_fault (left_from 1 bytes) (left_from 1 bytes) h k refl wrong bad
-one_fault mode bytes f g (InCatalogue h text wrong) (InMax names rest k other takes bad) = absurd (catalogue_or_fault (left_from 1 bytes) (left_from 1 bytes) rest names h refl takes wrong)
-one_fault mode bytes f g (InCatalogue h text wrong) (InLines names max body k opens bad) = absurd (opens_or_catalogue bytes names max body h opens wrong)
-one_fault mode bytes f g (InCatalogue h text wrong) (InOrders names max body lines rest k opens takes bad) = absurd (opens_or_catalogue bytes names max body h opens wrong)
+one_fault mode bytes f g (InCatalogue h text wrong) (InCatalogue k other bad) = one_catalogue_fault (left_from mode 1 bytes) (left_from mode 1 bytes) h k refl wrong bad
+one_fault mode bytes f g (InCatalogue h text wrong) (InMax names rest k other takes bad) = absurd (catalogue_or_fault (left_from mode 1 bytes) (left_from mode 1 bytes) rest names h refl takes wrong)
+one_fault mode bytes f g (InCatalogue h text wrong) (InLines names max body k opens bad) = absurd (opens_or_catalogue mode bytes names max body h opens wrong)
+one_fault mode bytes f g (InCatalogue h text wrong) (InOrders names max body lines rest k opens takes bad) = absurd (opens_or_catalogue mode bytes names max body h opens wrong)
 one_fault mode bytes f g (InMax names rest h text takes wrong) (Long long) = absurd (long_or_text bytes long text)
 one_fault mode bytes f g (InMax names rest h text takes wrong) (NoText short not) = absurd (not text.text)
-one_fault mode bytes f g (InMax names rest h text takes wrong) (InCatalogue k other bad) = absurd (catalogue_or_fault (left_from 1 bytes) (left_from 1 bytes) rest names k refl takes bad)
+one_fault mode bytes f g (InMax names rest h text takes wrong) (InCatalogue k other bad) = absurd (catalogue_or_fault (left_from mode 1 bytes) (left_from mode 1 bytes) rest names k refl takes bad)
 one_fault mode bytes f g (InMax names rest h text takes wrong) (InMax others more k other takes_o bad) =
-    one_max_fault rest more h k (one_catalogue (left_from 1 bytes) names others rest more takes takes_o).1 wrong bad
-one_fault mode bytes f g (InMax names rest h text takes wrong) (InLines others max body k opens bad) = absurd (opens_or_max bytes others names max body rest h opens takes wrong)
-one_fault mode bytes f g (InMax names rest h text takes wrong) (InOrders others max body lines behind k opens found bad) = absurd (opens_or_max bytes others names max body rest h opens takes wrong)
+    one_max_fault rest more h k (one_catalogue (left_from mode 1 bytes) names others rest more takes takes_o).1 wrong bad
+one_fault mode bytes f g (InMax names rest h text takes wrong) (InLines others max body k opens bad) = absurd (opens_or_max mode bytes others names max body rest h opens takes wrong)
+one_fault mode bytes f g (InMax names rest h text takes wrong) (InOrders others max body lines behind k opens found bad) = absurd (opens_or_max mode bytes others names max body rest h opens takes wrong)
 one_fault mode bytes f g (InLines names max body h opens wrong) (Long long) = absurd (long_or_text bytes long opens.is_text)
 one_fault mode bytes f g (InLines names max body h opens wrong) (NoText short not) = absurd (not opens.is_text.text)
-one_fault mode bytes f g (InLines names max body h opens wrong) (InCatalogue k text bad) = absurd (opens_or_catalogue bytes names max body k opens bad)
-one_fault mode bytes f g (InLines names max body h opens wrong) (InMax others rest k text takes bad) = absurd (opens_or_max bytes names others max body rest k opens takes bad)
+one_fault mode bytes f g (InLines names max body h opens wrong) (InCatalogue k text bad) = absurd (opens_or_catalogue mode bytes names max body k opens bad)
+one_fault mode bytes f g (InLines names max body h opens wrong) (InMax others rest k text takes bad) = absurd (opens_or_max mode bytes names others max body rest k opens takes bad)
 one_fault mode bytes f g (InLines names max body h opens wrong) (InLines others most left k opens_o bad) =
     one_lines_fault mode names 0 body.lines h k wrong (same_fault mode bytes names others max most body left k opens opens_o bad)
 one_fault mode bytes f g (InLines names max body h opens wrong) (InOrders others most left lines rest k opens_o takes bad) =
     absurd (lines_or_fault mode names 0 body.lines lines rest h (same_body mode bytes names others max most body left lines rest opens opens_o takes) wrong)
 one_fault mode bytes f g (InOrders names max body lines rest h opens takes wrong) (Long long) = absurd (long_or_text bytes long opens.is_text)
 one_fault mode bytes f g (InOrders names max body lines rest h opens takes wrong) (NoText short not) = absurd (not opens.is_text.text)
-one_fault mode bytes f g (InOrders names max body lines rest h opens takes wrong) (InCatalogue k text bad) = absurd (opens_or_catalogue bytes names max body k opens bad)
-one_fault mode bytes f g (InOrders names max body lines rest h opens takes wrong) (InMax others behind k text found bad) = absurd (opens_or_max bytes names others max body behind k opens found bad)
+one_fault mode bytes f g (InOrders names max body lines rest h opens takes wrong) (InCatalogue k text bad) = absurd (opens_or_catalogue mode bytes names max body k opens bad)
+one_fault mode bytes f g (InOrders names max body lines rest h opens takes wrong) (InMax others behind k text found bad) = absurd (opens_or_max mode bytes names others max body behind k opens found bad)
 one_fault mode bytes f g (InOrders names max body lines rest h opens takes wrong) (InLines others most left k opens_o bad) =
     absurd (lines_or_fault mode names 0 body.lines lines rest k takes (same_fault mode bytes names others max most body left k opens opens_o bad))
 one_fault mode bytes f g (InOrders names max body lines rest h opens takes wrong) (InOrders others most left found behind k opens_o takes_o bad) =

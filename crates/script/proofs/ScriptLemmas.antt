@@ -1,16 +1,17 @@
 -- The lines of a script, one after another, and its faults.
-use Rattle.std.proofs.Common.{ℕ, suc, ◌≡◌, ◌≤◌, ◌↔◌, Bool, true, false, IsTrue, List, [], ◌∷◌, ◌++◌, length, append_assoc, length-append, ap, ◌∙◌, subst, arith}
-use Rattle.std.proofs.lemmas.List.{append-nil}
+use Rattle.std.proofs.Common.{ℕ, suc, refl, sym, ◌≡◌, ◌≤◌, ◌↔◌, Bool, true, false, IsTrue, List, [], ◌∷◌, ◌++◌, length, append_assoc, length-append, map, take, ap, ◌∙◌, subst, arith}
+use Rattle.std.proofs.lemmas.List.{append-nil, take-map}
+use Rattle.std.proofs.Math.Seq.{take-append_seam}
 use Rattle.std.specs.Str.{IsUtf8}
 use Rattle.desk_core.specs.declared.order.Order.{Order as OrderOf}
 use Rattle.script.specs.declared.line.Line.{Line}
 use Rattle.script.specs.declared.line.Line.TheVariants.{Register, Retire, Order, Check, Open, Step, Board}
 use Rattle.script.specs.declared.script.Mode.{Mode}
-use Rattle.script.specs.declared.script.Mode.TheVariants.{Replay, Serve}
+use Rattle.script.specs.declared.script.Mode.TheVariants.{Replay, Serve, Run}
 use Rattle.script.specs.declared.script_fault.ScriptFault.{ScriptFault}
 use Rattle.script.specs.declared.script_fault.ScriptFault.TheVariants.{BadLine}
 use Rattle.script.specs.Line.{IsLineText, IsOrderText}
-use Rattle.script.specs.Lines.{Left, left_from, with_line}
+use Rattle.script.specs.Lines.{Left, left_from, with_line, first_numbers}
 use Rattle.script.specs.Opening.{TakesCatalogue, TakesMax, IsCatalogueFault, IsMaxFault}
 use Rattle.script.specs.Script.{watches_after, IsStepOfOpened, StepsFollow, IsAllowed, IsNextLine, IsGo, TakesLines, IsLinesFault, AreOrders, IsOrdersFault, IsText, Opens, IsScript, IsScriptFault, ScriptParts}
 use Rattle.script.proofs.OneLine.{one_line_text}
@@ -72,6 +73,31 @@ next mode names start watches after lines new left rest number text line so_far 
       few = omega (arith, one_watch line watches, length-append lines (line ∷ []));
     })
 
+-- the numbers of the lines that were read so far, of which there are so many
+pub record Numbering (start : List (ℕ × List ℕ)) (count : ℕ) (numbers : List ℕ) (now : List (ℕ × List ℕ)) : Type 0 where
+  pub all : map (λ line. line.0) start ≡ numbers ++ map (λ line. line.0) now
+  pub each : length numbers ≡ count
+
+pub begins_numbers : (start : List (ℕ × List ℕ)) → Numbering start 0 [] start
+begins_numbers start = record { all = refl; each = refl }
+
+-- one number more
+pub next_number : (start : List (ℕ × List ℕ)) (lines more : List Line) (line : Line) (numbers new : List ℕ) (left rest : Left) (number : ℕ) (text : List ℕ) → Numbering start (length lines) numbers left.lines
+    → left ≡ with_line (number, text) rest → more ≡ lines ++ line ∷ [] → new ≡ numbers ++ number ∷ [] → Numbering start (length more) new rest.lines
+next_number start lines more line numbers new left rest number text so_far parts longer pushed =
+    let at : left.lines ≡ (number, text) ∷ rest.lines = lines_left left rest (number, text) parts in
+    let each : length numbers ≡ length lines = so_far.each in
+    rw (longer, pushed) (record {
+      all = so_far.all ∙ ap (λ (now : List (ℕ × List ℕ)). numbers ++ map (λ line. line.0) now) at ∙ sym (append_assoc numbers (number ∷ []) (map (λ line. line.0) rest.lines));
+      each = omega (arith, length-append lines (line ∷ []), length-append numbers (number ∷ []));
+    })
+
+-- they are the first numbers
+pub numbers_taken : (start now : List (ℕ × List ℕ)) (count : ℕ) (numbers : List ℕ) → Numbering start count numbers now → numbers ≡ first_numbers count start
+numbers_taken start now count numbers so_far =
+    sym (take-append_seam numbers (map (λ line. line.0) now)) ∙ ap (take (length numbers)) (sym so_far.all) ∙ ap (λ (n : ℕ). take n (map (λ line. line.0) start)) so_far.each
+    ∙ take-map (λ line. line.0) count start
+
 -- nothing is left
 pub ends : (mode : Mode) (names : List (List ℕ)) (start now behind : List (ℕ × List ℕ)) (watches : ℕ) (lines : List Line) → Reading mode names start watches lines now → now ≡ [] → behind ≡ []
     → TakesLines mode names 0 start lines behind
@@ -102,6 +128,13 @@ allowed_step Serve (Check name) watches is = tt
 allowed_step Serve (Open name) watches is = tt
 allowed_step Serve (Step k) watches is = absurd is
 allowed_step Serve Board watches is = tt
+allowed_step Run (Register name rule) watches is = tt
+allowed_step Run (Retire name) watches is = tt
+allowed_step Run (Order order) watches is = tt
+allowed_step Run (Check name) watches is = tt
+allowed_step Run (Open name) watches is = tt
+allowed_step Run (Step k) watches is = absurd is
+allowed_step Run Board watches is = tt
 
 -- the lines of a script are steps of opened watches
 pub steps_follow : (mode : Mode) (names : List (List ℕ)) (watches : ℕ) (body : List (ℕ × List ℕ)) (lines : List Line) (rest : List (ℕ × List ℕ)) → TakesLines mode names watches body lines rest
@@ -140,40 +173,40 @@ stuck_orders start orders left rest number text so_far parts none =
     so_far.fault (BadLine number) (rw (lines_left left rest (number, text) parts) (NotHere number text rest.lines none))
 
 -- the bytes are text, and this is left at its start
-pub record Begun (bytes : List ℕ) (start : Left) : Type 0 where
+pub record Begun (mode : Mode) (bytes : List ℕ) (start : Left) : Type 0 where
   pub is_text : IsText bytes
-  pub is : start ≡ left_from 1 bytes
+  pub is : start ≡ left_from mode 1 bytes
 
-pub begun : (bytes text : List ℕ) (start : Left) → length bytes ≤ 65536 → IsUtf8 bytes → text ≡ bytes → start ≡ left_from 1 text → Begun bytes start
-begun bytes text start short utf8 same is = record { is_text = record { short = short; text = utf8 }; is = is ∙ ap (left_from 1) same }
+pub begun : (mode : Mode) (bytes text : List ℕ) (start : Left) → length bytes ≤ 65536 → IsUtf8 bytes → text ≡ bytes → start ≡ left_from mode 1 text → Begun mode bytes start
+begun mode bytes text start short utf8 same is = record { is_text = record { short = short; text = utf8 }; is = is ∙ ap (left_from mode 1) same }
 
 -- a script opens
-pub opened : (bytes : List ℕ) (start behind body : Left) (names : List (List ℕ)) (max : ℕ) → Begun bytes start → TakesCatalogue start names behind → TakesMax behind max body → Opens bytes names max body
-opened bytes start behind body names max so_far catalogue most =
+pub opened : (mode : Mode) (bytes : List ℕ) (start behind body : Left) (names : List (List ℕ)) (max : ℕ) → Begun mode bytes start → TakesCatalogue start names behind → TakesMax behind max body → Opens mode bytes names max body
+opened mode bytes start behind body names max so_far catalogue most =
     record { is_text = so_far.is_text; behind_catalogue = behind; catalogue = subst (λ (left : Left). TakesCatalogue left names behind) so_far.is catalogue; most = most }
 
 -- the faults of a text, by the place where they stand
-pub in_catalogue : (mode : Mode) (bytes : List ℕ) (start : Left) (fault : ScriptFault) → Begun bytes start → IsCatalogueFault start fault → IsScriptFault mode bytes fault
+pub in_catalogue : (mode : Mode) (bytes : List ℕ) (start : Left) (fault : ScriptFault) → Begun mode bytes start → IsCatalogueFault start fault → IsScriptFault mode bytes fault
 in_catalogue mode bytes start fault so_far is = InCatalogue fault so_far.is_text (subst (λ (left : Left). IsCatalogueFault left fault) so_far.is is)
 
-pub in_max : (mode : Mode) (bytes : List ℕ) (start behind : Left) (names : List (List ℕ)) (fault : ScriptFault) → Begun bytes start → TakesCatalogue start names behind → IsMaxFault behind fault
+pub in_max : (mode : Mode) (bytes : List ℕ) (start behind : Left) (names : List (List ℕ)) (fault : ScriptFault) → Begun mode bytes start → TakesCatalogue start names behind → IsMaxFault behind fault
     → IsScriptFault mode bytes fault
 in_max mode bytes start behind names fault so_far catalogue is =
     InMax names behind fault so_far.is_text (subst (λ (left : Left). TakesCatalogue left names behind) so_far.is catalogue) is
 
-pub in_lines : (mode : Mode) (bytes : List ℕ) (start behind body : Left) (names : List (List ℕ)) (max : ℕ) (fault : ScriptFault) → Begun bytes start → TakesCatalogue start names behind → TakesMax behind max body
+pub in_lines : (mode : Mode) (bytes : List ℕ) (start behind body : Left) (names : List (List ℕ)) (max : ℕ) (fault : ScriptFault) → Begun mode bytes start → TakesCatalogue start names behind → TakesMax behind max body
     → IsLinesFault mode names 0 body.lines fault → IsScriptFault mode bytes fault
 in_lines mode bytes start behind body names max fault so_far catalogue most is =
-    InLines names max body fault (opened bytes start behind body names max so_far catalogue most) is
+    InLines names max body fault (opened mode bytes start behind body names max so_far catalogue most) is
 
-pub in_orders : (mode : Mode) (bytes : List ℕ) (start behind body : Left) (names : List (List ℕ)) (max : ℕ) (lines : List Line) (rest : List (ℕ × List ℕ)) (fault : ScriptFault) → Begun bytes start
+pub in_orders : (mode : Mode) (bytes : List ℕ) (start behind body : Left) (names : List (List ℕ)) (max : ℕ) (lines : List Line) (rest : List (ℕ × List ℕ)) (fault : ScriptFault) → Begun mode bytes start
     → TakesCatalogue start names behind → TakesMax behind max body → TakesLines mode names 0 body.lines lines rest → IsOrdersFault rest fault → IsScriptFault mode bytes fault
 in_orders mode bytes start behind body names max lines rest fault so_far catalogue most takes is =
-    InOrders names max body lines rest fault (opened bytes start behind body names max so_far catalogue most) takes is
+    InOrders names max body lines rest fault (opened mode bytes start behind body names max so_far catalogue most) takes is
 
 -- all parts of a script
-pub whole : (mode : Mode) (bytes : List ℕ) (start behind body : Left) (names : List (List ℕ)) (max : ℕ) (lines : List Line) (rest : List (ℕ × List ℕ)) (orders : List OrderOf) (script : ScriptParts) → Begun bytes start
-    → TakesCatalogue start names behind → TakesMax behind max body → TakesLines mode names 0 body.lines lines rest → AreOrders rest orders
-    → script ≡ record { names = names; max = max; lines = lines; orders = orders } → IsScript mode bytes script
-whole mode bytes start behind body names max lines rest orders script so_far catalogue most takes are is =
-    rw is (record { body = body; behind_go = rest; opens = opened bytes start behind body names max so_far catalogue most; lines = takes; orders = are })
+pub whole : (mode : Mode) (bytes : List ℕ) (start behind body : Left) (names : List (List ℕ)) (max : ℕ) (lines : List Line) (numbers : List ℕ) (rest : List (ℕ × List ℕ)) (orders : List OrderOf) (script : ScriptParts) → Begun mode bytes start
+    → TakesCatalogue start names behind → TakesMax behind max body → TakesLines mode names 0 body.lines lines rest → numbers ≡ first_numbers (length lines) body.lines → AreOrders rest orders
+    → script ≡ record { names = names; max = max; lines = lines; numbers = numbers; orders = orders } → IsScript mode bytes script
+whole mode bytes start behind body names max lines numbers rest orders script so_far catalogue most takes numbered are is =
+    rw is (record { body = body; behind_go = rest; opens = opened mode bytes start behind body names max so_far catalogue most; lines = takes; numbers = numbered; orders = are })

@@ -5,18 +5,20 @@ use Rattle.desk_core.specs.declared.order.Order.{Order as OrderOf}
 use Rattle.script.specs.declared.line.Line.{Line}
 use Rattle.script.specs.declared.line.Line.TheVariants.{Register, Retire, Order, Check, Open, Step, Board}
 use Rattle.script.specs.declared.script.Mode.{Mode}
-use Rattle.script.specs.declared.script.Mode.TheVariants.{Replay, Serve}
+use Rattle.script.specs.declared.script.Mode.TheVariants.{Replay, Serve, Run}
 use Rattle.script.specs.declared.script_fault.ScriptFault.{ScriptFault}
 use Rattle.script.specs.declared.script_fault.ScriptFault.TheVariants.{TooLong, NotText, BadLine}
-use Rattle.script.specs.Lines.{Left, left_from}
+use Rattle.script.specs.Lines.{Left, left_from, first_numbers}
 use Rattle.script.specs.Line.{IsLineText, IsOrderText}
 use Rattle.script.specs.Opening.{TakesCatalogue, TakesMax, IsCatalogueFault, IsMaxFault}
 
--- a script: the names of its catalogue, the most entries of its journal, its lines, and the orders behind its line `go`
+-- a script: the names of its catalogue, the most entries of its journal, its lines, the number of each in the text, and the orders
+-- behind its line `go`
 pub record ScriptParts : Type 0 where
   pub names : List (List ℕ)
   pub max : ℕ
   pub lines : List Line
+  pub numbers : List ℕ
   pub orders : List OrderOf
 
 -- how many watches there are after a line
@@ -54,10 +56,11 @@ IsChange (Open name) = ⊥
 IsChange (Step k) = ⊥
 IsChange Board = ⊥
 
--- the line may stand behind lines that opened so many watches. A script to be served has changes alone
+-- the line may stand behind lines that opened so many watches. A script to be served or to run has changes alone
 abbrev pub IsAllowed : Mode → ℕ → Line → Type 0
 IsAllowed Replay watches line = IsStepOfOpened line watches
 IsAllowed Serve watches line = IsChange line
+IsAllowed Run watches line = IsChange line
 
 -- the text is a line that may stand there
 pub record IsNextLine (mode : Mode) (names : List (List ℕ)) (watches : ℕ) (text : List ℕ) (line : Line) : Type 0 where
@@ -105,18 +108,19 @@ pub record IsText (bytes : List ℕ) : Type 0 where
   pub text : IsUtf8 bytes
 
 -- the text opens with a catalogue and the most entries, and this is left behind them
-pub record Opens (bytes : List ℕ) (names : List (List ℕ)) (max : ℕ) (body : Left) : Type 0 where
+pub record Opens (mode : Mode) (bytes : List ℕ) (names : List (List ℕ)) (max : ℕ) (body : Left) : Type 0 where
   pub is_text : IsText bytes
   pub behind_catalogue : Left
-  pub catalogue : TakesCatalogue (left_from 1 bytes) names behind_catalogue
+  pub catalogue : TakesCatalogue (left_from mode 1 bytes) names behind_catalogue
   pub most : TakesMax behind_catalogue max body
 
 -- the bytes are this script
 pub record IsScript (mode : Mode) (bytes : List ℕ) (script : ScriptParts) : Type 0 where
   pub body : Left
   pub behind_go : List (ℕ × List ℕ)
-  pub opens : Opens bytes script.names script.max body
+  pub opens : Opens mode bytes script.names script.max body
   pub lines : TakesLines mode script.names 0 body.lines script.lines behind_go
+  pub numbers : script.numbers ≡ first_numbers (length script.lines) body.lines
   pub orders : AreOrders behind_go script.orders
 
 -- why the bytes are no script: the first fault, by rules
@@ -126,14 +130,14 @@ pub data IsScriptFault (mode : Mode) (bytes : List ℕ) : ScriptFault → Type 0
   -- no text
   NoText : length bytes ≤ 65536 → ¬ IsUtf8 bytes → IsScriptFault mode bytes NotText
   -- a fault of the first line
-  InCatalogue : (fault : ScriptFault) → IsText bytes → IsCatalogueFault (left_from 1 bytes) fault → IsScriptFault mode bytes fault
+  InCatalogue : (fault : ScriptFault) → IsText bytes → IsCatalogueFault (left_from mode 1 bytes) fault → IsScriptFault mode bytes fault
   -- a fault of the second line, behind a catalogue
-  InMax : (names : List (List ℕ)) (rest : Left) (fault : ScriptFault) → IsText bytes → TakesCatalogue (left_from 1 bytes) names rest
+  InMax : (names : List (List ℕ)) (rest : Left) (fault : ScriptFault) → IsText bytes → TakesCatalogue (left_from mode 1 bytes) names rest
       → IsMaxFault rest fault → IsScriptFault mode bytes fault
   -- a fault of a line behind the opening, up to `go`
-  InLines : (names : List (List ℕ)) (max : ℕ) (body : Left) (fault : ScriptFault) → Opens bytes names max body
+  InLines : (names : List (List ℕ)) (max : ℕ) (body : Left) (fault : ScriptFault) → Opens mode bytes names max body
       → IsLinesFault mode names 0 body.lines fault → IsScriptFault mode bytes fault
   -- a fault of a line behind `go`
   InOrders : (names : List (List ℕ)) (max : ℕ) (body : Left) (lines : List Line) (behind_go : List (ℕ × List ℕ)) (fault : ScriptFault)
-      → Opens bytes names max body → TakesLines mode names 0 body.lines lines behind_go → IsOrdersFault behind_go fault
+      → Opens mode bytes names max body → TakesLines mode names 0 body.lines lines behind_go → IsOrdersFault behind_go fault
       → IsScriptFault mode bytes fault

@@ -20,7 +20,7 @@ mod setup;
 mod texts;
 mod words;
 
-pub use laws::one_script;
+pub use laws::{changes_in_place, one_script};
 pub use line::Line;
 pub use probes::probes_for;
 pub use reading::read_script;

@@ -65,7 +65,10 @@ impl Line {
     {
         match (mode, self) {
             (Mode::Replay, Line::Step(watch)) => (*watch as usize) < watches,
-            (Mode::Serve, Line::Check(_) | Line::Open(_) | Line::Step(_) | Line::Board) => false,
+            (
+                Mode::Serve | Mode::Run,
+                Line::Check(_) | Line::Open(_) | Line::Step(_) | Line::Board,
+            ) => false,
             _ => true,
         }
     }

@@ -1,11 +1,14 @@
 ghost use Rattle.std.specs.Prelude.{◌≡◌, ◌<◌, ◌∷◌, length};
-ghost use Rattle.script.specs.Lines.{lines};
+ghost use Rattle.script.specs.Lines.{content, lines};
+ghost use Rattle.script.specs.declared.script.Mode.TheVariants.{Run};
 
+use crate::script::Mode;
 use std::marker::Model;
 
-/// What is left of a text: it gives its lines that have a byte, each with its number.
+/// What is left of a text: it gives its lines of which a byte is read, each with its number.
 #[derive(Drop)]
 pub(crate) struct Lines<'a> {
+    mode: Mode,
     rest: &'a str,
     number: u32,
 }
@@ -16,7 +19,7 @@ impl<'a> Model for Lines<'a> {
 
     ghost Value = { Left };
 
-    ghost view = { λ left. left_from left.number left.rest.now };
+    ghost view = { λ left. left_from left.mode left.number left.rest.now };
 
     ghost invariant = { λ left. left.number + length (lines left.rest.now) < 2 ^ 32 };
 }
@@ -26,23 +29,25 @@ impl<'a> Lines<'a> {
     ghost use Rattle.script.specs.Lines.{left_from, with_line};
 
     /// The lines of a text, whose numbers count from 1.
-    pub(crate) fn new(text: &'a str) -> Lines<'a>
+    pub(crate) fn new(mode: Mode, text: &'a str) -> Lines<'a>
         requires { length text.now ≤ 65536 }
-        ensures { result ≡ left_from 1 text.now }
+        ensures { result ≡ left_from mode 1 text.now }
     {
         Lines {
+            mode,
             rest: text,
             number: 1,
         }
     }
 
-    /// Takes the next line that has a byte, with its number. Where there is none it gives the number after the last line.
+    /// Takes the next line of which a byte is read, with its number. Where there is none it gives the number after the last line.
     pub(crate) fn next(&mut self) -> Result<(u32, &'a str), u32>
         ensures line { IfOk result (λ line. self.old ≡ with_line (line.0, line.1.now) self.new) }
         ensures none { IfErr result (λ end. (self.old.lines ≡ []) × (self.new.lines ≡ []) × (end ≡ self.old.end)) }
     {
         while !self.rest.is_empty() {
             let (line, rest) = first_line(self.rest);
+            let line = content(self.mode, line);
             let number = self.number;
             self.rest = rest;
             self.number += 1;
@@ -60,4 +65,24 @@ fn first_line(text: &str) -> (&str, &str)
     ensures shorter { length result.1.now < length text.now }
 {
     text.split_once('\n').unwrap_or((text, ""))
+}
+
+/// What is read of a line.
+fn content(mode: Mode, line: &str) -> &str
+    ensures { result.now ≡ content mode line.now }
+{
+    match mode {
+        Mode::Replay | Mode::Serve => line,
+        Mode::Run => uncommented(line),
+    }
+}
+
+/// Nothing of a comment, and any other line without the CR at its end.
+fn uncommented(line: &str) -> &str
+    ensures { result.now ≡ content Run line.now }
+{
+    if line.starts_with('#') {
+        return "";
+    }
+    line.strip_suffix('\r').unwrap_or(line)
 }

@@ -1,4 +1,5 @@
-ghost use Rattle.std.specs.Prelude.{◌≡◌, ◌≢◌, ◌+◌, ◌^◌, ◌<◌, ◌↔◌, IsTrue, IfOk, IfErr};
+ghost use Rattle.std.specs.Prelude.{◌≡◌, ◌≢◌, ◌+◌, ◌^◌, ◌<◌, ◌↔◌, length, IsTrue, IfOk, IfErr};
+ghost use Rattle.script.specs.Lines.{first_numbers};
 ghost use Rattle.script.specs.Reading.{IsReading};
 ghost use Rattle.script.specs.Script.{IsGo, IsNextLine, TakesLines, IsLinesFault, AreOrders, IsOrdersFault, IsText, IsScript, IsScriptFault};
 
@@ -27,37 +28,41 @@ pub fn read_script(alloc: Global, bytes: &[u8], mode: Mode) -> Result<Script, Sc
     let Ok(text) = str::from_utf8(bytes) else {
         return Err(ScriptFault::NotText);
     };
-    let mut lines = Lines::new(text);
+    let mut lines = Lines::new(mode, text);
     let catalogue = read_catalogue(alloc, &mut lines)?;
     let max = read_max(alloc, &mut lines)?;
-    let steps = read_lines(alloc, mode, &catalogue, &mut lines)?;
+    let (steps, numbers) = read_lines(alloc, mode, &catalogue, &mut lines)?;
     let orders = read_orders(alloc, &mut lines)?;
-    Ok(Script::new(catalogue, max, steps, orders))
+    Ok(Script::new(catalogue, max, steps, numbers, orders))
 }
 
-/// Takes the lines up to `go`, and `go` itself, or to the end.
+/// Takes the lines up to `go`, and `go` itself, or to the end, and gives the number of each that it gives.
 fn read_lines(
     alloc: Global,
     mode: Mode,
     catalogue: &Catalogue,
     lines: &mut Lines<'_>,
-) -> Result<Vec<Line>, ScriptFault>
-    ensures ok { IfOk result (λ taken. TakesLines mode catalogue.now 0 lines.old.lines taken.items lines.new.lines) }
+) -> Result<(Vec<Line>, Vec<u32>), ScriptFault>
+    ensures ok { IfOk result (λ taken. TakesLines mode catalogue.now 0 lines.old.lines taken.0.items lines.new.lines) }
+    ensures numbers { IfOk result (λ taken. taken.1.items ≡ first_numbers (length taken.0.items) lines.old.lines) }
+    ensures each { IfOk result (λ taken. length taken.1.items ≡ length taken.0.items) }
     ensures fault { IfErr result (λ fault. fault ≢ ScriptFault.NoMemory → IsLinesFault mode catalogue.now 0 lines.old.lines fault) }
 {
     let mut taken = Vec::new(alloc);
+    let mut numbers = Vec::new(alloc);
     let mut watches = 0;
     while let Ok((number, text)) = lines.next() {
         if is_go(mode, text) {
-            return Ok(taken);
+            return Ok((taken, numbers));
         }
         let Some(line) = next_line(alloc, mode, catalogue, watches, text)? else {
             return Err(ScriptFault::BadLine(number));
         };
         watches = line.watches_after(watches);
         taken.push(line)?;
+        numbers.push(number)?;
     }
-    Ok(taken)
+    Ok((taken, numbers))
 }
 
 fn is_go(mode: Mode, text: &str) -> bool

@@ -2,11 +2,13 @@ use crate::line::Line;
 use desk_core::{Catalogue, Order};
 use std::marker::Model;
 
-/// How a script is run: line by line, with an answer to each, or as the changes of a server.
+/// What a script is read for: to be run line by line, with an answer to each; to set a server up and give it orders; or to set one up
+/// alone, in a text that may have comments and lines that end in CR LF.
 #[derive(Clone, Copy, Debug, PartialEq, Eq)]
 pub enum Mode {
     Replay,
     Serve,
+    Run,
 }
 
 /// The names of the services, and what is done with them.
@@ -15,21 +17,23 @@ pub struct Script {
     catalogue: Catalogue,
     max: u32,
     lines: Vec<Line>,
+    numbers: Vec<u32>,
     orders: Vec<Order>,
 }
 
 impl Model for Script {
+    ghost use Rattle.std.specs.Prelude.{◌≡◌, length};
     ghost use Rattle.script.specs.Script.{ScriptParts, StepsFollow};
 
     ghost Value = { ScriptParts };
 
-    ghost view = { λ script. record { names = script.catalogue; max = script.max; lines = script.lines.items; orders = script.orders.items } };
+    ghost view = { λ script. record { names = script.catalogue; max = script.max; lines = script.lines.items; numbers = script.numbers.items; orders = script.orders.items } };
 
-    ghost invariant = { λ script. StepsFollow 0 script.lines.items };
+    ghost invariant = { λ script. StepsFollow 0 script.lines.items × (length script.numbers.items ≡ length script.lines.items) };
 }
 
 impl Script {
-    ghost use Rattle.std.specs.Prelude.{◌≡◌};
+    ghost use Rattle.std.specs.Prelude.{◌≡◌, length};
     ghost use Rattle.script.specs.Script.{StepsFollow};
 
     /// A script of these parts.
@@ -37,15 +41,18 @@ impl Script {
         catalogue: Catalogue,
         max: u32,
         lines: Vec<Line>,
+        numbers: Vec<u32>,
         orders: Vec<Order>,
     ) -> Script
-        requires { StepsFollow 0 lines.items }
-        ensures { result ≡ record { names = catalogue; max = max; lines = lines.items; orders = orders.items } }
+        requires steps { StepsFollow 0 lines.items }
+        requires each { length numbers.items ≡ length lines.items }
+        ensures { result ≡ record { names = catalogue; max = max; lines = lines.items; numbers = numbers.items; orders = orders.items } }
     {
         Script {
             catalogue,
             max,
             lines,
+            numbers,
             orders,
         }
     }
@@ -80,6 +87,14 @@ impl Script {
         ensures steps { StepsFollow 0 self.now.lines }
     {
         self.lines.as_slice()
+    }
+
+    /// The number of each of these lines in the text, where the first line has 1.
+    pub fn numbers(&self) -> &[u32]
+        ensures numbers { result.now ≡ self.now.numbers }
+        ensures each { length self.now.numbers ≡ length self.now.lines }
+    {
+        self.numbers.as_slice()
     }
 
     /// The changes behind the line `go`.

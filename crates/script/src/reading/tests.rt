@@ -6,6 +6,8 @@ use std::fmt::Debug;
 use std::test::Fail;
 use test_support::{Scarcity, same};
 
+mod run;
+
 /// What a line says, with its names as texts.
 #[derive(Clone, Copy, Debug, PartialEq)]
 enum Said<'a> {
@@ -256,6 +258,7 @@ fn refuses_a_bad_opening(rt: HostRuntime) -> Result<(), Fail> {
     for (text, fault) in &OPENINGS {
         expect_fault(alloc, text.as_bytes(), Mode::Replay, Some(*fault), text)?;
         expect_fault(alloc, text.as_bytes(), Mode::Serve, Some(*fault), text)?;
+        expect_fault(alloc, text.as_bytes(), Mode::Run, Some(*fault), text)?;
     }
     Ok(())
 }
@@ -310,6 +313,8 @@ fn expect_order(script: &Script, index: usize, expected: Said) -> Result<(), Fai
 fn reads_a_script_to_serve(rt: HostRuntime) -> Result<(), Fail> {
     let script = read_script(rt.alloc(), SERVED, Mode::Serve)?;
     same(&sizes(&script), &(2, 9, 3, 4), &SERVED)?;
+    let numbers = [3, 4, 5];
+    same(&script.numbers(), &numbers.as_slice(), &SERVED)?;
     for (index, expected) in SERVED_ORDERS.iter().enumerate() {
         expect_order(&script, index, *expected)?;
     }
@@ -378,16 +383,22 @@ fn takes_text_alone(rt: HostRuntime) -> Result<(), Fail> {
     expect_longest(alloc, b"", b'\xff', fault)
 }
 
-#[test]
-fn refuses_each_growth(rt: HostRuntime) -> Result<(), Fail> {
-    let alloc = rt.alloc();
+/// A script is read whole, with these sizes and numbers, or memory is wanting.
+fn expect_each_growth(
+    alloc: Global,
+    bytes: &[u8],
+    mode: Mode,
+    expected: (usize, u32, usize, usize),
+    numbers: &[u32],
+) -> Result<(), Fail> {
     let scarcity = Scarcity::with_small_room(alloc)?;
     let (mut refused, mut whole) = (0u32, 0u32);
     for step in 0..512usize {
         let filler = scarcity.leave_steps(step)?;
-        match read_script(alloc, SERVED, Mode::Serve) {
+        match read_script(alloc, bytes, mode) {
             Ok(script) => {
-                same(&sizes(&script), &(2, 9, 3, 4), &step)?;
+                same(&sizes(&script), &expected, &step)?;
+                same(&script.numbers(), &numbers, &step)?;
                 whole = whole.wrapping_add(1);
             }
             Err(fault) => {
@@ -399,4 +410,11 @@ fn refuses_each_growth(rt: HostRuntime) -> Result<(), Fail> {
     }
     drop(scarcity);
     same(&(refused > 3, whole > 0), &(true, true), &"refused, whole")
+}
+
+#[test]
+fn refuses_each_growth(rt: HostRuntime) -> Result<(), Fail> {
+    let alloc = rt.alloc();
+    let numbers = [3, 4, 5];
+    expect_each_growth(alloc, SERVED, Mode::Serve, (2, 9, 3, 4), &numbers)
 }
