@@ -1,13 +1,15 @@
 -- How many changes a journal can have, and which of them are kept.
-use Rattle.std.proofs.Common.{ℕ, Option, Some, None, zero, suc, ◌≡◌, ◌+◌, ◌-◌, ◌*◌, ◌<◌, ◌≤◌, Bool, true, false, if◌then◌else◌, List, [], ◌∷◌, ◌++◌, length, ap, inl, inr, ◌⊎◌, arith, length-append}
-use Rattle.std.proofs.lemmas.List.{length-reverse}
+use Rattle.std.proofs.Common.{ℕ, Option, Some, None, zero, suc, ◌≡◌, ◌+◌, ◌-◌, ◌*◌, ◌<◌, ◌≤◌, Bool, true, false, if◌then◌else◌, List, [], ◌∷◌, ◌++◌, length, take, drop, sym, ap, ◌∙◌, inl, inr, ◌⊎◌, arith, length-append}
+use Rattle.std.proofs.lemmas.List.{length-reverse, take_all}
+use Rattle.std.proofs.Math.Seq.{drop-nil}
 use Rattle.health_wire.specs.declared.serving.Serving.{Serving}
 use Rattle.desk_core.specs.declared.change.Change.{Change}
 use Rattle.desk_core.specs.declared.entry.Entry.{Entry}
 use Rattle.desk_core.specs.Changes.{changes_of, changed, is_same, shown_at}
 use Rattle.desk_core.specs.Past.{past}
-use Rattle.desk_core.specs.Watch.{WatchState, IsBehind}
-use Rattle.tail.specs.Tail.{forgotten}
+use Rattle.desk_core.specs.Watch.{WatchState, IsBehind, IsOlder}
+use Rattle.desk_core.proofs.WatchLemmas.{front_stays}
+use Rattle.tail.specs.Tail.{forgotten, kept_of}
 
 -- an entry changes each slot once at most
 changed_few : (at : ℕ) (before after : ℕ → Serving) (n : ℕ) → length (changed at before after n) ≤ n
@@ -46,3 +48,37 @@ kept_suffice (Some kept) changes watch near = by_order (search arith)
     by_order : (watch.cursor + kept < length changes) ⊎ (length changes ≤ watch.cursor + kept) → length changes - kept ≤ watch.cursor
     by_order (inl behind) = absurd (near behind)
     by_order (inr close) = omega (arith, close)
+
+-- a watch past all that is forgotten is not behind
+pub suffice_near : (kept : Option ℕ) (changes : List Change) (watch : WatchState) → forgotten kept (length changes) ≤ watch.cursor
+    → IsBehind kept changes watch → ⊥
+suffice_near None changes watch past behind = behind
+suffice_near (Some kept) changes watch past behind = omega (arith, past, behind)
+
+-- what is left of a list behind a place is left of its end from an earlier place on
+drop_of_end : {A : Type 0} (xs : List A) (at n : ℕ) → at ≤ n → drop n xs ≡ drop (n - at) (drop at xs)
+drop_of_end xs zero n before = let same : n ≡ n - 0 = omega arith in ap (λ left. drop left xs) same
+drop_of_end [] (suc at) n before = drop-nil n ∙ sym (drop-nil (n - suc at))
+drop_of_end (x ∷ xs) (suc at) zero before = absurd (omega (arith, before))
+drop_of_end (x ∷ xs) (suc at) (suc n) before =
+    let same : n - at ≡ suc n - suc at = omega arith in
+    drop_of_end xs at n (omega (arith, before)) ∙ ap (λ left. drop left (drop at xs)) same
+
+pub part_of_kept : (kept : Option ℕ) (changes : List Change) (watch : WatchState) → (IsBehind kept changes watch → ⊥)
+    → drop watch.cursor changes ≡ drop (watch.cursor - forgotten kept (length changes)) (kept_of kept changes)
+part_of_kept kept changes watch near = drop_of_end changes (forgotten kept (length changes)) watch.cursor (kept_suffice kept changes watch near)
+
+-- a front is no longer than the whole
+front_short : {A : Type 0} (xs ys : List A) → take (length xs) ys ≡ xs → length xs ≤ length ys
+front_short xs ys front = by_order (search arith)
+  where
+    by_order : (length ys ≤ length xs) ⊎ (length xs ≤ length ys) → length xs ≤ length ys
+    by_order (inl shorter) = omega (arith, ap length (sym front ∙ take_all (length xs) ys shorter))
+    by_order (inr longer) = longer
+
+-- as the history grows a watch that is behind stays so
+pub stays_behind : (kept : Option ℕ) (older entries : List Entry) (watch : WatchState) → IsOlder older entries
+    → IsBehind kept (changes_of older) watch → IsBehind kept (changes_of entries) watch
+stays_behind None older entries watch grows behind = behind
+stays_behind (Some kept) older entries watch grows behind =
+    omega (arith, behind, front_short (changes_of older) (changes_of entries) (front_stays older entries grows))

@@ -38,7 +38,8 @@ abbrev pub cursor_after : List Change → WatchState → ℕ
 cursor_after changes watch =
     unwrap_or (option_map suc (next_change changes watch.slot watch.cursor)) (max watch.cursor (length changes))
 
--- the watcher is before the oldest change that is kept, so that its next one may be forgotten; where all are kept none ever is
+-- the watcher is before the oldest change that is kept, so that its next one may be forgotten; also a watcher of no slot, which has
+-- no change: the rule is by the cursor alone; where all are kept none ever is
 abbrev pub IsBehind : Option ℕ → List Change → WatchState → Type 0
 IsBehind None changes watch = ⊥
 IsBehind (Some kept) changes watch = watch.cursor + kept < length changes

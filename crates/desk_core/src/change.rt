@@ -25,6 +25,7 @@ pub(crate) fn tell(changes: &mut Tail<Change>, at: u32, before: Statuses, after:
     requires room { 16 ≤ changes.old.room }
     requires few { length changes.old.items + 16 < 2 ^ 63 }
     ensures kept { changes.new.keep ≡ changes.old.keep }
+    ensures capacity { changes.new.capacity ≡ changes.old.capacity }
     ensures told { changes.new.items ≡ changes.old.items ++ changed at (shown_in before) (shown_in after) 16 }
 {
     let mut old = before.word();
@@ -54,6 +55,7 @@ fn tell_slot(changes: &mut Tail<Change>, at: u32, slot: Slot, before: Serving, a
     ensures len { length changes.new.items ≤ length changes.old.items + 1 }
     ensures room { changes.old.room ≤ changes.new.room + 1 }
     ensures kept { changes.new.keep ≡ changes.old.keep }
+    ensures capacity { changes.new.capacity ≡ changes.old.capacity }
 {
     if is_same(before, after) {
         return;

@@ -23,7 +23,7 @@ pub(crate) struct History {
 }
 
 impl History {
-    ghost use Rattle.std.specs.Prelude.{◌≡◌, ◌+◌, ◌^◌, ◌<◌, ◌≤◌, [], ◌∷◌, ◌++◌, length, replicate, IfSome, IfOk, OnOk, OnErr};
+    ghost use Rattle.std.specs.Prelude.{◌≡◌, ℕ, ◌+◌, ◌^◌, ◌<◌, ◌≤◌, Some, [], ◌∷◌, ◌++◌, length, replicate, IfSome, IsOk, IfOk, OnOk, OnErr};
     ghost use Rattle.desk_core.specs.Cache.{IsRelated};
     ghost use Rattle.desk_core.specs.Changes.{changed};
     ghost use Rattle.desk_core.specs.Mutation.{entry_of};
@@ -68,6 +68,7 @@ impl History {
 
     /// For how many entries and changes there is memory.
     pub(crate) fn capacity(&self) -> Capacity
+        ensures capacity { (result.entries ≡ self.now.journal.capacity) × (result.changes ≡ self.now.changes.capacity) }
         ensures entries { length (kept_of self.now.journal.keep self.now.journal.items) ≤ result.entries }
         ensures changes { length (kept_of self.now.changes.keep self.now.changes.items) ≤ result.changes }
         ensures most_entries { IfSome self.now.journal.keep (λ kept. result.entries ≤ most_held kept) }
@@ -94,6 +95,8 @@ impl History {
         ensures changes { self.new.changes.items ≡ self.old.changes.items }
         ensures cache { self.new.cache ≡ self.old.cache }
         ensures room { OnOk result (16 ≤ self.new.changes.room) }
+        ensures full { (most : ℕ) → self.old.journal.keep ≡ Some most → self.old.changes.keep ≡ Some most → self.old.journal.capacity ≡ most_held most → self.old.changes.capacity ≡ most_held most → IsOk result }
+        ensures grows { (self.old.journal.capacity ≤ self.new.journal.capacity) × (self.old.changes.capacity ≤ self.new.changes.capacity) }
         ensures kept { (self.new.journal.keep ≡ self.old.journal.keep) × (self.new.changes.keep ≡ self.old.changes.keep) }
     {
         let at = self.journal.len() as u32;
@@ -109,6 +112,7 @@ impl History {
         requires room { 16 ≤ self.old.changes.room }
         requires few { length self.old.changes.items + 16 < 2 ^ 63 }
         ensures kept { (self.new.journal.keep ≡ self.old.journal.keep) × (self.new.changes.keep ≡ self.old.changes.keep) }
+        ensures capacity { (self.new.journal.capacity ≡ self.old.journal.capacity) × (self.new.changes.capacity ≡ self.old.changes.capacity) }
         ensures journal { self.new.journal.items ≡ self.old.journal.items }
         ensures changes { self.new.changes.items ≡ self.old.changes.items ++ changed at (shown_in self.old.cache.statuses) (shown_in self.new.cache.statuses) 16 }
         ensures statuses { IsShown (touched call.now) slots.now.places.items is_shut self.new.cache.dependents self.old.cache.statuses self.new.cache.statuses }

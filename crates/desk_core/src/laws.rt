@@ -1,4 +1,4 @@
-ghost use Rattle.std.specs.Prelude.{◌≡◌, ◌<◌, ◌≤◌, ◌↔◌, ◌⊎◌, if◌then◌else◌, List, ℕ, Option, Result, Err, take, Some, None, true, false, [], ◌∷◌, ◌++◌, length, All, Contains};
+ghost use Rattle.std.specs.Prelude.{◌≡◌, ◌-◌, ◌<◌, ◌≤◌, ◌↔◌, ◌⊎◌, if◌then◌else◌, List, ℕ, Option, Result, Err, take, drop, Some, None, true, false, [], ◌∷◌, ◌++◌, length, All, Contains};
 ghost use Rattle.std.specs.List.{last_or};
 ghost use Rattle.desk_core.specs.declared.call.Call.{Call};
 ghost use Rattle.desk_core.specs.declared.call.Call.TheVariants.{Shutdown, Resume};
@@ -14,7 +14,7 @@ ghost use Rattle.desk_core.specs.Status.{status_at, serving_if, shown, AllServe}
 ghost use Rattle.desk_core.specs.Present.{rule_at};
 ghost use Rattle.desk_core.specs.Mutation.{IsAnswered};
 ghost use Rattle.desk_core.specs.Reply.{reply_to};
-ghost use Rattle.tail.specs.Tail.{forgotten};
+ghost use Rattle.tail.specs.Tail.{forgotten, kept_of};
 ghost use Rattle.desk_core.specs.Changes.{changes_of};
 ghost use Rattle.desk_core.specs.Watch.{WatchState, IsBehind, IsOlder, GoOn, last_of, opened, answer_of, cursor_after, told, walk, cursor_past, story, last_told};
 ghost use Rattle.health_wire.specs.declared.serving.Serving.{Serving};
@@ -139,6 +139,14 @@ pub fn one_outcome()
 
 /// A watch that is not behind has its next change among those that are kept: the changes from its cursor on are a part of them.
 pub fn kept_changes_suffice()
-    ensures { (kept : Option ℕ) (changes : List Change) (watch : WatchState) → (IsBehind kept changes watch → ⊥)
-        → forgotten kept (length changes) ≤ watch.cursor }
+    ensures cursor { (kept : Option ℕ) (changes : List Change) (watch : WatchState)
+        → ((IsBehind kept changes watch → ⊥) ↔ (forgotten kept (length changes) ≤ watch.cursor)) }
+    ensures part { (kept : Option ℕ) (changes : List Change) (watch : WatchState) → (IsBehind kept changes watch → ⊥)
+        → drop watch.cursor changes ≡ drop (watch.cursor - forgotten kept (length changes)) (kept_of kept changes) }
+{}
+
+/// A watch that is behind stays behind while the history grows.
+pub fn behind_for_good()
+    ensures { (kept : Option ℕ) (older entries : List Entry) (watch : WatchState) → IsOlder older entries
+        → IsBehind kept (changes_of older) watch → IsBehind kept (changes_of entries) watch }
 {}

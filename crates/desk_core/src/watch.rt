@@ -7,7 +7,8 @@ use health_wire::Serving;
 use std::marker::Model;
 use tail::Tail;
 
-/// The watch is before the oldest change that is kept, so that its next one may be forgotten.
+/// The watch is before the oldest change that is kept, so that its next one may be forgotten. A watch of a name without a slot, which
+/// has no change, is called behind too: the rule is by the cursor alone.
 #[derive(Clone, Copy, Debug, PartialEq, Eq)]
 pub struct Behind;
 

@@ -28,7 +28,7 @@ impl<T: Drop> Model for Tail<T> {
 
     ghost coded = { tail_code T.code };
 
-    ghost view = { λ tail. record { items = tail.whole.items; keep = tail.keep; room = vec_capacity tail.held - vec_len tail.held } };
+    ghost view = { λ tail. record { items = tail.whole.items; keep = tail.keep; room = vec_capacity tail.held - vec_len tail.held; capacity = vec_capacity tail.held } };
 
     ghost invariant = { λ tail. IsTail tail.held.items (vec_capacity tail.held) tail.gone tail.keep tail.whole.items };
 }
@@ -39,7 +39,7 @@ impl<T: Drop> Tail<T> {
 
     /// An empty list, which takes no memory yet. Without a number it keeps all.
     pub fn new(alloc: Global, keep: Option<u32>) -> Tail<T>
-        ensures { result ≡ record { items = []; keep = keep; room = 0 } }
+        ensures { result ≡ record { items = []; keep = keep; room = 0; capacity = 0 } }
     {
         Tail {
             held: Vec::new(alloc),
@@ -92,14 +92,19 @@ impl<T: Drop> Tail<T> {
         &self.held[at..]
     }
 
-    /// Makes room for so many more items. Where memory holds as many as it may it forgets the older ones first, so that a list asks
-    /// for no more memory once it has that.
+    /// Makes room for so many more items. Where the items in memory leave too little of what it may ever take, it forgets the older
+    /// ones first; so a list that has all of that memory asks for no more.
     pub fn reserve(&mut self, more: usize) -> Result<(), AllocError>
         requires { more ≤ 16 }
         ensures items { self.new.items ≡ self.old.items }
         ensures keep { self.new.keep ≡ self.old.keep }
         ensures room { OnOk result (more ≤ self.new.room) }
         ensures enough { 16 ≤ self.old.room → IsOk result }
+        ensures full { IfSome self.old.keep (λ keep. self.old.capacity ≡ most_held keep → IsOk result × (self.new.capacity ≡ self.old.capacity)) }
+        ensures grows { self.old.capacity ≤ self.new.capacity }
+
+        // Also where it is refused: the items that are then in memory leave room for sixteen in what it may take.
+        ensures forgets { IfSome self.old.keep (λ keep. self.new.capacity + 16 ≤ most_held keep + self.new.room) }
     {
         let Some(keep) = self.keep else {
             return self.held.reserve(more);
@@ -130,6 +135,7 @@ impl<T: Drop> Tail<T> {
 
     /// For how many items there is memory.
     pub fn capacity(&self) -> usize
+        ensures capacity { result ≡ self.now.capacity }
         ensures holds { length (kept_of self.now.keep self.now.items) + self.now.room ≤ result }
         ensures most { IfSome self.now.keep (λ keep. result ≤ most_held keep) }
     {

@@ -1,4 +1,5 @@
 use super::*;
+use test_support::Scarcity;
 
 /// Keeps the last sixteen.
 #[derive(Drop)]
@@ -107,6 +108,31 @@ fn forgets_all_but_sixteen_of_a_hundred_flips(rt: HostRuntime) -> Result<(), Fai
     same(&found, &(16, 104), &"what is kept")?;
     let Capacity { entries, changes } = desk.capacity();
     same(&(entries <= 32, changes <= 32), &(true, true), &"memory")
+}
+
+/// For how many entries, and for how many changes, the desk has memory.
+fn memory(desk: &Desk<Manual, KeepSixteen>) -> (usize, usize) {
+    let Capacity { entries, changes } = desk.capacity();
+    (entries, changes)
+}
+
+#[test]
+fn takes_no_memory_at_its_limit(rt: HostRuntime) -> Result<(), Fail> {
+    let alloc: Global = rt.alloc();
+    let mut desk = desk_of_two(alloc)?;
+    flip(&mut desk, 60)?;
+    same(&memory(&desk), &(32, 32), &"the limit")?;
+    let scarcity = Scarcity::with_small_room(alloc)?;
+    let rest = scarcity.leave_steps(0)?;
+    let mut empty: Desk<Manual, KeepSixteen> = Desk::new(alloc, 200);
+    let is_refused = empty.shutdown(0) == Err(Refusal::NoMemory);
+    let gone_on = flip(&mut desk, 100);
+    drop(rest);
+    drop(scarcity);
+    gone_on?;
+    same(&is_refused, &true, &"without memory")?;
+    same(&board_entries(empty.board()), &0, &"the refused one")?;
+    same(&memory(&desk), &(32, 32), &"the same memory")
 }
 
 /// Of each cause one: done, ignored, of the wrong kind, of a slot that is not registered.

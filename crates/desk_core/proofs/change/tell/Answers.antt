@@ -15,6 +15,7 @@ loop-old-init c = record {
   room = omega (arith, c.requires.room);
   few = omega (arith, c.requires.few);
   kept = refl;
+  capacity = refl;
   told = told_none c.args.changes.now.items c.args.at (shown_in c.args.before) (shown_in c.args.after);
 }
 
@@ -34,6 +35,7 @@ loop-old-preserved c =
       room = omega (arith, c.loop-old.invariant.room, c.tell_slot.ensures.room);
       few = omega (arith, c.loop-old.invariant.few, c.tell_slot.ensures.len);
       kept = c.tell_slot.ensures.kept ∙ c.loop-old.invariant.kept;
+      capacity = c.tell_slot.ensures.capacity ∙ c.loop-old.invariant.capacity;
       told = told_next _ _ _ c.args.at c.loop-old.number _ (shown_in c.args.before) (shown_in c.args.after) _ _
           c.loop-old.invariant.told c.tell_slot.ensures.told c.at-slot.ensures
           (c.first_shown.ensures ∙ ap (λ w. unwrap_or (status_of_code (w % 4)) ServiceUnknown) c.loop-old.invariant.old_is)

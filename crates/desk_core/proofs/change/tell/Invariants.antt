@@ -11,6 +11,7 @@ invariant-loop-old l = record {
   room : 16 ≤ l.changes.room + l.number;
   few : length l.changes.items + 16 < 9223372036854775808 + l.number;
   kept : l.changes.keep ≡ l.fn.changes.keep;
+  capacity : l.changes.capacity ≡ l.fn.changes.capacity;
   told : l.changes.items ≡ l.fn.changes.items ++ changed l.at (shown_in l.fn.before) (shown_in l.fn.after) l.number;
 }
 

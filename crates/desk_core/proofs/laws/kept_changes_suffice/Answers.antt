@@ -1,5 +1,8 @@
-use Rattle.desk_core.proofs.KeptLemmas.{kept_suffice}
+use Rattle.desk_core.proofs.KeptLemmas.{kept_suffice, suffice_near, part_of_kept}
 use Rattle.desk_core.proofs.laws.kept_changes_suffice.Goals as goal
 
-pub returns : goal.returns
-returns c = kept_suffice
+pub returns-clause-cursor : goal.returns-clause-cursor
+returns-clause-cursor c kept changes watch = (kept_suffice kept changes watch, suffice_near kept changes watch)
+
+pub returns-clause-part : goal.returns-clause-part
+returns-clause-part c = part_of_kept
