@@ -1,0 +1,5 @@
+mod bounds;
+mod calls;
+mod scenes;
+mod times;
+mod watches;

@@ -1,0 +1,65 @@
+use crate::tests::scenes::{Place, Scene, client, rest};
+use std::alloc::Global;
+use std::io::Write;
+use std::net::{Net, TcpStream};
+use std::test::Fail;
+use std::time::Clock;
+use test_support::requests::CHECK_OF_EMPTY;
+use test_support::same;
+
+/// The response to a Check of the empty name.
+const SERVING: &[u8] = b"HTTP/1.1 200 OK\r\n\
+    connection: close\r\n\
+    content-type: application/grpc-web+proto\r\n\
+    content-length: 27\r\n\
+    \r\n\
+    \x00\x00\x00\x00\x02\x08\x01\x80\x00\x00\x00\x0fgrpc-status:0\r\n";
+
+/// Two bytes behind a request.
+const LONGER: &[u8] = b"GET / HTTP/1.1\r\n\r\nGE";
+
+const REFUSED: &[u8] = b"HTTP/1.1 405 Method Not Allowed\r\n\
+    connection: close\r\n\
+    allow: POST\r\n\
+    content-length: 0\r\n\
+    \r\n";
+
+fn expect<R: Net<Stream = TcpStream> + Clock>(
+    rt: &R,
+    alloc: Global,
+    place: &mut Place,
+    scene: &Scene,
+    request: &[u8],
+    response: &[u8],
+) -> Result<(), Fail> {
+    let mut stream = client(rt, place, request)?;
+    place.rounds(rt, scene)?;
+    let found = rest(alloc, &mut stream)?;
+    same(&found.as_slice(), &response, &request)
+}
+
+#[test]
+fn answers_calls_one_after_another(rt: HostRuntime) -> Result<(), Fail> {
+    let scene = Scene::new(rt.alloc())?;
+    let mut place = Place::new(&rt, rt.alloc(), 10, 10)?;
+    for _ in 0..3u8 {
+        expect(&rt, rt.alloc(), &mut place, &scene, CHECK_OF_EMPTY, SERVING)?;
+        expect(&rt, rt.alloc(), &mut place, &scene, LONGER, REFUSED)?;
+    }
+    let found = (place.server.connections(), place.server.ended());
+    same(&found, &(0, 6), &"all have ended")
+}
+
+#[test]
+fn a_request_may_come_byte_by_byte(rt: HostRuntime) -> Result<(), Fail> {
+    let scene = Scene::new(rt.alloc())?;
+    let mut place = Place::new(&rt, rt.alloc(), 10, 10)?;
+    let (front, back) = CHECK_OF_EMPTY.split_at(40);
+    let mut stream = client(&rt, &place, front)?;
+    place.rounds(&rt, &scene)?;
+    same(&place.server.connections(), &1, &"the front")?;
+    stream.write_all(back)?;
+    place.rounds(&rt, &scene)?;
+    let found = rest(rt.alloc(), &mut stream)?;
+    same(&found.as_slice(), &SERVING, &"the whole")
+}

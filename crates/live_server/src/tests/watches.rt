@@ -1,0 +1,69 @@
+use crate::tests::scenes::{Place, Scene, client, rest, sent};
+use desk_core::Setting;
+use std::alloc::Global;
+use std::net::TcpStream;
+use std::test::Fail;
+use test_support::requests::WATCH_OF_EMPTY;
+use test_support::same;
+
+/// The messages NOT_SERVING and SERVING as a Watch tells them.
+const DOWN: &[u8] = b"7\r\n\x00\x00\x00\x00\x02\x08\x02\r\n";
+
+const UP: &[u8] = b"7\r\n\x00\x00\x00\x00\x02\x08\x01\r\n";
+
+/// Each of the clients has been sent what ends so, and nothing else where it is said so.
+fn expect_sent(
+    alloc: Global,
+    streams: &mut [TcpStream],
+    message: &[u8],
+    is_all: bool,
+) -> Result<(), Fail> {
+    for stream in streams {
+        let found = sent(alloc, stream)?;
+        same(&found.ends_with(message), &true, &message)?;
+        if is_all {
+            same(&found.as_slice(), &message, &"no more")?;
+        }
+    }
+    Ok(())
+}
+
+#[test]
+fn watchers_are_told_each_change(rt: HostRuntime) -> Result<(), Fail> {
+    let mut scene = Scene::new(rt.alloc())?;
+    let mut place = Place::new(&rt, rt.alloc(), 10, 10)?;
+    let mut streams = Vec::new(rt.alloc());
+    for _ in 0..3u8 {
+        streams.push(client(&rt, &place, WATCH_OF_EMPTY)?)?;
+    }
+    place.rounds(&rt, &scene)?;
+    expect_sent(rt.alloc(), &mut streams, UP, false)?;
+    for (setting, message) in [
+        (Setting::Down, DOWN),
+        (Setting::Up, UP),
+        (Setting::Down, DOWN),
+    ] {
+        scene.set(setting);
+        place.news.change();
+        place.rounds(&rt, &scene)?;
+        expect_sent(rt.alloc(), &mut streams, message, true)?;
+    }
+    let left = streams.pop();
+    drop(left);
+    place.rounds(&rt, &scene)?;
+    let found = (place.server.connections(), place.server.watches());
+    same(&found, &(2, 2), &"one has left")?;
+    place.news.end();
+    place.rounds(&rt, &scene)?;
+    for stream in &mut streams {
+        let found = rest(rt.alloc(), stream)?;
+        same(&found.ends_with(b"\r\n0\r\n\r\n"), &true, &"the end")?;
+    }
+    let counts = place.server.counts();
+    let found = (
+        place.server.connections(),
+        place.server.ended(),
+        counts.given_up,
+    );
+    same(&found, &(0, 3, 1), &"all have ended")
+}
