@@ -1,5 +1,6 @@
 //! Times the registry of one thread: `bench_desk ROUNDS` prints the nanoseconds of a call, and how many times longer one
-//! takes than another. Without a number of rounds it prints nothing.
+//! takes than another. `bench_desk ROUNDS kept` makes so many changes on a registry that keeps the last 65,536, and nothing
+//! else. Asked for anything else, it prints nothing.
 #![tactic(auto)]
 
 use desk_core::{Desk, Keep, KeepAll, KeepMany, Setting, Slot};
@@ -11,18 +12,35 @@ use std::rt::Env;
 use std::time::{Clock, Duration, Instant};
 
 fn main(rt: HostRuntime) -> ExitCode {
-    let Some(rounds) = rounds(&rt) else {
+    let Some(asked) = asked(&rt) else {
         return ExitCode::SUCCESS;
     };
-    match bench(&rt, rounds) {
+    let done = match asked {
+        Run::All(rounds) => bench(&rt, rounds),
+        Run::Kept(rounds) => bench_kept(&rt, rounds),
+    };
+    match done {
         Some(()) => ExitCode::SUCCESS,
         None => ExitCode::FAILURE,
     }
 }
 
-fn rounds<R: Env + AllocGlobal>(rt: &R) -> Option<u32> {
+/// What the command line asks for.
+enum Run {
+    /// All times, each of so many calls.
+    All(u32),
+    /// The time of so many changes on a registry that forgets.
+    Kept(u32),
+}
+
+fn asked<R: Env + AllocGlobal>(rt: &R) -> Option<Run> {
     let words: Vec<String> = env::args(rt).ok()?.collect(rt.alloc()).ok()?;
-    words.get(1)?.parse().ok()
+    let rounds = words.get(1)?.parse().ok()?;
+    match words.get(2) {
+        None => Some(Run::All(rounds)),
+        Some(word) if word.as_str() == "kept" => Some(Run::Kept(rounds)),
+        Some(_) => None,
+    }
 }
 
 /// What sixteen services take of which each depends on the one before it.
@@ -36,27 +54,33 @@ struct Chain {
 fn bench<R: Print + Clock + AllocGlobal>(rt: &R, rounds: u32) -> Option<()> {
     let Chain { check, anew, head } = time_chain(rt, rounds)?;
     let alone = time_alone(rt, false, rounds)?;
-    let forgetting = time_alone(rt, true, rounds)?;
-    print(rt, "check", check, rounds)?;
-    print(rt, "change of a slot that nobody depends on", alone, rounds)?;
-    print(
-        rt,
-        "the same where the last 65,536 are kept",
-        forgetting,
-        rounds,
-    )?;
-    print(rt, "change of the head of a chain", head, rounds)?;
-    print(rt, "all sixteen anew", anew, rounds)?;
-    print_ratio(rt, "head of a chain / check", head, check)?;
-    print_ratio(rt, "all sixteen anew / check", anew, check)?;
-    print_ratio(rt, "head of a chain / slot alone", head, alone)?;
-    print_ratio(rt, "all sixteen anew / slot alone", anew, alone)?;
-    print_ratio(
-        rt,
-        "slot alone, the last kept / all kept",
-        forgetting,
-        alone,
-    )
+    let kept = time_alone(rt, true, rounds)?;
+    let rounds = u128::from(rounds);
+    let in_checks = check.as_nanos();
+    let in_changes = alone.as_nanos();
+    let figures = [
+        ("check", check, rounds),
+        ("change of a slot that nobody depends on", alone, rounds),
+        ("the same where the last 65,536 are kept", kept, rounds),
+        ("change of the head of a chain", head, rounds),
+        ("all sixteen anew", anew, rounds),
+        ("head of a chain / check", head, in_checks),
+        ("all sixteen anew / check", anew, in_checks),
+        ("head of a chain / slot alone", head, in_changes),
+        ("all sixteen anew / slot alone", anew, in_changes),
+        ("slot alone, the last kept / all kept", kept, in_changes),
+    ];
+    for (what, time, unit) in figures {
+        print(rt, what, time, unit)?;
+    }
+    Some(())
+}
+
+/// Times the changes of a registry that forgets, and nothing else, so that its memory can be looked at meanwhile.
+fn bench_kept<R: Print + Clock + AllocGlobal>(rt: &R, rounds: u32) -> Option<()> {
+    let kept = time_alone(rt, true, rounds)?;
+    let what = "change of a slot where the last 65,536 are kept";
+    print(rt, what, kept, u128::from(rounds))
 }
 
 fn time_chain<R: Clock + AllocGlobal>(rt: &R, rounds: u32) -> Option<Chain> {
@@ -164,17 +188,9 @@ fn time_settings<P: Probe, K: Keep>(
     start.elapsed(clock).ok()
 }
 
-/// The time of one of the rounds, in nanoseconds.
-fn print(rt: &impl Print, what: &str, time: Duration, rounds: u32) -> Option<()> {
-    print_tenths(rt, what, time.as_nanos(), u128::from(rounds))
-}
-
-fn print_ratio(rt: &impl Print, what: &str, time: Duration, unit: Duration) -> Option<()> {
-    print_tenths(rt, what, time.as_nanos(), unit.as_nanos())
-}
-
-fn print_tenths(rt: &impl Print, what: &str, amount: u128, unit: u128) -> Option<()> {
-    let tenths = amount.wrapping_mul(10).checked_div(unit)?;
+/// Prints the nanoseconds of a time over a unit, to a tenth.
+fn print(rt: &impl Print, what: &str, time: Duration, unit: u128) -> Option<()> {
+    let tenths = time.as_nanos().wrapping_mul(10).checked_div(unit)?;
     let whole = tenths / 10;
     let rest = tenths % 10;
     println!(rt; "{what}: {whole}.{rest}").ok()

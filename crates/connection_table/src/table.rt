@@ -173,6 +173,16 @@ impl<C> Table<C> {
         }
     }
 
+    /// Whether a key's connection would be admitted as an open Watch.
+    pub fn may_admit(&self, key: usize) -> bool
+        ensures { IsTrue result ↔ MayBeAdmitted self.now key }
+    {
+        match self.places.get(key) {
+            Some(place) => place.is_watch || self.watches < self.most_watches,
+            None => false,
+        }
+    }
+
     /// Admits a key's connection as an open Watch, unless as many are open as may be. It stays one to its end.
     pub fn admit(&mut self, key: usize) -> bool
         ensures admitted { IsTrue result ↔ MayBeAdmitted self.old key }

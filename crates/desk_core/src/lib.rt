@@ -19,6 +19,7 @@ mod refusal;
 mod registered;
 mod registrar;
 mod reply;
+pub mod sixteen;
 mod slot;
 mod slots;
 mod status;

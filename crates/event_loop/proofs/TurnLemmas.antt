@@ -1,7 +1,7 @@
 -- What a turn has read, asked and sent so far, and how it leaves its call.
-use Rattle.std.proofs.Common.{◌≡◌, ◌≢◌, ◌≤◌, ◌<◌, ◌+◌, ℕ, zero, suc, inl, inr, Bool, Option, true, false, Some, None, is_some, List, [], ◌∷◌, ◌++◌, length, take, drop, nat_eq, refl, ap, sym, ◌∙◌, subst, append_assoc, append-nil, if◌then◌else◌, arith, rules}
+use Rattle.std.proofs.Common.{◌≡◌, ◌≢◌, ◌≤◌, ◌<◌, ◌+◌, ◌↔◌, ℕ, zero, suc, inl, inr, Bool, Option, true, false, Some, None, is_some, List, [], ◌∷◌, ◌++◌, length, take, drop, nat_eq, refl, ap, sym, ◌∙◌, subst, append_assoc, append-nil, if◌then◌else◌, arith, rules}
 use Rattle.std.proofs.KnownBytes.{Appends-trans, Appends-nil, Consumes-trans}
-use Rattle.std.proofs.lemmas.List.{take-append-drop}
+use Rattle.std.proofs.lemmas.List.{length-drop, length-take-le, take-append-drop}
 use Rattle.std.specs.Bool.{OnFalse}
 use Rattle.std.specs.Io.KnownBytes.{Consumes}
 use Rattle.desk_core.specs.declared.entry.Entry.{Entry}
@@ -58,7 +58,7 @@ pub read_none : {input input_now : Option (List ℕ)} (call : Call) → Consumes
 read_none call has_read = record { has_read = has_read; carries = received_none call; whole = λ some. absurd (some refl) }
 
 -- bytes were read, and a front of them was given
-pub read_once : {input input_now : Option (List ℕ)} (call call_now : Call) (bytes : List ℕ) (n : ℕ) → Consumes input input_now bytes
+read_once : {input input_now : Option (List ℕ)} (call call_now : Call) (bytes : List ℕ) (n : ℕ) → Consumes input input_now bytes
     → Carries call call_now (with_received (take n bytes)) → (n < length bytes → is_open call_now ≡ false)
     → HasRead input input_now call call_now (take n bytes) (drop n bytes)
 read_once {input} {input_now} call call_now bytes n has_read carries rest = record {
@@ -71,10 +71,10 @@ read_once {input} {input_now} call call_now bytes n has_read carries rest = reco
 pub rest_is_not_more : gains.Rest ≡ gains.More → ⊥
 rest_is_not_more e = search rules
 
-pub behind_is_not_more : gains.Behind ≡ gains.More → ⊥
+behind_is_not_more : gains.Behind ≡ gains.More → ⊥
 behind_is_not_more e = search rules
 
-pub more_is_not_behind : gains.More ≡ gains.Behind → ⊥
+more_is_not_behind : gains.More ≡ gains.Behind → ⊥
 more_is_not_behind e = search rules
 
 pub rest_is_not_behind : gains.Rest ≡ gains.Behind → ⊥
@@ -89,7 +89,7 @@ none_came gained (byte ∷ bytes) more came = absurd (more_is_not_behind (sym mo
     no_items e = search rules
 
 -- what is left behind a front, and whether there is any
-pub all_in_front : (n : ℕ) (bytes : List ℕ) → length bytes ≤ n → drop n bytes ≡ []
+all_in_front : (n : ℕ) (bytes : List ℕ) → length bytes ≤ n → drop n bytes ≡ []
 all_in_front n [] all = none_dropped n
   where
     none_dropped : (n : ℕ) → drop {A = ℕ} n [] ≡ []
@@ -98,8 +98,37 @@ all_in_front n [] all = none_dropped n
 all_in_front zero (byte ∷ bytes) all = absurd (omega (arith, all))
 all_in_front (suc n) (byte ∷ bytes) all = all_in_front n bytes (omega (arith, all))
 
-pub some_items : {A : Type 0} (items : List A) → 0 < length items → items ≢ []
+some_items : {A : Type 0} (items : List A) → 0 < length items → items ≢ []
 some_items items some none = absurd (omega (arith, some, ap length none))
+
+-- how many of the bytes that were read the call took, by what the read came to
+abbrev pub Took : Gained → ℕ → ℕ → Type 0
+Took gains.More count taken = count ≤ taken
+Took gains.Behind count taken = taken < count
+Took gains.Rest count taken = count ≤ taken
+
+-- what a read came to, by the bytes that the call took and those behind them
+took_and_left : (gained : Gained) (bytes : List ℕ) (taken : ℕ) → 0 < length bytes → taken ≤ length bytes → Took gained (length bytes) taken
+    → (gained ≡ gains.More → 0 < length (take taken bytes)) × ((gained ≡ gains.Behind) ↔ (drop taken bytes ≢ []))
+took_and_left gains.More bytes taken some bound took =
+    (λ more. omega (arith, length-take-le taken bytes bound, some, took), (λ behind. absurd (more_is_not_behind behind), λ left. absurd (left (all_in_front taken bytes took))))
+took_and_left gains.Behind bytes taken some bound took =
+    (λ more. absurd (behind_is_not_more more), (λ behind. some_items (drop taken bytes) (omega (arith, length-drop taken bytes, took)), λ left. refl))
+took_and_left gains.Rest bytes taken some bound took =
+    (λ more. absurd (rest_is_not_more more), (λ behind. absurd (rest_is_not_behind behind), λ left. absurd (left (all_in_front taken bytes took))))
+
+-- so many bytes were read, and a front of them was given
+pub has_gained : {input input_now : Option (List ℕ)} {call call_now : Call} {room count : ℕ} (buffer : List ℕ) (taken : ℕ) (gained : Gained)
+    → (0 < count) × (count ≤ length buffer) × Consumes input input_now (take count buffer) → length buffer ≡ room
+    → Carries call call_now (with_received (take taken (take count buffer))) → (taken < length (take count buffer) → is_open call_now ≡ false)
+    → taken ≤ length (take count buffer) → Took gained count taken
+    → (received behind : List ℕ) × HasRead input input_now call call_now received behind × (gained ≡ gains.More → 0 < length received)
+    × (length behind ≤ room) × ((gained ≡ gains.Behind) ↔ (behind ≢ []))
+has_gained {call = call} {call_now = call_now} {count = count} buffer taken gained some room carries rest bound took =
+    let bytes = take count buffer in
+    let len = length-take-le count buffer some.1 in
+    let came = took_and_left gained bytes taken (omega (arith, len, some.0)) bound (subst (λ n. Took gained n taken) (sym len) took) in
+    (take taken bytes, drop taken bytes, read_once call call_now bytes taken some.2 carries rest, came.0, omega (arith, length-drop taken bytes, len, some.1, room), came.1)
 
 -- one read after another, where the call was still open
 nothing_behind : (bytes : List ℕ) (open_now : Bool) → open_now ≡ true → (bytes ≢ [] → open_now ≡ false) → bytes ≡ []

@@ -1,7 +1,8 @@
-ghost use Rattle.std.specs.Prelude.{◌≡◌, ◌≤◌, ◌<◌, [], length, take, IfSome, IfNone, is_none, true};
+ghost use Rattle.std.specs.Prelude.{◌≡◌, ◌≤◌, ◌<◌, [], length, take, IfOk, IfSome, IfNone, is_none, true, Ok};
 ghost use Rattle.std.specs.Io.KnownBytes.{Appends, Consumes, IsAtEnd};
 ghost use Rattle.event_loop.specs.Link.{link_inner, link_last, has_stopped};
 
+use std::io;
 use std::io::{ErrorKind, Read, Write};
 
 /// How the last read or write over a link ended.
@@ -55,6 +56,23 @@ impl<T> Link<T> {
     {
         self.last
     }
+
+    /// Notes how a read or a write over it ended, and tells how many bytes went; none where it has stopped.
+    fn note(&mut self, moved: io::Result<usize>) -> Option<usize>
+        ensures some { IfSome result (λ count. (0 < count) × (moved ≡ Ok count)) }
+        ensures none { IfNone result (IfOk moved (λ count. count ≡ 0)) }
+        ensures ended { link_last self.new ≡ Last.Ended → moved ≡ Ok 0 }
+        ensures last { has_stopped (link_last self.new) ≡ is_none result }
+        ensures inner { link_inner self.new ≡ link_inner self.old }
+    {
+        let (last, count) = match moved {
+            Ok(0) => (Last::Ended, None),
+            Ok(count) => (Last::Went, Some(count)),
+            Err(error) => (last_of(error.kind()), None),
+        };
+        self.last = last;
+        count
+    }
 }
 
 impl<R: Read> Link<R> {
@@ -68,20 +86,8 @@ impl<R: Read> Link<R> {
         ensures last { has_stopped (link_last self.new) ≡ is_none result }
         ensures len { length buffer.new ≡ length buffer.old }
     {
-        match self.inner.read(buffer) {
-            Ok(0) => {
-                self.last = Last::Ended;
-                None
-            }
-            Ok(count) => {
-                self.last = Last::Went;
-                Some(count)
-            }
-            Err(error) => {
-                self.last = last_of(error.kind());
-                None
-            }
-        }
+        let moved = self.inner.read(buffer);
+        self.note(moved)
     }
 }
 
@@ -94,19 +100,7 @@ impl<W: Write> Link<W> {
         ensures none { IfNone result (Appends (W.contents (link_inner self.old)) (W.contents (link_inner self.new)) []) }
         ensures last { has_stopped (link_last self.new) ≡ is_none result }
     {
-        match self.inner.write(bytes) {
-            Ok(0) => {
-                self.last = Last::Ended;
-                None
-            }
-            Ok(count) => {
-                self.last = Last::Went;
-                Some(count)
-            }
-            Err(error) => {
-                self.last = last_of(error.kind());
-                None
-            }
-        }
+        let moved = self.inner.write(bytes);
+        self.note(moved)
     }
 }

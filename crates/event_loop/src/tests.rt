@@ -1,3 +1,4 @@
+mod behind;
 mod calls;
 mod ends;
 mod memory;

@@ -107,8 +107,7 @@ fn receive<R: Read>(alloc: Global, reader: &mut Link<R>, call: &mut Call, buffer
     while reads < MOST {
         match read_some(alloc, reader, call, buffer) {
             Gained::More => reads += 1,
-            Gained::Behind => return true,
-            Gained::Rest => return false,
+            gained => return gained == Gained::Behind,
         }
     }
     false

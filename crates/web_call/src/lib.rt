@@ -18,6 +18,7 @@ mod method;
 mod outcome;
 mod outgoing;
 mod response;
+pub mod staged;
 mod tap;
 mod text;
 mod texts;

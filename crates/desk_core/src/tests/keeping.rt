@@ -1,19 +1,6 @@
 use super::*;
+use crate::sixteen::KeepSixteen;
 use test_support::Scarcity;
-
-/// Keeps the last sixteen.
-#[derive(Drop)]
-struct KeepSixteen;
-
-impl Keep for KeepSixteen {
-    ghost use Rattle.std.specs.Prelude.{Some};
-
-    ghost kept = { Some 16 };
-
-    fn kept() -> Option<u32> {
-        Some(16)
-    }
-}
 
 type Told = Result<Option<Serving>, Behind>;
 

@@ -1,7 +1,5 @@
 use crate::tests::streams::{Basin, Manner, Trickle};
 use crate::{Fate, Link, turn};
-use desk_core::{Catalogue, Desk, Setting, Slot};
-use probe_core::Manual;
 use std::alloc::Global;
 use std::io::{Read, Write};
 use std::test::Fail;
@@ -9,48 +7,8 @@ use test_support::requests::{
     CHECK_OF_EMPTY, CHECK_OF_ZZ, CHECK_WITHOUT_TYPE, LIST, WATCH_OF_EMPTY, WATCH_OF_ZZ,
 };
 use test_support::same;
-use web_call::{Bell, Call, DeskDoor, Door, Limits, Outcome, Tap, Turn, exchange};
-
-/// A catalogue of `a` and the empty name, and a desk on which the empty name alone is registered, and serving.
-#[derive(Drop)]
-pub(super) struct Scene {
-    pub(super) catalogue: Catalogue,
-    pub(super) desk: Desk<Manual>,
-}
-
-fn names(alloc: Global) -> Result<Vec<String>, Fail> {
-    let mut names = Vec::new(alloc);
-    names.push(String::from_str(alloc, "a")?)?;
-    names.push(String::new(alloc))?;
-    Ok(names)
-}
-
-impl Scene {
-    pub(super) fn new(alloc: Global) -> Result<Scene, Fail> {
-        let catalogue = Catalogue::new(alloc, names(alloc)?)?;
-        let mut scene = Scene {
-            catalogue,
-            desk: Desk::new(alloc, 1_000),
-        };
-        if let Some(slot) = Slot::new(1) {
-            let _ = scene.desk.register(0, slot, Manual::new());
-        }
-        scene.set(Setting::Up);
-        Ok(scene)
-    }
-
-    /// Sets the empty name.
-    pub(super) fn set(&mut self, setting: Setting) {
-        if let Some(slot) = Slot::new(1) {
-            let _ = self.desk.set(0, slot, setting);
-        }
-    }
-
-    /// A door over the desk as it stands.
-    pub(super) fn door(&self) -> DeskDoor<'_, Manual> {
-        DeskDoor::new(&self.desk, &self.catalogue)
-    }
-}
+use web_call::staged::Staged;
+use web_call::{Bell, Call, Door, Limits, Outcome, Tap, Turn, exchange};
 
 /// A bell that lets nobody look.
 #[derive(Drop)]
@@ -163,17 +121,17 @@ const MANNERS: [Manner; 4] = [
 /// A request in the manner comes to what an exchange comes to. In one read there may be bytes that stand behind the request.
 fn expect_the_same(
     alloc: Global,
-    scene: &Scene,
+    staged: &Staged,
     request: &[u8],
     manner: Manner,
 ) -> Result<(), Fail> {
-    let (expected, outcome, rest) = by_exchange(alloc, &mut scene.door(), request)?;
+    let (expected, outcome, rest) = by_exchange(alloc, &mut staged.door(), request)?;
     let mut call = Call::new(alloc)?;
     let mut reader = Trickle::new(request, manner);
     let mut writer = Basin::new(alloc, manner);
     let fate = by_turns(
         alloc,
-        &mut scene.door(),
+        &mut staged.door(),
         &mut call,
         &mut reader,
         &mut writer,
@@ -192,10 +150,10 @@ fn expect_the_same(
 
 #[test]
 fn a_call_by_turns_is_answered_as_an_exchange(rt: HostRuntime) -> Result<(), Fail> {
-    let scene = Scene::new(rt.alloc())?;
+    let staged = Staged::new(rt.alloc())?;
     for request in REQUESTS {
         for manner in MANNERS {
-            expect_the_same(rt.alloc(), &scene, request, manner)?;
+            expect_the_same(rt.alloc(), &staged, request, manner)?;
         }
     }
     Ok(())

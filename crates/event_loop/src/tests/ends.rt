@@ -1,4 +1,3 @@
-use crate::tests::calls::Scene;
 use crate::tests::streams::{Basin, Manner, Trickle};
 use crate::{Fate, Link, Turned, turn};
 use std::alloc::Global;
@@ -6,6 +5,7 @@ use std::io::{ErrorKind, Read, Write};
 use std::test::Fail;
 use test_support::requests::CHECK_OF_EMPTY;
 use test_support::{Fault, FaultyReader, FaultyWriter, same};
+use web_call::staged::Staged;
 use web_call::{Call, Turn, Why};
 
 /// A turn of a new call.
@@ -14,14 +14,14 @@ fn first_turn(
     reader: &mut impl Read,
     writer: &mut impl Write,
 ) -> Result<Turned, Fail> {
-    let scene = Scene::new(alloc)?;
+    let staged = Staged::new(alloc)?;
     let mut call = Call::new(alloc)?;
     let mut buffer = [0u8; 64];
     Ok(turn(
         alloc,
         &mut Link::new(reader),
         &mut Link::new(writer),
-        &mut scene.door(),
+        &mut staged.door(),
         &mut call,
         &mut buffer,
         Turn::End,

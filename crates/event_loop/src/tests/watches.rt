@@ -1,5 +1,5 @@
 use crate::Fate;
-use crate::tests::calls::{Scene, turn_once};
+use crate::tests::calls::turn_once;
 use crate::tests::streams::{Basin, Manner, Trickle};
 use desk_core::Setting;
 use std::alloc::Global;
@@ -7,6 +7,7 @@ use std::io::{Read, Write};
 use std::test::Fail;
 use test_support::requests::WATCH_OF_EMPTY;
 use test_support::same;
+use web_call::staged::Staged;
 use web_call::{Call, Outcome, Turn};
 
 const WHOLE: Manner = Manner {
@@ -30,29 +31,29 @@ const STEPS: [Step; 6] = [
 
 fn take_step(
     alloc: Global,
-    scene: &mut Scene,
+    staged: &mut Staged,
     call: &mut Call,
     streams: (&mut impl Read, &mut impl Write),
     step: Step,
 ) -> Result<(), Fail> {
     let (setting, then, fate, frames) = step;
     if let Some(setting) = setting {
-        scene.set(setting);
+        staged.set(setting);
     }
     let (reader, writer) = streams;
-    let found = turn_once(alloc, call, &mut scene.door(), reader, writer, then);
+    let found = turn_once(alloc, call, &mut staged.door(), reader, writer, then);
     same(&(found, call.frames()), &(fate, frames), &frames)
 }
 
 #[test]
 fn a_watch_is_told_each_change_by_turns(rt: HostRuntime) -> Result<(), Fail> {
-    let mut scene = Scene::new(rt.alloc())?;
+    let mut staged = Staged::new(rt.alloc())?;
     let mut call = Call::new(rt.alloc())?;
     let mut reader = Trickle::new(WATCH_OF_EMPTY, WHOLE);
     let mut writer = Basin::new(rt.alloc(), WHOLE);
     for step in STEPS {
         let streams = (&mut reader, &mut writer);
-        take_step(rt.alloc(), &mut scene, &mut call, streams, step)?;
+        take_step(rt.alloc(), &mut staged, &mut call, streams, step)?;
     }
     let expected = Some(Outcome::Watched { messages: 3 });
     same(&call.outcome(), &expected, &"the end")

@@ -4,27 +4,14 @@ ghost use Rattle.hall.specs.Seats.{IsOf};
 
 use crate::tests::halls::catalogue;
 use crate::{Closed, Hall, Seat};
-use desk_core::{Behind, Keep, Reply, Setting, board_entries};
+use desk_core::sixteen::KeepSixteen;
+use desk_core::{Behind, Reply, Setting, board_entries};
 use health_wire::Serving;
 use probe_core::Manual;
 use std::alloc::Global;
 use std::sync::Wait;
 use std::test::Fail;
 use test_support::same;
-
-/// Keeps the last sixteen.
-#[derive(Drop)]
-struct KeepSixteen;
-
-impl Keep for KeepSixteen {
-    ghost use Rattle.std.specs.Prelude.{Some};
-
-    ghost kept = { Some 16 };
-
-    fn kept() -> Option<u32> {
-        Some(16)
-    }
-}
 
 /// Sets the service down and up in turn, so many times.
 fn flip<R: Wait>(

@@ -1,31 +1,18 @@
 //! Watches over a registry that forgets.
 
+use crate::staged::catalogue;
 use crate::tests::answers::{WATCH_OF_CHANGES, WATCH_OF_SERVING, WATCH_OF_UNKNOWN};
 use crate::tests::cutting::{Course, Cutting, drive_at};
-use crate::tests::doors::catalogue;
 use crate::tests::runs::{Run, Scene, exchange_over};
 use crate::{Door, Outcome, Turn};
-use desk_core::{Behind, Catalogue, Desk, Keep, Setting, Slot, Watch};
+use desk_core::sixteen::KeepSixteen;
+use desk_core::{Behind, Catalogue, Desk, Setting, Slot, Watch};
 use health_wire::Serving;
 use probe_core::Manual;
 use std::alloc::Global;
 use std::test::Fail;
 use test_support::requests::{WATCH_OF_EMPTY, WATCH_OF_ZZ};
 use test_support::same;
-
-/// Keeps the last sixteen.
-#[derive(Drop)]
-struct KeepSixteen;
-
-impl Keep for KeepSixteen {
-    ghost use Rattle.std.specs.Prelude.{Some};
-
-    ghost kept = { Some 16 };
-
-    fn kept() -> Option<u32> {
-        Some(16)
-    }
-}
 
 /// A door over its own desk, on which the empty name is set down and up in turn before each step, so often as a list says.
 #[derive(Drop)]

@@ -1,6 +1,7 @@
 //! Calls whose request comes in and whose response goes out in pieces.
 
-use crate::tests::doors::{Changing, Stage};
+use crate::staged::Staged;
+use crate::tests::doors::Changing;
 use crate::tests::kinds::{Kind, kinds};
 use crate::tests::runs::Scene;
 use crate::{Call, Door, Outcome, Turn};
@@ -79,7 +80,9 @@ fn drive(
     input: &[u8],
     cutting: Cutting,
 ) -> Result<(Course, u32), Fail> {
-    let Stage { catalogue, desk } = Stage::new(alloc, setting)?;
+    let mut staged = Staged::new(alloc)?;
+    staged.set(setting);
+    let Staged { catalogue, desk } = staged;
     let mut door = Changing::new(desk, &catalogue, scene.settings);
     drive_at(alloc, &mut door, scene, input, cutting)
 }

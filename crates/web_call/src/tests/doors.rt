@@ -1,51 +1,7 @@
-use crate::{DeskDoor, Door};
+use crate::Door;
 use desk_core::{Behind, Catalogue, Desk, Setting, Slot, Watch};
 use health_wire::Serving;
 use probe_core::Manual;
-use std::alloc::Global;
-use std::test::Fail;
-
-fn names(alloc: Global) -> Result<Vec<String>, Fail> {
-    let mut names = Vec::new(alloc);
-    names.push(String::from_str(alloc, "a")?)?;
-    names.push(String::new(alloc))?;
-    Ok(names)
-}
-
-/// A catalogue of `a` and the empty name.
-pub(super) fn catalogue(alloc: Global) -> Result<Catalogue, Fail> {
-    Ok(Catalogue::new(alloc, names(alloc)?)?)
-}
-
-/// A catalogue of `a` and the empty name, and a desk on which the empty name alone was registered, and then set.
-#[derive(Drop)]
-pub(super) struct Stage {
-    pub(super) catalogue: Catalogue,
-    pub(super) desk: Desk<Manual>,
-}
-
-impl Stage {
-    pub(super) fn new(alloc: Global, setting: Setting) -> Result<Stage, Fail> {
-        let catalogue = catalogue(alloc)?;
-        let mut desk = Desk::new(alloc, 100);
-        let is_set = match Slot::new(1) {
-            Some(slot) => {
-                desk.register(0, slot, Manual::new()).is_ok() && desk.set(0, slot, setting).is_ok()
-            }
-            None => false,
-        };
-        if is_set {
-            Ok(Stage { catalogue, desk })
-        } else {
-            Err(Fail::new("the empty name was not set"))
-        }
-    }
-
-    /// A door over the desk as it stands.
-    pub(super) fn door(&self) -> DeskDoor<'_, Manual> {
-        DeskDoor::new(&self.desk, &self.catalogue)
-    }
-}
 
 /// A door that counts how often it was asked.
 #[derive(Drop)]

@@ -1,14 +1,13 @@
-use crate::tests::doors::Stage;
+use crate::staged::Staged;
 use crate::tests::kinds::{Kind, kinds};
-use desk_core::Setting;
 use std::alloc::Global;
 use std::test::Fail;
 use test_support::{Fault, FaultyWriter, same};
 
 fn expect_calls(alloc: Global, kind: &Kind) -> Result<(), Fail> {
-    let stage = Stage::new(alloc, Setting::Up)?;
+    let staged = Staged::new(alloc)?;
     let mut writer = FaultyWriter::new(alloc, 1, 0, Fault::Nothing);
-    let run = kind.answer(alloc, stage, &mut writer);
+    let run = kind.answer(alloc, staged, &mut writer);
     let found = (run, writer.written(), writer.flushes(), writer.calls());
     let expected = (kind.whole(), kind.response, kind.flushes, kind.calls);
     same(&found, &expected, &kind.outcome)

@@ -1,7 +1,7 @@
 //! Each kind of response, and the calls that write it.
 
+use crate::staged::Staged;
 use crate::tests::answers::*;
-use crate::tests::doors::Stage;
 use crate::tests::runs::{Run, Scene, answer_changing};
 use crate::{ExchangeFault, Outcome, Turn, Why};
 use desk_core::Setting;
@@ -33,9 +33,9 @@ pub(super) struct Kind {
 }
 
 impl Kind {
-    /// Answers the request on a stage of its own, where the empty name is serving at first.
-    pub(super) fn answer(&self, alloc: Global, stage: Stage, writer: &mut FaultyWriter) -> Run {
-        answer_changing(alloc, stage, self.input, &self.scene, writer)
+    /// Answers the request at a registry of its own, where the empty name is serving at first.
+    pub(super) fn answer(&self, alloc: Global, staged: Staged, writer: &mut FaultyWriter) -> Run {
+        answer_changing(alloc, staged, self.input, &self.scene, writer)
     }
 
     /// How many flushes come before the call of this number, counted from 1.

@@ -1,8 +1,7 @@
+use crate::staged::Staged;
 use crate::tests::answers::{SERVING, WATCH_OF_UNKNOWN};
-use crate::tests::doors::Stage;
 use crate::tests::runs::{Run, exchange_over};
 use crate::{ExchangeFault, Turn, Why};
-use desk_core::Setting;
 use std::alloc::Global;
 use std::io::{ErrorKind, Read};
 use std::test::Fail;
@@ -41,11 +40,11 @@ fn cut(read_failed: bool) -> Run {
 /// An exchange over a reader that may be faulty.
 fn exchange_from<R: Read>(
     alloc: Global,
-    stage: &Stage,
+    staged: &Staged,
     reader: &mut R,
     writer: &mut FaultyWriter,
 ) -> Run {
-    exchange_over(alloc, reader, writer, stage.door(), &TURNS, 10)
+    exchange_over(alloc, reader, writer, staged.door(), &TURNS, 10)
 }
 
 /// The read behind so many bytes of the input is faulty, and the last one. Nothing is written.
@@ -56,12 +55,12 @@ fn expect_cut(
     fault: Fault,
     read_failed: bool,
 ) -> Result<(), Fail> {
-    let stage = Stage::new(alloc, Setting::Up)?;
+    let staged = Staged::new(alloc)?;
     let front = input.get(..len).unwrap_or(b"");
     let rest = input.get(len..).unwrap_or(b"");
     let mut reader = front.chain(FaultyReader::new(rest, 1, fault));
     let mut writer = FaultyWriter::new(alloc, 1, 0, Fault::Nothing);
-    let run = exchange_from(alloc, &stage, &mut reader, &mut writer);
+    let run = exchange_from(alloc, &staged, &mut reader, &mut writer);
     let last = &reader.get_ref().1;
     let found = (run, last.calls(), last.rest(), writer.calls());
     same(&found, &(cut(read_failed), 1, rest, 0), &(len, fault))
@@ -90,9 +89,9 @@ fn expect_whole<R: Read>(
     response: &[u8],
     at: usize,
 ) -> Result<(), Fail> {
-    let stage = Stage::new(alloc, Setting::Up)?;
+    let staged = Staged::new(alloc)?;
     let mut writer = FaultyWriter::new(alloc, 1_000, 0, Fault::Nothing);
-    let run = exchange_from(alloc, &stage, reader, &mut writer);
+    let run = exchange_from(alloc, &staged, reader, &mut writer);
     let went = (run.result.is_ok(), run.read_failed, run.write_failed);
     same(
         &(went, writer.written()),

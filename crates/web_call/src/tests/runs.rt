@@ -1,6 +1,7 @@
+use crate::staged::Staged;
 use crate::tests::bells::Turns;
 use crate::tests::cutting::expect_courses;
-use crate::tests::doors::{Changing, Counted, Stage};
+use crate::tests::doors::{Changing, Counted};
 use crate::{Door, ExchangeFault, Limits, Outcome, Tap, Turn, exchange};
 use desk_core::Setting;
 use std::alloc::Global;
@@ -88,10 +89,11 @@ pub(super) fn expect_answer<A: Debug>(
     expected: &Expected,
     at: &A,
 ) -> Result<(), Fail> {
-    let stage = Stage::new(alloc, setting)?;
+    let mut staged = Staged::new(alloc)?;
+    staged.set(setting);
     let mut rest = input;
     let mut written = Vec::new(alloc);
-    let run = exchange_over(alloc, &mut rest, &mut written, stage.door(), turns, looks);
+    let run = exchange_over(alloc, &mut rest, &mut written, staged.door(), turns, looks);
     let found = (run, written.as_slice(), rest);
     same(&found, &(expected.run, expected.written, expected.rest), at)?;
     let scene = Scene {
@@ -112,15 +114,15 @@ pub(super) struct Scene<'a> {
     pub(super) looks: u32,
 }
 
-/// Answers a request on a stage of its own.
+/// Answers a request at a registry of its own.
 pub(super) fn answer_changing(
     alloc: Global,
-    stage: Stage,
+    staged: Staged,
     input: &[u8],
     scene: &Scene,
     writer: &mut FaultyWriter,
 ) -> Run {
-    let Stage { catalogue, desk } = stage;
+    let Staged { catalogue, desk } = staged;
     let door = Changing::new(desk, &catalogue, scene.settings);
     let mut rest = input;
     exchange_over(alloc, &mut rest, writer, door, scene.turns, scene.looks)

@@ -1,11 +1,10 @@
+use crate::staged::Staged;
 use crate::tests::answers::{
     MALFORMED_REQUEST, SERVING, UNKNOWN_METHOD, UNKNOWN_SERVICE, UNSUPPORTED_MEDIA_TYPE,
     WATCH_OF_UNKNOWN,
 };
-use crate::tests::doors::Stage;
 use crate::tests::runs::{Run, exchange_over};
 use crate::{ExchangeFault, Turn, Why};
-use desk_core::Setting;
 use std::alloc::Global;
 use std::test::Fail;
 use test_support::requests::{CHECK_OF_EMPTY, CHECK_OF_ZZ, CHECK_WITHOUT_TYPE, LIST, WATCH_OF_ZZ};
@@ -29,10 +28,10 @@ fn starved(asked: u32) -> Run {
 /// Where memory is wanting: how many bytes of the request are not read then, and how often the door was asked.
 type Want = (usize, u32);
 
-/// A stage, room for a response, and where memory was wanting.
+/// A registry, room for a response, and where memory was wanting.
 #[derive(Drop)]
 struct Trial {
-    stage: Stage,
+    staged: Staged,
     written: Vec<u8>,
     wants: Vec<Want>,
 }
@@ -40,7 +39,7 @@ struct Trial {
 impl Trial {
     fn new(alloc: Global) -> Result<Trial, Fail> {
         Ok(Trial {
-            stage: Stage::new(alloc, Setting::Up)?,
+            staged: Staged::new(alloc)?,
             written: Vec::with_capacity(alloc, 1_024)?,
             wants: Vec::with_capacity(alloc, 1_024)?,
         })
@@ -55,7 +54,7 @@ impl Trial {
     ) -> Result<Option<Want>, Fail> {
         self.written.clear();
         let mut rest = input;
-        let door = self.stage.door();
+        let door = self.staged.door();
         let turns = [Turn::Look, Turn::End];
         let run = exchange_over(alloc, &mut rest, &mut self.written, door, &turns, 10);
         let is_whole = run.result.is_ok();

@@ -1,5 +1,5 @@
+use crate::staged::catalogue;
 use crate::tests::answers::{UNKNOWN, WATCH_OF_UNHEARD};
-use crate::tests::doors::catalogue;
 use crate::tests::requests::{CHECK, TYPE, WATCH, request};
 use crate::tests::runs::{Run, exchange_over};
 use crate::{DeskDoor, Outcome};

@@ -1,5 +1,5 @@
+use crate::staged::Staged;
 use crate::tests::answers::{WATCH_OF_CHANGES, WATCH_OF_UNKNOWN};
-use crate::tests::doors::Stage;
 use crate::tests::runs::{Expected, Run, Scene, answer_changing, expect_answer};
 use crate::{Outcome, Turn};
 use desk_core::Setting;
@@ -85,14 +85,14 @@ fn expect_changes(
     turns: &[Turn],
     expected: Run,
 ) -> Result<(), Fail> {
-    let stage = Stage::new(alloc, Setting::Up)?;
+    let staged = Staged::new(alloc)?;
     let mut writer = FaultyWriter::new(alloc, 1_000, 0, Fault::Nothing);
     let scene = Scene {
         settings,
         turns,
         looks: 10,
     };
-    let run = answer_changing(alloc, stage, WATCH_OF_EMPTY, &scene, &mut writer);
+    let run = answer_changing(alloc, staged, WATCH_OF_EMPTY, &scene, &mut writer);
     same(
         &(run, writer.written()),
         &(expected, WATCH_OF_CHANGES),

@@ -1,6 +1,5 @@
-use crate::tests::doors::Stage;
+use crate::staged::Staged;
 use crate::tests::kinds::{Kind, kinds};
-use desk_core::Setting;
 use std::alloc::Global;
 use std::io::ErrorKind;
 use std::test::Fail;
@@ -8,9 +7,9 @@ use test_support::{Fault, FaultyWriter, same};
 
 /// A fault at this call leaves what the calls before it wrote and flushed, and is the exchange's last call.
 fn expect_cut(alloc: Global, kind: &Kind, fault: Fault, call: usize) -> Result<(), Fail> {
-    let stage = Stage::new(alloc, Setting::Up)?;
+    let staged = Staged::new(alloc)?;
     let mut writer = FaultyWriter::new(alloc, 1, call, fault);
-    let run = kind.answer(alloc, stage, &mut writer);
+    let run = kind.answer(alloc, staged, &mut writer);
     let flushed = kind.flushes_before(call);
     let taken = call.saturating_sub(1).saturating_sub(flushed);
     let front = kind.response.get(..taken).unwrap_or(b"");

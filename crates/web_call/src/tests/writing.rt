@@ -1,8 +1,7 @@
+use crate::staged::Staged;
 use crate::tests::answers::UNSUPPORTED_MEDIA_TYPE;
-use crate::tests::doors::Stage;
 use crate::tests::runs::{Run, exchange_over};
 use crate::{ExchangeFault, Outcome, Tap, Why};
-use desk_core::Setting;
 use std::alloc::Global;
 use std::io::{ErrorKind, Write};
 use std::test::Fail;
@@ -52,10 +51,10 @@ fn expect_written(
     taken: usize,
     calls: usize,
 ) -> Result<(), Fail> {
-    let stage = Stage::new(alloc, Setting::Up)?;
+    let staged = Staged::new(alloc)?;
     let mut writer = FaultyWriter::new(alloc, most, faulty, fault);
     let mut rest = CHECK_WITHOUT_TYPE;
-    let run = exchange_over(alloc, &mut rest, &mut writer, stage.door(), &[], 10);
+    let run = exchange_over(alloc, &mut rest, &mut writer, staged.door(), &[], 10);
     let found = (run, Some(writer.written()), writer.calls());
     let front = UNSUPPORTED_MEDIA_TYPE.get(..taken);
     let expected = (refused(faulty == calls), front, calls);

@@ -1,8 +1,9 @@
-use Rattle.std.proofs.Common.{◌++◌, [], length-append, refl, sym, subst, ◌∙◌, arith, rules}
+use Rattle.std.proofs.Common.{◌≡◌, true, ◌++◌, [], length-append, refl, subst, ◌∙◌, arith, rules}
 use Rattle.std.proofs.KnownBytes.{Consumes-nil}
+use Rattle.event_loop.specs.declared.turning.Gained.TheVariants as gains
 use Rattle.event_loop.specs.Link.{link_inner}
 use Rattle.event_loop.specs.Turn.{HasRead}
-use Rattle.event_loop.proofs.TurnLemmas.{behind_is_not_more, has_not_stopped, none_came, read_more, read_none, rest_is_not_behind, rest_is_not_more}
+use Rattle.event_loop.proofs.TurnLemmas.{has_not_stopped, none_came, read_more, read_none}
 use Rattle.event_loop.proofs.turning.receive.Goals as goal
 
 pub loop-reads-init : goal.loop-reads-init
@@ -15,28 +16,18 @@ loop-reads-init g c = record {
   len = refl;
 }
 
-pub returns-in-Behind-clause-received : goal.returns-in-Behind-clause-received
-returns-in-Behind-clause-received g c =
+pub returns-in_default-clause-received : goal.returns-in_default-clause-received
+returns-in_default-clause-received g c =
     let before = c.loop-reads.invariant.received in
-    let read = c.read_some.ensures.received in (
+    let read = c.read_some.ensures.received in
+    let told : c.eq.result ≡ true → c.read_some.result ≡ gains.Behind = λ t. search rules in
+    let tells : c.read_some.result ≡ gains.Behind → c.eq.result ≡ true = λ is. search rules in (
       before.0 ++ read.0,
       read.1,
       read_more c.loop-reads.invariant.is_open before.1 read.2,
-      λ is went. has_not_stopped _ (c.read_some.ensures.stops (λ more. behind_is_not_more (sym c.in-Behind.is ∙ more)) is) went,
+      λ is went. has_not_stopped _ (c.read_some.ensures.stops c.in_default.not-More is) went,
       omega (arith, read.4, c.loop-reads.invariant.len),
-      (λ t. read.5.0 c.in-Behind.is, λ some. refl),
-    )
-
-pub returns-in-Rest-clause-received : goal.returns-in-Rest-clause-received
-returns-in-Rest-clause-received g c =
-    let before = c.loop-reads.invariant.received in
-    let read = c.read_some.ensures.received in (
-      before.0 ++ read.0,
-      read.1,
-      read_more c.loop-reads.invariant.is_open before.1 read.2,
-      λ is went. has_not_stopped _ (c.read_some.ensures.stops (λ more. rest_is_not_more (sym c.in-Rest.is ∙ more)) is) went,
-      omega (arith, read.4, c.loop-reads.invariant.len),
-      (λ t. absurd (grind (arith, t)), λ some. absurd (rest_is_not_behind (sym c.in-Rest.is ∙ read.5.1 some))),
+      (λ t. read.5.0 (told t), λ some. tells (read.5.1 some)),
     )
 
 pub loop-reads-preserved : goal.loop-reads-preserved
