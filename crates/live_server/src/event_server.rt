@@ -1,9 +1,12 @@
 ghost use Rattle.std.specs.Prelude.{◌≡◌};
+ghost use Rattle.live_server.specs.Loop.{table_of};
+ghost use Rattle.live_server.specs.Settled.{KeepsAccount};
 
 use crate::calls::{Calls, Counts, FIRST_TOKEN, Limits, Round};
+use crate::connection::Ready;
 use crate::news::News;
 use mio::net::TcpListener;
-use mio::{Events, Interest, Poll, Token, Waker};
+use mio::{Events, Interest, Poll, Registry, Token, Waker};
 use std::alloc::Global;
 use std::io::ErrorKind;
 use std::net::Net;
@@ -18,8 +21,9 @@ const LISTENER: Token = Token(0);
 /// The token of what wakes a loop.
 const WAKER: Token = Token(1);
 
-/// How many milliseconds a round waits at most, and how many lie between two sweeps.
-const TICK_MILLIS: u64 = 250;
+/// How many milliseconds a round waits at most. A sweep comes no sooner behind another, and so in less than twice as many where rounds
+/// are short.
+const TICK_MILLIS: u64 = 100;
 
 /// How many milliseconds pass until it is tried again to accept, where that failed.
 const RETRY_MILLIS: u64 = 100;
@@ -40,25 +44,60 @@ enum Queue {
     Failed(Instant),
 }
 
+impl Queue {
+    /// It is tried again after a while.
+    fn failed(now: Instant) -> Queue {
+        match now.checked_add(Duration::from_millis(RETRY_MILLIS)) {
+            Some(until) => Queue::Failed(until),
+            None => Queue::Waiting,
+        }
+    }
+
+    /// Whether connections may wait behind an accept that failed so.
+    fn behind(kind: ErrorKind, now: Instant) -> Queue {
+        match kind {
+            ErrorKind::WouldBlock => Queue::Empty,
+            ErrorKind::Interrupted | ErrorKind::ConnectionAborted => Queue::Waiting,
+            _ => Queue::failed(now),
+        }
+    }
+
+    /// The socket has reported a connection. That ends no waiting for another try.
+    fn reported(self) -> Queue {
+        match self {
+            Queue::Empty => Queue::Waiting,
+            _ => self,
+        }
+    }
+}
+
 /// One loop of a server: a thread's share of the connections that come to a socket.
 #[derive(Drop)]
 pub struct EventServer {
     poll: Poll,
     events: Events,
-    listener: TcpListener,
+    /// None once all is to end.
+    listener: Option<TcpListener>,
     queue: Queue,
     swept: Instant,
     calls: Calls,
 }
 
 impl EventServer {
+    ghost use Rattle.std.specs.Prelude.{◌≡◌, ◌-◌, ◌^◌, min, IfOk};
+    ghost use Rattle.connection_table.specs.Table.{IsAccounted, held_count, watch_count};
+    ghost use Rattle.live_server.specs.Loop.{empty_table, held_by};
+    ghost use Rattle.live_server.specs.Settled.{AreSettled, KeepsAccount};
+
     /// A loop over a socket that listens.
     pub fn new<R: Net + Clock>(
         rt: &R,
         alloc: Global,
         listener: TcpListener,
         limits: Limits,
-    ) -> io::Result<EventServer> {
+    ) -> io::Result<EventServer>
+        ensures { IfOk result (λ server. held_by server ≡ empty_table limits) }
+    {
         let poll = Poll::new(rt)?;
         let mut listener = listener;
         poll.registry()
@@ -66,7 +105,7 @@ impl EventServer {
         Ok(EventServer {
             poll,
             events: Events::with_capacity(alloc, MOST_EVENTS)?,
-            listener,
+            listener: Some(listener),
             queue: Queue::Waiting,
             swept: Instant::now(rt)?,
             calls: Calls::new(alloc, limits),
@@ -79,17 +118,25 @@ impl EventServer {
     }
 
     /// How many connections are held.
-    pub fn connections(&self) -> usize {
+    pub fn connections(&self) -> usize
+        ensures count { result ≡ held_count (held_by self.now) }
+        ensures accounted { IsAccounted (held_by self.now) }
+    {
         self.calls.table().len()
     }
 
-    /// How many of them are open Watches.
-    pub fn watches(&self) -> usize {
+    /// How many of them have a Watch's place.
+    pub fn watches(&self) -> usize
+        ensures count { result ≡ watch_count (held_by self.now) }
+        ensures settled { AreSettled (held_by self.now) }
+    {
         self.calls.table().watches()
     }
 
-    /// How many calls have ended.
-    pub fn ended(&self) -> u64 {
+    /// How many calls have ended, which stays at its greatest number once it has come to it.
+    pub fn ended(&self) -> u64
+        ensures { result ≡ min (held_by self.now).ended (2 ^ 64 - 1) }
+    {
         self.calls.table().ended()
     }
 
@@ -100,8 +147,10 @@ impl EventServer {
 
     /// Serves until all is to end and no connection is left.
     pub fn run<R: Wait + Clock, D: Door>(&mut self, rt: &R, door: &mut D, news: &News)
+        ensures account { KeepsAccount (held_by self.old) (held_by self.new) }
         ensures names { D.names door.new ≡ D.names door.old }
         ensures stays { D.stays door.old door.new }
+        ensures all { held_count (held_by self.new) ≡ 0 }
     {
         for _ in rt.forever() {
             if self.round(rt, door, news).is_err() {
@@ -113,25 +162,40 @@ impl EventServer {
         }
     }
 
-    /// Waits for events, and does what they ask for. It accepts last, so that no key is used again among the events of one round.
+    /// Waits for events, and does what they ask for. It accepts last, so that no key is used again among the events of one round. Where
+    /// the poll fails there are none, and the rest is done all the same.
     pub fn round<R: Clock, D: Door>(&mut self, rt: &R, door: &mut D, news: &News) -> io::Result<()>
+        ensures account { KeepsAccount (held_by self.old) (held_by self.new) }
         ensures names { D.names door.new ≡ D.names door.old }
         ensures stays { D.stays door.old door.new }
     {
         let timeout = Duration::from_millis(self.timeout());
-        self.poll.poll(&mut self.events, Some(timeout))?;
+        let polled = self.poll.poll(&mut self.events, Some(timeout));
         let round = Round {
-            now: Instant::now(rt)?,
+            now: Instant::now(rt).unwrap_or(self.swept),
             changes: news.changes(),
             ends: news.has_ended(),
         };
-        self.take_events(door, round);
-        self.calls.look(self.poll.registry(), door, round);
+        let registry = self.poll.registry();
+        if take_events(&self.events, registry, &mut self.calls, door, round) {
+            self.queue = self.queue.reported();
+        }
+        self.calls.look(registry, door, round);
         self.sweep(round.now);
-        if !round.ends {
+        if round.ends {
+            self.close();
+        } else {
             self.accept(door, round);
         }
-        Ok(())
+        polled
+    }
+
+    /// Accepts no more: clients that come are refused.
+    fn close(&mut self)
+        ensures { held_by self.new ≡ held_by self.old }
+    {
+        self.listener = None;
+        self.queue = Queue::Empty;
     }
 
     /// How many milliseconds the next round may wait.
@@ -147,24 +211,9 @@ impl EventServer {
         }
     }
 
-    fn take_events<D: Door>(&mut self, door: &mut D, round: Round)
-        ensures names { D.names door.new ≡ D.names door.old }
-        ensures stays { D.stays door.old door.new }
+    fn sweep(&mut self, now: Instant)
+        ensures account { KeepsAccount (held_by self.old) (held_by self.new) }
     {
-        for event in self.events.iter() {
-            let Token(token) = event.token();
-            if event.token() == LISTENER {
-                self.queue = Queue::Waiting;
-            } else if token >= FIRST_TOKEN {
-                let has_room = event.is_writable();
-                let key = token - FIRST_TOKEN;
-                self.calls
-                    .turn(self.poll.registry(), door, key, round, has_room);
-            }
-        }
-    }
-
-    fn sweep(&mut self, now: Instant) {
         let next = self.swept.checked_add(Duration::from_millis(TICK_MILLIS));
         if next.is_none_or(|next| next <= now) {
             self.swept = now;
@@ -173,6 +222,7 @@ impl EventServer {
     }
 
     fn accept<D: Door>(&mut self, door: &mut D, round: Round)
+        ensures account { KeepsAccount (held_by self.old) (held_by self.new) }
         ensures names { D.names door.new ≡ D.names door.old }
         ensures stays { D.stays door.old door.new }
     {
@@ -191,26 +241,46 @@ impl EventServer {
     }
 
     fn accept_one<D: Door>(&mut self, door: &mut D, round: Round)
+        ensures account { KeepsAccount (held_by self.old) (held_by self.new) }
         ensures names { D.names door.new ≡ D.names door.old }
         ensures stays { D.stays door.old door.new }
     {
-        match self.listener.accept() {
-            Ok((stream, _)) => self
-                .calls
-                .take_in(self.poll.registry(), door, stream, round),
-            Err(error) => self.queue = queue_behind(error.kind(), round.now),
+        let Some(listener) = &self.listener else {
+            return;
+        };
+        match listener.accept() {
+            Ok((stream, _)) => {
+                let registry = self.poll.registry();
+                if !self.calls.take_in(registry, door, stream, round) {
+                    self.queue = Queue::failed(round.now);
+                }
+            }
+            Err(error) => self.queue = Queue::behind(error.kind(), round.now),
         }
     }
 }
 
-/// Whether connections may wait behind an accept that failed so.
-fn queue_behind(kind: ErrorKind, now: Instant) -> Queue {
-    match kind {
-        ErrorKind::WouldBlock => Queue::Empty,
-        ErrorKind::Interrupted | ErrorKind::ConnectionAborted => Queue::Waiting,
-        _ => match now.checked_add(Duration::from_millis(RETRY_MILLIS)) {
-            Some(until) => Queue::Failed(until),
-            None => Queue::Waiting,
-        },
+/// Has the connections take turns that events name, and tells whether connections wait to be accepted.
+fn take_events<D: Door>(
+    events: &Events,
+    registry: &Registry,
+    calls: &mut Calls,
+    door: &mut D,
+    round: Round,
+) -> bool
+    ensures account { KeepsAccount (table_of calls.old) (table_of calls.new) }
+    ensures names { D.names door.new ≡ D.names door.old }
+    ensures stays { D.stays door.old door.new }
+{
+    let mut is_waiting = false;
+    for event in events.iter() {
+        let Token(token) = event.token();
+        if event.token() == LISTENER {
+            is_waiting = true;
+        } else if token >= FIRST_TOKEN {
+            let ready = Some(Ready::of(event));
+            calls.turn(registry, door, token - FIRST_TOKEN, round, ready);
+        }
     }
+    is_waiting
 }

@@ -7,7 +7,6 @@ mod event_server;
 mod news;
 
 pub use calls::{Counts, Limits};
-pub use connection::CallEnd;
 pub use event_server::EventServer;
 pub use news::News;
 

@@ -25,7 +25,7 @@ impl News {
         self.wake();
     }
 
-    /// Tells that all is to end, for which each Watch is looked at once more.
+    /// Tells that all is to end. Each loop goes through its open Watches once more, and ends them.
     pub fn end(&self) {
         self.ends.store(1, Ordering::SeqCst);
         self.change();

@@ -1,5 +1,7 @@
 mod bounds;
 mod calls;
+mod descriptors;
+mod ends;
 mod scenes;
 mod times;
 mod watches;

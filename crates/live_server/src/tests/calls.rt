@@ -1,5 +1,4 @@
 use crate::tests::scenes::{Place, Scene, client, rest};
-use std::alloc::Global;
 use std::io::Write;
 use std::net::{Net, TcpStream};
 use std::test::Fail;
@@ -26,7 +25,6 @@ const REFUSED: &[u8] = b"HTTP/1.1 405 Method Not Allowed\r\n\
 
 fn expect<R: Net<Stream = TcpStream> + Clock>(
     rt: &R,
-    alloc: Global,
     place: &mut Place,
     scene: &Scene,
     request: &[u8],
@@ -34,32 +32,48 @@ fn expect<R: Net<Stream = TcpStream> + Clock>(
 ) -> Result<(), Fail> {
     let mut stream = client(rt, place, request)?;
     place.rounds(rt, scene)?;
-    let found = rest(alloc, &mut stream)?;
+    let found = rest(place.alloc, &mut stream)?;
     same(&found.as_slice(), &response, &request)
 }
 
-#[test]
-fn answers_calls_one_after_another(rt: HostRuntime) -> Result<(), Fail> {
-    let scene = Scene::new(rt.alloc())?;
-    let mut place = Place::new(&rt, rt.alloc(), 10, 10)?;
+fn call_one_after_another<R: Net<Stream = TcpStream> + Clock>(
+    rt: &R,
+    place: &mut Place,
+    scene: &Scene,
+) -> Result<(), Fail> {
     for _ in 0..3u8 {
-        expect(&rt, rt.alloc(), &mut place, &scene, CHECK_OF_EMPTY, SERVING)?;
-        expect(&rt, rt.alloc(), &mut place, &scene, LONGER, REFUSED)?;
+        expect(rt, place, scene, CHECK_OF_EMPTY, SERVING)?;
+        expect(rt, place, scene, LONGER, REFUSED)?;
     }
     let found = (place.server.connections(), place.server.ended());
     same(&found, &(0, 6), &"all have ended")
 }
 
 #[test]
-fn a_request_may_come_byte_by_byte(rt: HostRuntime) -> Result<(), Fail> {
+fn answers_calls_one_after_another(rt: HostRuntime) -> Result<(), Fail> {
     let scene = Scene::new(rt.alloc())?;
     let mut place = Place::new(&rt, rt.alloc(), 10, 10)?;
+    call_one_after_another(&rt, &mut place, &scene)
+}
+
+fn send_in_two_parts<R: Net<Stream = TcpStream> + Clock>(
+    rt: &R,
+    place: &mut Place,
+    scene: &Scene,
+) -> Result<(), Fail> {
     let (front, back) = CHECK_OF_EMPTY.split_at(40);
-    let mut stream = client(&rt, &place, front)?;
-    place.rounds(&rt, &scene)?;
+    let mut stream = client(rt, place, front)?;
+    place.rounds(rt, scene)?;
     same(&place.server.connections(), &1, &"the front")?;
     stream.write_all(back)?;
-    place.rounds(&rt, &scene)?;
-    let found = rest(rt.alloc(), &mut stream)?;
+    place.rounds(rt, scene)?;
+    let found = rest(place.alloc, &mut stream)?;
     same(&found.as_slice(), &SERVING, &"the whole")
+}
+
+#[test]
+fn a_request_may_come_in_two_parts(rt: HostRuntime) -> Result<(), Fail> {
+    let scene = Scene::new(rt.alloc())?;
+    let mut place = Place::new(&rt, rt.alloc(), 10, 10)?;
+    send_in_two_parts(&rt, &mut place, &scene)
 }

@@ -1,62 +1,22 @@
 //! A registry, a loop over a socket of 127.0.0.1, and clients, all in one thread.
 
 use crate::{EventServer, Limits, News};
-use desk_core::{Catalogue, Desk, Setting, Slot};
 use mio::net::TcpListener;
-use probe_core::Manual;
 use std::alloc::Global;
 use std::io::{Read, Write};
 use std::net::{Net, SocketAddr, TcpStream};
 use std::test::Fail;
 use std::time::{Clock, Duration};
-use web_call::DeskDoor;
+pub(super) use web_call::staged::Staged as Scene;
 
 /// How many rounds a test lets a loop make at a time.
 const ROUNDS: usize = 4;
 
-/// A registry in which the empty name alone is registered, and serving.
-#[derive(Drop)]
-pub(super) struct Scene {
-    catalogue: Catalogue,
-    desk: Desk<Manual>,
-}
-
-fn names(alloc: Global) -> Result<Vec<String>, Fail> {
-    let mut names = Vec::new(alloc);
-    names.push(String::new(alloc))?;
-    Ok(names)
-}
-
-impl Scene {
-    pub(super) fn new(alloc: Global) -> Result<Scene, Fail> {
-        let catalogue = Catalogue::new(alloc, names(alloc)?)?;
-        let mut scene = Scene {
-            catalogue,
-            desk: Desk::new(alloc, 1_000),
-        };
-        if let Some(slot) = Slot::new(0) {
-            let _ = scene.desk.register(0, slot, Manual::new());
-        }
-        scene.set(Setting::Up);
-        Ok(scene)
-    }
-
-    /// Sets the empty name.
-    pub(super) fn set(&mut self, setting: Setting) {
-        if let Some(slot) = Slot::new(0) {
-            let _ = self.desk.set(0, slot, setting);
-        }
-    }
-
-    /// A door over the registry as it stands.
-    pub(super) fn door(&self) -> DeskDoor<'_, Manual> {
-        DeskDoor::new(&self.desk, &self.catalogue)
-    }
-}
-
-/// A loop over a socket, and the address of that.
+/// A loop over a socket, and the address of that. A test lends it to a function that has the steps: each exit of a function that owns a
+/// loop would have to be proved to drop one.
 #[derive(Drop)]
 pub(super) struct Place {
+    pub(super) alloc: Global,
     pub(super) server: EventServer,
     pub(super) addr: SocketAddr,
     pub(super) news: News,
@@ -69,18 +29,23 @@ impl Place {
         connections: usize,
         watches: usize,
     ) -> Result<Place, Fail> {
-        let any = SocketAddr::from(([127, 0, 0, 1], 0));
-        let listener = TcpListener::bind(rt, any)?;
-        let addr = listener.local_addr()?;
         let limits = Limits {
             connections,
             watches,
         };
+        let any = SocketAddr::from(([127, 0, 0, 1], 0));
+        let listener = TcpListener::bind(rt, any)?;
+        let addr = listener.local_addr()?;
         let server = EventServer::new(rt, alloc, listener, limits)?;
         let mut wakers = Vec::new(alloc);
         wakers.push(server.waker()?)?;
         let news = News::new(wakers);
-        Ok(Place { server, addr, news })
+        Ok(Place {
+            alloc,
+            server,
+            addr,
+            news,
+        })
     }
 
     /// Lets the loop make some rounds.

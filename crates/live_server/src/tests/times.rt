@@ -1,6 +1,6 @@
-use crate::connection::Connection;
-use crate::tests::scenes::Place;
-use mio::net::TcpStream;
+use crate::connection::{Connection, End};
+use mio::net::{TcpListener, TcpStream};
+use std::net::SocketAddr;
 use std::test::Fail;
 use std::time::{Duration, Instant};
 use test_support::same;
@@ -8,8 +8,9 @@ use web_call::Why;
 
 #[test]
 fn a_request_has_ten_seconds(rt: HostRuntime) -> Result<(), Fail> {
-    let place = Place::new(&rt, rt.alloc(), 2, 2)?;
-    let stream = TcpStream::connect(&rt, place.addr)?;
+    let any = SocketAddr::from(([127, 0, 0, 1], 0));
+    let listener = TcpListener::bind(&rt, any)?;
+    let stream = TcpStream::connect(&rt, listener.local_addr()?)?;
     let now = Instant::now(&rt)?;
     let connection = Connection::new(rt.alloc(), stream, now)?;
     for (millis, is_late) in [(0, false), (9_999, false), (10_000, true), (20_000, true)] {
@@ -17,5 +18,5 @@ fn a_request_has_ten_seconds(rt: HostRuntime) -> Result<(), Fail> {
         let found = then.map(|then| connection.is_late(then));
         same(&found, &Some(is_late), &millis)?;
     }
-    same(&connection.late_end(), &Err(Why::Read), &"its end")
+    same(&connection.late_end(), &End::GivenUp(Why::Read), &"its end")
 }

