@@ -7,7 +7,7 @@ ghost use Rattle.script.specs.Change.{line_changes};
 ghost use Rattle.server.specs.Setup.{AreSetUp};
 
 use crew::HallDoor;
-use desk_core::{Order, Refusal, Reply};
+use desk_core::{Keep, KeepAll, Order, Refusal, Reply};
 use hall::{Hall, Seat};
 use probe_core::{Probe, Rule};
 use script::{Line, Script, set_up};
@@ -18,14 +18,14 @@ use std::sync::Wait;
 /// A hall that a script has set up, with all its seats, and the script's orders, which are made while calls are served. Only
 /// `hall_of` makes one.
 #[derive(Drop)]
-pub struct SetUpHall<P: Probe> {
-    pub(crate) hall: Hall<P>,
-    pub(crate) seats: Vec<Seat<P>>,
+pub struct SetUpHall<P: Probe, K: Keep = KeepAll> {
+    pub(crate) hall: Hall<P, K>,
+    pub(crate) seats: Vec<Seat<P, K>>,
     pub(crate) results: Vec<Result<Reply, Refusal>>,
     pub(crate) orders: Vec<Order>,
 }
 
-impl<P: Probe> Model for SetUpHall<P> {
+impl<P: Probe, K: Keep> Model for SetUpHall<P, K> {
     ghost use Rattle.std.specs.List.{All};
     ghost use Rattle.hall.specs.Seats.{IsOf};
     ghost use Rattle.server.specs.Setup.{SetUpState};
@@ -37,8 +37,10 @@ impl<P: Probe> Model for SetUpHall<P> {
     ghost invariant = { λ made. All (IsOf made.hall) made.seats.items };
 }
 
-impl<P: Probe> SetUpHall<P> {
+impl<P: Probe, K: Keep> SetUpHall<P, K> {
     ghost use Rattle.std.specs.Prelude.{◌≡◌};
+    ghost use Rattle.std.specs.List.{All};
+    ghost use Rattle.hall.specs.Seats.{IsOf};
 
     /// What came of each line that asks for a change, in the order of the lines.
     pub fn results(&self) -> &[Result<Reply, Refusal>]
@@ -46,17 +48,32 @@ impl<P: Probe> SetUpHall<P> {
     {
         self.results.as_slice()
     }
+
+    /// The hall, and its seats in the order of their numbers. Orders are dropped: a script that is read to be run has none.
+    pub fn into_hall(self) -> (Hall<P, K>, Vec<Seat<P, K>>)
+        ensures hall { result.0 ≡ self.hall }
+        ensures seats { result.1.items ≡ self.seats }
+        ensures ours { All (IsOf self.hall) self.seats }
+    {
+        let SetUpHall {
+            hall,
+            seats,
+            results: _,
+            orders: _,
+        } = self;
+        (hall, seats)
+    }
 }
 
 /// Makes the changes that the lines of a script ask for, in their order, and tells what came of each. Lines that ask for none are
 /// passed over.
 ///
 /// All probes are made, and room for all results is taken, before the first change.
-pub fn run_setup<R: Wait, P: Probe, F: Fn(Rule) -> Result<P, AllocError>>(
+pub fn run_setup<R: Wait, P: Probe, K: Keep, F: Fn(Rule) -> Result<P, AllocError>>(
     rt: &R,
     alloc: Global,
-    hall: &Hall<P>,
-    seat: &mut Seat<P>,
+    hall: &Hall<P, K>,
+    seat: &mut Seat<P, K>,
     lines: &[Line],
     make: &F,
 ) -> Result<Vec<Result<Reply, Refusal>>, AllocError>
@@ -71,9 +88,9 @@ pub fn run_setup<R: Wait, P: Probe, F: Fn(Rule) -> Result<P, AllocError>>(
 }
 
 /// The same, behind a door.
-fn set_up_behind<R: Wait, P: Probe, F: Fn(Rule) -> Result<P, AllocError>>(
+fn set_up_behind<R: Wait, P: Probe, K: Keep, F: Fn(Rule) -> Result<P, AllocError>>(
     alloc: Global,
-    door: &mut HallDoor<'_, R, P>,
+    door: &mut HallDoor<'_, R, P, K>,
     lines: &[Line],
     make: &F,
 ) -> Result<Vec<Result<Reply, Refusal>>, AllocError>
@@ -88,13 +105,13 @@ fn set_up_behind<R: Wait, P: Probe, F: Fn(Rule) -> Result<P, AllocError>>(
 
 /// A hall with the script's catalogue and most entries, and so many seats, of which the first has made the changes that the lines of
 /// the script ask for. The script's orders are handed on.
-pub fn hall_of<R: Wait, P: Probe, F: Fn(Rule) -> Result<P, AllocError>>(
+pub fn hall_of<R: Wait, P: Probe, K: Keep, F: Fn(Rule) -> Result<P, AllocError>>(
     rt: &R,
     alloc: Global,
     script: Script,
     make: &F,
     seats: u16,
-) -> Result<SetUpHall<P>, AllocError>
+) -> Result<SetUpHall<P, K>, AllocError>
     requires callable { F.IsAlwaysCallable make.now }
     requires asked { MakesAsked P.rule P.memory (F.post make.now) }
     requires some { 1 ≤ seats }

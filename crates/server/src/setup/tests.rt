@@ -239,7 +239,13 @@ fn hall_in<R: Wait>(rt: &R, alloc: Global, steps: usize) -> Result<Option<u64>, 
     let script = script_of(alloc, &LINES_OF_A)?;
     let scarcity = Scarcity::with_small_room(alloc)?;
     let filler = scarcity.leave_steps(steps)?;
-    let made = hall_of(rt, alloc, script, &|rule| manual(rule), 3);
+    let made: Result<SetUpHall<Manual>, AllocError> = hall_of(
+        rt,
+        alloc,
+        script,
+        &|rule| manual(rule),
+        3,
+    );
     drop(filler);
     drop(scarcity);
     let Ok(made) = made else {
