@@ -1,0 +1,3 @@
+pub mod LoopLemmas
+pub mod RunLemmas
+pub mod SetupLines

@@ -1,0 +1,127 @@
+-- The seats of a hall before and after loops have served by them.
+use Rattle.std.proofs.Common.{◌≡◌, ℕ, zero, suc, ◌+◌, ◌-◌, ◌<◌, List, [], ◌∷◌, ◌++◌, map, length, get_or, sym, refl, ap, subst, ◌∙◌, arith, length-append, ⊎_elim}
+use Rattle.std.specs.List.{All, sum_by}
+use Rattle.std.proofs.lemmas.Bool.{cases_lt}
+use Rattle.std.proofs.lemmas.List.{length-map, get_or-map, get_or_append_left, get_or-append_right}
+use Rattle.std.proofs.lemmas.List.Elements.{All-get_or}
+use Rattle.std.proofs.lemmas.List.Sums.{sum_by-cons}
+use Rattle.hall.specs.Seats.{HallState, SeatState, IsOf, own_calls}
+use Rattle.crew.specs.Looking.{HasLooked}
+use Rattle.crew.proofs.CarryingOut.{looked_ours}
+use Rattle.live_run.specs.declared.seated_loop.SeatedLoop.{SeatedLoop}
+use Rattle.live_server.specs.declared.event_server.EventServer.{EventServer}
+use Rattle.live_run.specs.Loops.{HasServedAll, HaveServed, HaveServedAll, SeatsHaveLooked}
+
+-- an element of the middle one of three parts
+middle : {X Y : Type 0} (v : X → Y) (first rest : List Y) (xs : List X) (i : ℕ) (d : X) (e : Y) → length first ≡ 1 → i < length xs
+    → get_or (first ++ (map v xs ++ rest)) (1 + i) e ≡ v (get_or xs i d)
+middle v first rest xs i d e one below =
+    get_or-append_right first (map v xs ++ rest) 1 (1 + i) e one (omega arith)
+    ∙ (ap (λ (n : ℕ). get_or (map v xs ++ rest) n e) (omega arith)
+    ∙ (get_or_append_left (map v xs) rest e i (omega (arith, length-map xs v, below)) ∙ get_or-map v xs i d e below))
+
+-- an element behind it
+behind : {X Y : Type 0} (v : X → Y) (first rest : List Y) (xs : List X) (i : ℕ) (e : Y) → length first ≡ 1 → length xs < i
+    → get_or (first ++ (map v xs ++ rest)) i e ≡ get_or rest (i - 1 - length xs) e
+behind v first rest xs i e one past =
+    get_or-append_right first (map v xs ++ rest) 1 i e one (omega (arith, past))
+    ∙ get_or-append_right (map v xs) rest (length xs) (i - 1) e (length-map xs v) (omega (arith, past))
+
+-- how long the parts are together
+long : {X Y : Type 0} (v : X → Y) (first rest : List Y) (xs : List X) → length (first ++ (map v xs ++ rest)) ≡ length first + (length xs + length rest)
+long v first rest xs = omega (arith, length-append first (map v xs ++ rest), length-append (map v xs) rest, length-map xs v)
+
+-- the loops' seats have looked
+loops_looked : {P K : Type 0} (first rest : List SeatState) (old new : List (SeatedLoop P K)) → length first ≡ 1 → length new ≡ length old → HaveServed old new
+    → (place : ℕ) (other : SeatState) → place < length old
+    → HasLooked (get_or (first ++ (map (λ seated. seated.seat) old ++ rest)) (1 + place) other) (get_or (first ++ (map (λ seated. seated.seat) new ++ rest)) (1 + place) other)
+loops_looked first rest [] new one same served place other below = absurd (omega (arith, below))
+loops_looked {P} {K} first rest (seated ∷ old) new one same served place other below =
+    let seat : SeatedLoop P K → SeatState = λ one. one.seat in
+    rw (middle seat first rest (seated ∷ old) place seated other one below, middle seat first rest new place seated other one (omega (arith, same, below)))
+    (served place seated below).looked
+
+-- where loops have served, the seats have looked
+pub seats_looked : {P K : Type 0} (first rest : List SeatState) (old new : List (SeatedLoop P K)) (loops : ℕ) → length first ≡ 1 → length old ≡ loops → length new ≡ length old → HaveServed old new
+    → SeatsHaveLooked loops (first ++ (map (λ seated. seated.seat) old ++ rest)) (first ++ (map (λ seated. seated.seat) new ++ rest))
+seats_looked {P} {K} first rest old new loops one count same served =
+    let seat : SeatedLoop P K → SeatState = λ one. one.seat in record {
+      seats = omega (arith, long seat first rest old, long seat first rest new, same);
+      first = λ other. get_or_append_left first (map seat new ++ rest) other 0 (omega (arith, one)) ∙ sym (get_or_append_left first (map seat old ++ rest) other 0 (omega (arith, one)));
+      looked = λ place other least most.
+          let at : 1 + (place - 1) ≡ place = omega (arith, least) in
+          subst (λ (n : ℕ). HasLooked (get_or (first ++ (map seat old ++ rest)) n other) (get_or (first ++ (map seat new ++ rest)) n other)) at
+          (loops_looked first rest old new one same served (place - 1) other (omega (arith, least, most, count)));
+      spare = λ place other past.
+          behind seat first rest new place other one (omega (arith, past, count, same))
+          ∙ (ap (λ (n : ℕ). get_or rest (place - 1 - n) other) same ∙ sym (behind seat first rest old place other one (omega (arith, past, count))));
+    }
+
+-- the server of a loop that has served
+each_served : {P K : Type 0} (old new : List (SeatedLoop P K)) → length new ≡ length old → HaveServed old new → (place : ℕ) (other : EventServer) → place < length old
+    → HasServedAll (get_or (map (λ seated. seated.server) old) place other) (get_or (map (λ seated. seated.server) new) place other)
+each_served [] new same served place other below = absurd (omega (arith, below))
+each_served {P} {K} (seated ∷ old) new same served place other below =
+    let server : SeatedLoop P K → EventServer = λ one. one.server in
+    rw (get_or-map server (seated ∷ old) place seated other below, get_or-map server new place seated other (omega (arith, same, below)))
+    (served place seated below).server
+
+-- and their servers have served
+pub servers_served : {P K : Type 0} (old new : List (SeatedLoop P K)) → length new ≡ length old → HaveServed old new
+    → HaveServedAll (map (λ seated. seated.server) old) (map (λ seated. seated.server) new)
+servers_served {P} {K} old new same served =
+    let server : SeatedLoop P K → EventServer = λ seated. seated.server in record {
+      count = length-map new server ∙ (same ∙ sym (length-map old server));
+      each = λ place other below. each_served old new same served place other (omega (arith, length-map old server, below));
+    }
+
+-- what is said of each seat by what it keeps when it looks
+each_place : (P : SeatState → SeatState → Type 0) → ((seat : SeatState) → P seat seat) → ((old new : SeatState) → HasLooked old new → P old new)
+    → (loops : ℕ) (old new : List SeatState) → SeatsHaveLooked loops old new → (place : ℕ) (other : SeatState) → P (get_or old place other) (get_or new place other)
+each_place P stays looks loops old new served zero other = subst (λ (seat : SeatState). P (get_or old 0 other) seat) (sym (served.first other)) (stays (get_or old 0 other))
+each_place P stays looks loops old new served (suc place) other =
+    ⊎_elim
+    (λ past. subst (λ (seat : SeatState). P (get_or old (suc place) other) seat) (sym (served.spare (suc place) other past)) (stays (get_or old (suc place) other)))
+    (λ most. looks _ _ (served.looked (suc place) other (omega arith) most))
+    (cases_lt loops (suc place))
+
+-- a sum over elements that each give the same
+sum_stays : {X : Type 0} (f : X → ℕ) (xs ys : List X) → length ys ≡ length xs → ((i : ℕ) (d : X) → i < length xs → f (get_or ys i d) ≡ f (get_or xs i d)) → sum_by f ys ≡ sum_by f xs
+sum_stays f [] [] len each = refl
+sum_stays f [] (y ∷ ys) len each = absurd (omega (arith, len))
+sum_stays f (x ∷ xs) [] len each = absurd (omega (arith, len))
+sum_stays f (x ∷ xs) (y ∷ ys) len each =
+    omega (
+      arith,
+      sum_by-cons f x xs,
+      sum_by-cons f y ys,
+      each 0 x (omega arith),
+      sum_stays f xs ys (omega (arith, len)) (λ i d below. each (suc i) d (omega (arith, below))),
+    )
+
+-- loops make nothing
+pub made_nothing : (loops : ℕ) (old new : List SeatState) → SeatsHaveLooked loops old new → sum_by (λ seat. length (own_calls seat)) new ≡ sum_by (λ seat. length (own_calls seat)) old
+made_nothing loops old new served =
+    sum_stays (λ seat. length (own_calls seat)) old new served.seats
+    (λ place other below. each_place (λ a b. length (own_calls b) ≡ length (own_calls a)) (λ seat. refl) (λ a b looked. ap length looked.own) loops old new served place other)
+
+-- and all seats stay the hall's
+pub served_ours : (hall : HallState) (loops : ℕ) (old new : List SeatState) → SeatsHaveLooked loops old new → All (IsOf hall) old → All (IsOf hall) new
+served_ours hall loops old new served ours place other below =
+    each_place (λ a b. IsOf hall a → IsOf hall b) (λ seat is. is) (λ a b looked is. looked_ours hall a b is looked) loops old new served place other
+    (All-get_or (IsOf hall) old place other (omega (arith, served.seats, below)) ours)
+
+-- so do the loops' alone
+pub served_loops_ours : {P K : Type 0} (hall : HallState) (old new : List (SeatedLoop P K)) → length new ≡ length old → HaveServed old new
+    → All (λ seated. IsOf hall seated.seat) old → All (λ seated. IsOf hall seated.seat) new
+served_loops_ours {P} {K} hall old new same served ours place other below =
+    let within : place < length old = omega (arith, same, below) in
+    looked_ours hall _ _ (All-get_or (λ (seated : SeatedLoop P K). IsOf hall seated.seat) old place other within ours) (served place other within).looked
+
+-- the loops' seats are among the hall's
+pub loops_ours : {P K : Type 0} (hall : HallState) (first rest : List SeatState) (loops : List (SeatedLoop P K)) → length first ≡ 1
+    → All (IsOf hall) (first ++ (map (λ seated. seated.seat) loops ++ rest)) → All (λ seated. IsOf hall seated.seat) loops
+loops_ours {P} {K} hall first rest loops one ours place other below =
+    let seat : SeatedLoop P K → SeatState = λ one. one.seat in
+    subst (IsOf hall) (middle seat first rest loops place other other.seat one below)
+    (All-get_or (IsOf hall) (first ++ (map seat loops ++ rest)) (1 + place) other.seat (omega (arith, long seat first rest loops, one, below)) ours)

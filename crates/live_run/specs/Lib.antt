@@ -1,0 +1,4 @@
+pub mod Loops
+pub mod RefusedLine
+pub mod Running
+pub mod Seating

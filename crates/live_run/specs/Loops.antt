@@ -1,0 +1,39 @@
+-- What loops leave of a hall's seats.
+use Rattle.std.specs.Prelude.{ℕ, ◌≡◌, ◌<◌, ◌≤◌, List, length}
+use Rattle.std.specs.List.{slice_index_or}
+use Rattle.hall.specs.Seats.{SeatState}
+use Rattle.crew.specs.Looking.{HasLooked}
+use Rattle.connection_table.specs.Table.{held_count}
+use Rattle.live_server.specs.declared.event_server.EventServer.{EventServer}
+use Rattle.live_server.specs.Loop.{held_by}
+use Rattle.live_server.specs.Settled.{KeepsAccount}
+use Rattle.live_run.specs.declared.seated_loop.SeatedLoop.{SeatedLoop}
+
+-- a loop has served until no connection was left: as many may be held as before, and none that it took in or that ended is forgotten
+pub record HasServedAll (old new : EventServer) : Type 0 where
+  pub account : KeepsAccount (held_by old) (held_by new)
+  pub none_left : held_count (held_by new) ≡ 0
+
+-- a loop on its seat has served so, and its seat has at most looked
+pub record HasServed {P K : Type 0} (old new : SeatedLoop P K) : Type 0 where
+  pub looked : HasLooked old.seat new.seat
+  pub server : HasServedAll old.server new.server
+
+-- each loop has served
+abbrev pub HaveServed : {P K : Type 0} → List (SeatedLoop P K) → List (SeatedLoop P K) → Type 0
+HaveServed {P} {K} old new = (place : ℕ) (other : SeatedLoop P K) → place < length old
+    → HasServed (slice_index_or old place other) (slice_index_or new place other)
+
+-- the same of their servers alone, which are as many
+pub record HaveServedAll (old new : List EventServer) : Type 0 where
+  pub count : length new ≡ length old
+  pub each : (place : ℕ) (other : EventServer) → place < length old → HasServedAll (slice_index_or old place other) (slice_index_or new place other)
+
+-- Loops have looked by so many seats behind the first, and done nothing else by them. The first seat and those behind the loops' are
+-- as they were
+pub record SeatsHaveLooked (loops : ℕ) (old new : List SeatState) : Type 0 where
+  pub seats : length new ≡ length old
+  pub first : (other : SeatState) → slice_index_or new 0 other ≡ slice_index_or old 0 other
+  pub looked : (place : ℕ) (other : SeatState) → 1 ≤ place → place ≤ loops
+      → HasLooked (slice_index_or old place other) (slice_index_or new place other)
+  pub spare : (place : ℕ) (other : SeatState) → loops < place → slice_index_or new place other ≡ slice_index_or old place other

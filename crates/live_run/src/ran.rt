@@ -1,0 +1,23 @@
+use desk_core::{Desk, Keep, KeepAll, board_entries};
+use live_server::EventServer;
+use probe_core::Probe;
+
+/// What is left of a hall that was run to its end.
+#[derive(Drop)]
+pub struct Ran<P: Probe, K: Keep = KeepAll> {
+    /// The loops, which tell how many calls they have served.
+    pub servers: Vec<EventServer>,
+    /// The registry that the hall had.
+    pub desk: Desk<P, K>,
+}
+
+impl<P: Probe, K: Keep> Ran<P, K> {
+    ghost use Rattle.std.specs.Prelude.{◌≡◌, length};
+
+    /// How many entries the whole history has, be they kept or forgotten.
+    pub fn entries(&self) -> u32
+        ensures { result ≡ length self.now.desk.journal }
+    {
+        board_entries(self.desk.board())
+    }
+}

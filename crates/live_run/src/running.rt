@@ -1,0 +1,62 @@
+ghost use Rattle.std.specs.Prelude.{◌≡◌, List, Option, length, vec_len, Err, IfSome, IfNone, IfOk, IfErr};
+ghost use Rattle.std.specs.List.{sum_by};
+ghost use Rattle.desk_core.specs.declared.call.Call.{Call};
+ghost use Rattle.desk_core.specs.Past.{past};
+ghost use Rattle.hall.specs.Seats.{own_calls, new_seats};
+ghost use Rattle.crew.specs.CarriedOut.{replied};
+ghost use Rattle.server.specs.Setup.{AreSetUp};
+ghost use Rattle.live_run.specs.Loops.{HaveServedAll};
+ghost use Rattle.live_run.specs.Running.{HasRunLoops, IsLaterFault, run_fault};
+
+use crate::ran::Ran;
+use crate::run_fault::RunFault;
+use crate::seating::{Back, Seating};
+use desk_core::Keep;
+use hall::Closed;
+use live_server::{EventServer, News};
+use probe_core::Probe;
+use server::SetUpHall;
+use std::alloc::Global;
+use std::sync::Wait;
+use std::thread::Threads;
+use std::time::Clock;
+
+/// Serves by loops over a hall that is set up, until `news` tells that all is to end and no connection is left, and then closes the
+/// hall.
+///
+/// The first seat has set the hall up. Those behind it are the loops', in their order, and any others stay unused.
+pub fn run_live<R: Wait + Threads + Clock + Sync, P: Probe + Send, K: Keep + Send>(
+    rt: &R,
+    alloc: Global,
+    made: SetUpHall<P, K>,
+    servers: Vec<EventServer>,
+    news: &News,
+) -> Result<Ran<P, K>, RunFault>
+    // Too few loops or seats is told first. That memory ran out where it says so, tests show.
+    ensures refused { IfSome (run_fault (vec_len servers) (length made.seats)) (λ fault. result ≡ Err fault) }
+    ensures failed { IfNone (run_fault (vec_len servers) (length made.seats)) (IfErr result (IsLaterFault made)) }
+    // Each loop has served what it took in, and holds no connection any more.
+    ensures servers { IfOk result (λ ran. HaveServedAll servers.items ran.servers.items) }
+
+    // The history that is left is one legal history of what all seats saw and made, and the loops have made nothing.
+    ensures ran { IfOk result (λ ran. HasRunLoops made.hall (vec_len servers) made.seats (past ran.desk.journal)) }
+    ensures entries { IfOk result (λ ran. length ran.desk.journal ≡ sum_by (λ seat. length (own_calls seat)) made.seats) }
+
+    // Where the first seat alone has made changes, as `hall_of` leaves it, they are the history.
+    ensures setup { IfOk result (λ ran. (calls : List (Option Call)) → AreSetUp calls made.results (new_seats made.hall.table made.hall.most made.hall.seats) made.seats
+        → ran.desk.journal ≡ replied 0 calls made.results) }
+    ensures most { IfOk result (λ ran. ran.desk.max_entries ≡ made.hall.most) }
+{
+    let (hall, seats) = made.into_hall();
+    if let Some(fault) = RunFault::of(servers.len(), seats.len()) {
+        return Err(fault);
+    }
+    let Ok(seating) = Seating::new(alloc, servers, seats) else {
+        return Err(RunFault::NoMemory);
+    };
+    let Back { servers, seats } = seating.serve(rt, &hall, news);
+    let Ok(Closed { desk, catalogue: _ }) = hall.close(seats) else {
+        return Err(RunFault::SeatsMissing);
+    };
+    Ok(Ran { servers, desk })
+}

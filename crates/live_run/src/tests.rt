@@ -1,0 +1,9 @@
+mod beside;
+mod changes;
+mod ends;
+mod full;
+mod halls;
+mod memory;
+mod refused;
+mod runs;
+mod scenes;

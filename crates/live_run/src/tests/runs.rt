@@ -1,0 +1,136 @@
+ghost use Rattle.std.specs.Prelude.{◌≤◌, IfOk};
+ghost use Rattle.probe_core.specs.Made.{IsAsked};
+
+use crate::tests::scenes::{Counts, Place, Watcher, expect_checked};
+use crate::{Ran, RefusedLine, RunFault, first_refused, run_live};
+use desk_core::{KeepMany, Reply};
+use live_server::{EventServer, News};
+use probe_core::{Manual, Probe, Rule};
+use script::{Mode, read_script};
+use server::{SetUpHall, hall_of};
+use std::alloc::{AllocError, Global};
+use std::net::{Net, SocketAddr, TcpStream};
+use std::sync::Wait;
+use std::test::Fail;
+use std::thread;
+use std::thread::Threads;
+use std::time::Clock;
+use test_support::requests::{CHECK_OF_A, WATCH_OF_A};
+use test_support::same;
+
+pub(super) const SCRIPT: &[u8] = b"catalogue a -\r
+max 10\r
+# two services\r
+register a manual\r
+register - manual\r
+\r
+down a\r
+up a\r
+";
+
+const FAILING: &[u8] = b"catalogue a -
+max 10
+register a manual
+
+retire -
+up -
+";
+
+/// Makes probes that are set by hand, and no others.
+fn manual(rule: Rule) -> Result<Manual, AllocError>
+    ensures { IsAsked ⟦<Manual as Probe>⟧.rule ⟦<Manual as Probe>⟧.memory rule result }
+{
+    match rule {
+        Rule::Manual => Ok(Manual::new()),
+        Rule::Threshold(..) | Rule::Depends(_) => Err(AllocError),
+    }
+}
+
+/// A hall that forgets, set up by the script, and the first line of it that was not made.
+pub(super) fn set_up<R: Wait>(
+    rt: &R,
+    alloc: Global,
+    script: &[u8],
+    seats: u16,
+) -> Result<(SetUpHall<Manual, KeepMany>, Option<RefusedLine>), Fail>
+    requires some { 1 ≤ seats }
+    requires not_too_many { seats ≤ 1024 }
+{
+    let script = read_script(alloc, script, Mode::Run)?;
+    let numbers = script.numbers().to_vec(alloc)?;
+    let made = hall_of(rt, alloc, script, &|rule| manual(rule), seats)?;
+    let refused = first_refused(&numbers, made.results());
+    Ok((made, refused))
+}
+
+/// Asks a Check and a Watch, and ends all while the Watch is open.
+fn ask<R: Net<Stream = TcpStream>>(
+    rt: &R,
+    alloc: Global,
+    addr: SocketAddr,
+    news: &News,
+) -> Result<(), Fail> {
+    let mut watcher = Watcher::open(rt, addr, WATCH_OF_A)?;
+    watcher.expect(&[1])?;
+    expect_checked(rt, alloc, addr, CHECK_OF_A)?;
+    news.end();
+    watcher.expect_ended(alloc)
+}
+
+/// Runs the hall by the loops, and asks.
+fn run_and_ask<R: Wait + Threads + Clock + Sync + Net<Stream = TcpStream>>(
+    rt: &R,
+    alloc: Global,
+    made: SetUpHall<Manual, KeepMany>,
+    servers: Vec<EventServer>,
+    news: &News,
+    addr: SocketAddr,
+) -> (Result<Ran<Manual, KeepMany>, RunFault>, Result<(), Fail>) {
+    thread::join(
+        rt,
+        move || -> Result<Ran<Manual, KeepMany>, RunFault> {
+            run_live(rt, alloc, made, servers, news)
+        },
+        move || {
+            let found = ask(rt, alloc, addr, news);
+            news.end();
+            found
+        },
+    )
+}
+
+#[test]
+fn runs_what_a_script_has_set_up(rt: HostRuntime) -> Result<(), Fail> {
+    let alloc = rt.alloc();
+    let (made, refused) = set_up(&rt, alloc, SCRIPT, 6)?;
+    same(&refused, &None, &"the setup")?;
+    let Place {
+        servers,
+        news,
+        addr,
+    } = Place::new(&rt, alloc, 3)?;
+    let (ran, found) = run_and_ask(&rt, alloc, made, servers, &news, addr);
+    found?;
+    let ran = ran?;
+    same(&ran.entries(), &4, &"entries")?;
+    same(&ran.servers.len(), &3, &"loops")?;
+    let mut counts = Counts::NONE;
+    for server in &ran.servers {
+        counts = counts.and(server)?;
+    }
+    let expected = Counts {
+        ended: 2,
+        given_up: 0,
+    };
+    same(&counts, &expected, &"calls")
+}
+
+#[test]
+fn tells_the_line_of_a_setup_that_was_not_made(rt: HostRuntime) -> Result<(), Fail> {
+    let (_, refused) = set_up(&rt, rt.alloc(), FAILING, 2)?;
+    let expected = RefusedLine {
+        number: 5,
+        answer: Ok(Reply::Missing),
+    };
+    same(&refused, &Some(expected), &"the setup")
+}
