@@ -27,7 +27,8 @@ where
     asked
 }
 
-fn ask_side_by_side<R>(rt: &R, alloc: Global, port: u16, load: Load) -> Option<Asked>
+/// The same, where no server waits for connections that do not come.
+pub fn ask_side_by_side<R>(rt: &R, alloc: Global, port: u16, load: Load) -> Option<Asked>
 where
     R: Clock + Threads + Sync + Net<Listener = TcpListener, Stream = TcpStream>,
 {

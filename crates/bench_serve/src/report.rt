@@ -1,24 +1,22 @@
-ghost use Rattle.probe_core.specs.Made.{IsAsked};
+ghost use Rattle.probe_core.specs.Made.{MakesAsked};
 
 use crate::figures::Figures;
+use crate::live_serving::serve_live_clients;
 use crate::load::Load;
 use crate::serving::serve_clients;
-use probe_core::{Depends, Manual, Probe, Rule, Threshold};
-use script::{Mode, read_script};
+use probe_core::{Probe, Rule};
 use std::alloc::AllocError;
 use std::net::{Net, TcpListener, TcpStream};
 use std::sync::Wait;
 use std::thread::Threads;
 use std::time::Clock;
 
-/// One service, which is serving.
-const SCRIPT: &str = "catalogue a -
-max 10
-register a manual
-";
-
-/// Times Checks by so many clients, and prints what they come to.
-pub fn report_checks<R>(rt: &R, load: Load) -> Option<()>
+/// Times Checks by each number of clients, and prints what they come to.
+pub fn report_checks<R, P: Probe + Send, F: Fn(Rule) -> Result<P, AllocError>>(
+    rt: &R,
+    make: &F,
+    connections: u16,
+) -> Option<()>
 where
     R: Print
         + Clock
@@ -27,31 +25,47 @@ where
         + Wait
         + Sync
         + Net<Listener = TcpListener, Stream = TcpStream>,
+    requires callable { F.IsAlwaysCallable make.now }
+    requires asked { MakesAsked P.rule P.memory (F.post make.now) }
 {
     let alloc = rt.alloc();
-    let script = read_script(alloc, SCRIPT.as_bytes(), Mode::Serve).ok()?;
-    let make = |rule: Rule| -> Result<Box<dyn Probe + Send>, AllocError>
-        ensures { IsAsked (λ probe. (Probe-box probe).rule probe.value) (λ probe. (Probe-box probe).memory probe.value) rule result }
-    {
-        let probe: Box<dyn Probe + Send> = match rule {
-            Rule::Threshold(fall, rise, start) => Box::new(
-                alloc,
-                Threshold::new(fall, rise, start),
-            )?,
-            Rule::Manual => Box::new(alloc, Manual::new())?,
-            Rule::Depends(mask) => Box::new(alloc, Depends::new(mask))?,
+    for clients in [1, 2, 4, 64] {
+        let load = Load {
+            connections,
+            clients,
         };
-        Ok(probe)
-    };
-    let figures = Figures::of(serve_clients(rt, alloc, script, &make, load)?)?;
-    print!(rt;
-        "clients {}: {} requests a second,",
-        load.clients, figures.per_second
-    )
-    .ok()?;
-    println!(rt;
-        " median {} us, 99th percentile {} us",
-        figures.median, figures.percentile_99
-    )
-    .ok()
+        let served = Figures::of(serve_clients(rt, alloc, make, load)?)?;
+        print!(rt; "clients {clients}, ").ok()?;
+        print_requests(rt, "serve", served)?;
+        let live = Figures::of(serve_live_clients(rt, alloc, make, load)?)?;
+        print!(rt; "clients {clients}, ").ok()?;
+        print_requests(rt, "live", live)?;
+    }
+    Some(())
+}
+
+pub fn print_requests<R: Print>(rt: &R, what: &str, figures: Figures) -> Option<()> {
+    let Figures {
+        per_second,
+        median,
+        percentile_99,
+        longest,
+        ..
+    } = figures;
+    print!(rt; "{what}: {per_second} requests a second,").ok()?;
+    print!(rt; " median {median} us, 99th percentile {percentile_99} us,").ok()?;
+    println!(rt; " longest {longest} us").ok()
+}
+
+/// The times of changes, in milliseconds.
+pub fn print_changes<R: Print>(rt: &R, what: &str, figures: Figures) -> Option<()> {
+    let Figures {
+        count,
+        median,
+        longest,
+        ..
+    } = figures;
+    print!(rt; "{count} changes {what}: ").ok()?;
+    print!(rt; "median {}.{} ms, ", median / 1_000, median / 100 % 10).ok()?;
+    println!(rt; "longest {}.{} ms", longest / 1_000, longest / 100 % 10).ok()
 }

@@ -3,11 +3,11 @@ ghost use Rattle.probe_core.specs.Made.{MakesAsked};
 use crate::clients::{Asked, ask_all};
 use crate::load::Load;
 use crate::request::HOST;
+use crate::script_hall::script_hall;
 use crew::CallEnd;
 use grpc_frame::Code;
 use probe_core::{Probe, Rule};
-use script::Script;
-use server::{Capacity, SetUpHall, hall_of, serve};
+use server::{Capacity, SetUpHall, serve};
 use std::alloc::{AllocError, Global};
 use std::net::{Net, TcpListener, TcpStream};
 use std::sync::Wait;
@@ -25,7 +25,6 @@ const SEATS: u16 = 5;
 pub fn serve_clients<R, P: Probe + Send, F: Fn(Rule) -> Result<P, AllocError>>(
     rt: &R,
     alloc: Global,
-    script: Script,
     make: &F,
     load: Load,
 ) -> Option<Asked>
@@ -36,7 +35,7 @@ where
 {
     let listener = TcpListener::bind(rt, (HOST, 0u16)).ok()?;
     let port = listener.local_addr().ok()?.port();
-    let made = hall_of(rt, alloc, script, make, SEATS).ok()?;
+    let made = script_hall(rt, alloc, make, SEATS)?;
     let (answered, asked) = thread::join(
         rt,
         move || -> Option<usize> { serve_checks(rt, alloc, made, listener, load.connections) },
