@@ -1,15 +1,20 @@
 //! gRPC's health checking service over gRPC-Web.
 #![tactic(auto)]
 
-ghost use Rattle.probe_core.specs.Made.{IsAsked};
+ghost use Rattle.probe_core.specs.Made.{IsAsked, MakesAsked};
 
 mod answer;
 mod ask;
 mod body;
+mod bounds;
+mod cause;
 mod command;
 mod fault;
 mod input;
 mod replay;
+mod run;
+mod run_failure;
+mod run_options;
 mod serve;
 mod service;
 #[cfg(test)]
@@ -19,12 +24,15 @@ use clap::ArgMatches;
 use clap::error::ErrorKind;
 use fault::Fault;
 use probe_core::{Depends, Manual, Probe, Rule, Threshold};
+use run_options::RunOptions;
 use std::alloc::AllocError;
+use std::fmt::Display;
 use std::net::{Net, TcpListener, TcpStream};
 use std::process::ExitCode;
-use std::rt::Env;
+use std::rt::{Env, Files};
 use std::sync::Wait;
 use std::thread::Threads;
+use std::time::Clock;
 use std::{env, io};
 
 /// The status of a command line that is refused.
@@ -33,11 +41,13 @@ const REFUSED: u8 = 2;
 fn main(rt: HostRuntime) -> ExitCode {
     match execute(&rt) {
         Ok(status) => status,
-        Err(fault) => {
-            let _ = eprintln!(&rt; "healthd: {fault}");
-            ExitCode::FAILURE
-        }
+        Err(fault) => failed(&rt, &fault),
     }
+}
+
+fn failed<R: Eprint, E: Display>(rt: &R, fault: &E) -> ExitCode {
+    let _ = eprintln!(rt; "healthd: {fault}");
+    ExitCode::FAILURE
 }
 
 fn execute<R>(rt: &R) -> Result<ExitCode, Fault>
@@ -46,6 +56,8 @@ where
         + Print
         + Eprint
         + Env
+        + Files
+        + Clock
         + AllocGlobal
         + Wait
         + Threads
@@ -61,14 +73,17 @@ where
         Ok(matches) => matches,
         Err(error) => return refuse(rt, &error),
     };
-    run(rt, &matches)
+    run_command(rt, &matches)
 }
 
 /// Runs the command that the words name. All probes of the program are made here.
-fn run<R>(rt: &R, matches: &ArgMatches<'_>) -> Result<ExitCode, Fault>
+fn run_command<R>(rt: &R, matches: &ArgMatches<'_>) -> Result<ExitCode, Fault>
 where
     R: Input
         + Print
+        + Eprint
+        + Files
+        + Clock
         + AllocGlobal
         + Wait
         + Threads
@@ -93,10 +108,41 @@ where
         Some(("body", matches)) => body::run(rt, matches)?,
         Some(("replay", _)) => replay::run(rt, &make)?,
         Some(("serve", matches)) => serve::run(rt, &make, matches)?,
+        Some(("run", matches)) => return run_to_end(rt, &make, matches),
         Some(("ask", matches)) => ask::run(rt, matches)?,
         _ => return Ok(ExitCode::from(REFUSED)),
     }
     Ok(ExitCode::SUCCESS)
+}
+
+/// The command `run`, whose faults tell their cause.
+fn run_to_end<R, P: Probe + Send, F: Fn(Rule) -> Result<P, AllocError>>(
+    rt: &R,
+    make: &F,
+    matches: &ArgMatches<'_>,
+) -> Result<ExitCode, Fault>
+where
+    R: Input
+        + Print
+        + Eprint
+        + Files
+        + Clock
+        + AllocGlobal
+        + Wait
+        + Threads
+        + Sync
+        + Net<Listener = TcpListener, Stream = TcpStream>,
+    requires callable { F.IsAlwaysCallable make.now }
+    requires asked { MakesAsked P.rule P.memory (F.post make.now) }
+{
+    let options = match RunOptions::read(matches) {
+        Ok(options) => options,
+        Err(bad) => return refuse(rt, &command::bad_option(rt.alloc(), bad)?),
+    };
+    match run::run(rt, make, options) {
+        Ok(()) => Ok(ExitCode::SUCCESS),
+        Err(failure) => Ok(failed(rt, &failure)),
+    }
 }
 
 /// Help goes to standard output with status 0, and what refuses a command line to standard error.
