@@ -21,13 +21,15 @@ mod texts;
 mod words;
 
 pub use laws::{changes_in_place, one_script};
-pub use line::Line;
+pub use line::{Line, read_line};
+pub use lines::without_cr;
 pub use probes::probes_for;
 pub use reading::read_script;
 pub use replay::run_script;
 pub use script::{Mode, Script};
 pub use script_fault::ScriptFault;
 pub use setup::set_up;
+pub use texts::{changed_text, checked_text};
 
 #[cfg(test)]
 mod tests;

@@ -86,7 +86,7 @@ impl Line {
 }
 
 /// The line that a text gives.
-pub(crate) fn read_line(
+pub fn read_line(
     alloc: Global,
     catalogue: &Catalogue,
     text: &str,

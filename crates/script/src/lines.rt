@@ -1,5 +1,5 @@
 ghost use Rattle.std.specs.Prelude.{◌≡◌, ◌<◌, ◌∷◌, length};
-ghost use Rattle.script.specs.Lines.{content, lines};
+ghost use Rattle.script.specs.Lines.{without_cr, content, lines};
 ghost use Rattle.script.specs.declared.script.Mode.TheVariants.{Run};
 
 use crate::script::Mode;
@@ -84,5 +84,12 @@ fn uncommented(line: &str) -> &str
     if line.starts_with('#') {
         return "";
     }
+    without_cr(line)
+}
+
+/// A line without the CR at its end, if it has one.
+pub fn without_cr(line: &str) -> &str
+    ensures { result.now ≡ without_cr line.now }
+{
     line.strip_suffix('\r').unwrap_or(line)
 }

@@ -1,4 +1,4 @@
-use crate::texts::{checked_text, refused_text, reply_text, serving_text, stepped_text};
+use crate::texts::{changed_text, checked_text, serving_text, stepped_text};
 use desk_core::{Refusal, Reply};
 use health_wire::Serving;
 use std::fmt;
@@ -22,8 +22,7 @@ impl fmt::Display for Outcome {
 
     fn fmt<W: fmt::Write>(&self, f: &mut fmt::Formatter<W>) -> fmt::Result {
         match *self {
-            Outcome::Changed(Ok(reply)) => f.write_str(reply_text(reply)),
-            Outcome::Changed(Err(refusal)) => f.write_str(refused_text(refusal)),
+            Outcome::Changed(changed) => f.write_str(changed_text(changed)),
             Outcome::Checked(status) => f.write_str(checked_text(status)),
             Outcome::Opened(number, status) => {
                 let status = serving_text(status);

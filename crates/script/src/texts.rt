@@ -1,11 +1,21 @@
 //! The words that a run of a script prints.
 ghost use Rattle.std.specs.Prelude.{◌≡◌};
-ghost use Rattle.script.specs.RunText.{reply_text, refused_text, serving_text, checked_text, stepped_text};
+ghost use Rattle.script.specs.RunText.{changed_text, reply_text, refused_text, serving_text, checked_text, stepped_text};
 
 use desk_core::{Refusal, Reply};
 use health_wire::Serving;
 
-pub(crate) fn reply_text(reply: Reply) -> &'static str
+/// What a line that asks for a change comes to.
+pub fn changed_text(changed: Result<Reply, Refusal>) -> &'static str
+    ensures { result.now ≡ changed_text changed }
+{
+    match changed {
+        Ok(reply) => reply_text(reply),
+        Err(refusal) => refused_text(refusal),
+    }
+}
+
+fn reply_text(reply: Reply) -> &'static str
     ensures { result.now ≡ reply_text reply }
 {
     match reply {
@@ -17,7 +27,7 @@ pub(crate) fn reply_text(reply: Reply) -> &'static str
     }
 }
 
-pub(crate) fn refused_text(refusal: Refusal) -> &'static str
+fn refused_text(refusal: Refusal) -> &'static str
     ensures { result.now ≡ refused_text refusal }
 {
     match refusal {
@@ -40,7 +50,7 @@ pub(crate) fn serving_text(status: Serving) -> &'static str
 }
 
 /// What a Check prints. A service that is not there has no status.
-pub(crate) fn checked_text(status: Option<Serving>) -> &'static str
+pub fn checked_text(status: Option<Serving>) -> &'static str
     ensures { result.now ≡ checked_text status }
 {
     match status {

@@ -1,9 +1,9 @@
 use Rattle.std.proofs.Common.{lit<, refl}
-use Rattle.std.proofs.lemmas.Str.Pattern.{starts_char, strip_suffix_char}
-use Rattle.script.proofs.LineCuts.{no_hash, strip_cr}
+use Rattle.std.proofs.lemmas.Str.Pattern.{starts_char}
+use Rattle.script.proofs.LineCuts.{no_hash}
 use Rattle.script.proofs.lines.uncommented.Goals as goal
 
 pub returns : goal.returns
 returns c =
     let plain = no_hash c.args.line.now c.starts_with.result (starts_char 35 c.args.line.now c.starts_with.result c.starts_with.ensures.cases (lit< tt) (lit< tt)) c.if-starts_with.false in
-    rw (c.unwrap_or.ensures, plain) (strip_cr c.args.line.now c.strip_suffix.result c.args.line refl (strip_suffix_char 13 c.args.line.now c.strip_suffix.result c.strip_suffix.ensures.cases (lit< tt)))
+    rw plain c.without_cr.ensures

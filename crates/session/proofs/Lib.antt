@@ -1,0 +1,4 @@
+pub mod LineLemmas
+pub mod MeetingLemmas
+pub mod RequestLemmas
+pub mod TextLemmas

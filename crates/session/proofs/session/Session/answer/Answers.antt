@@ -1,0 +1,5 @@
+use Rattle.session.proofs.MeetingLemmas.{still_met}
+use Rattle.session.proofs.session.Session.answer.Goals as goal
+
+pub returns-clause-met : goal.returns-clause-met
+returns-clause-met g c = still_met _ _ _ _ _ _ _ _ _ (rw c.first_line.ensures at c.meet_text-answer.ensures.met) c.say-told.ensures.told

@@ -1,0 +1,4 @@
+pub mod Meeting
+pub mod Request
+pub mod Session
+pub mod Text

@@ -1,0 +1,32 @@
+-- A session, as whoever holds it sees it.
+use Rattle.std.specs.Prelude.{ℕ, ◌≡◌, ◌≤◌, ◌⊎◌, ◌==◌, Bool, true, false, if◌then◌else◌, List, [], ◌∷◌, ◌++◌, length, Contains}
+
+-- the bytes that were given and not read, those of its answers that wait to be sent, and whether its last line was answered
+pub record SessionState : Type 0 where
+  pub unread : List ℕ
+  pub waiting : List ℕ
+  pub is_over : Bool
+
+-- a session that was given nothing
+abbrev pub begun : SessionState
+begun = record { unread = []; waiting = []; is_over = false }
+
+abbrev pub with_unread : List ℕ → SessionState → SessionState
+with_unread bytes session = record { unread = bytes; waiting = session.waiting; is_over = session.is_over }
+
+abbrev pub with_waiting : List ℕ → SessionState → SessionState
+with_waiting bytes session = record { unread = session.unread; waiting = bytes; is_over = session.is_over }
+
+-- the bytes before the first LF, or all of them
+abbrev pub first_line : List ℕ → List ℕ
+first_line [] = []
+first_line (c ∷ rest) = if c == 10 then [] else c ∷ first_line rest
+
+-- the bytes behind the first LF
+abbrev pub behind_line : List ℕ → List ℕ
+behind_line [] = []
+behind_line (c ∷ rest) = if c == 10 then rest else behind_line rest
+
+-- there is a line to answer: one that ends in LF, or one that is too long
+abbrev pub HasLine : SessionState → Type 0
+HasLine session = (session.is_over ≡ false) × (Contains session.unread 10 ⊎ (1025 ≤ length session.unread))
