@@ -1,10 +1,10 @@
 -- The first line of what was given.
-use Rattle.std.proofs.Common.{ℕ, suc, ◌≡◌, ◌≢◌, ◌+◌, ◌≤◌, ◌<◌, ◌==◌, Bool, true, false, List, [], ◌∷◌, length, drop, take, get_or, sym, refl, ap, ◌∙◌, arith, ⊎_elim}
-use Rattle.std.specs.Prelude.{if◌then◌else◌, min}
+use Rattle.std.proofs.Common.{ℕ, zero, suc, ◌≡◌, ◌≢◌, ◌+◌, ◌≤◌, ◌<◌, ◌==◌, Bool, true, false, List, [], ◌∷◌, length, drop, take, get_or, sym, refl, ap, ◌∙◌, arith, ⊎_elim}
+use Rattle.std.specs.Prelude.{if◌then◌else◌, min, not}
 use Rattle.std.proofs.lemmas.Bool.{cases_lt, eq-eqb, eqb-true}
 use Rattle.std.proofs.lemmas.List.{drop_all}
 use Rattle.std.proofs.Math.Seq.{drop-cons}
-use Rattle.session.specs.Session.{first_line, behind_line}
+use Rattle.session.specs.Session.{first_line, behind_line, ends_open}
 
 is_not : (m n : ℕ) (b : Bool) → (m == n) ≡ b → m ≢ n → (m == n) ≡ false
 is_not m n true is not = absurd (not (eqb-true m n is))
@@ -67,3 +67,11 @@ drop_line bytes len end all is =
     (λ (less : len < suc (length (first_line bytes))). drop_all end bytes (omega (arith, is, less, all)) ∙ (sym (drop_all (suc (length (first_line bytes))) bytes (omega (arith, less, all))) ∙ drop_whole bytes))
     (λ more. let same : end ≡ suc (length (first_line bytes)) = omega (arith, is, more) in ap (λ n. drop n bytes) same ∙ drop_whole bytes)
     (cases_lt len (suc (length (first_line bytes))))
+
+-- the last byte tells whether bytes stand behind the last LF
+pub last_tells : (bytes : List ℕ) (place : ℕ) → suc place ≡ length bytes → not (get_or bytes place 0 == 10) ≡ ends_open bytes
+last_tells [] place is = absurd (omega (arith, is))
+last_tells (c ∷ []) zero is = refl
+last_tells (c ∷ []) (suc place) is = absurd (omega (arith, is))
+last_tells (c ∷ d ∷ rest) zero is = absurd (omega (arith, is))
+last_tells (c ∷ d ∷ rest) (suc place) is = last_tells (d ∷ rest) place (omega (arith, is))

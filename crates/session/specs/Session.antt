@@ -1,5 +1,5 @@
 -- A session, as whoever holds it sees it.
-use Rattle.std.specs.Prelude.{ℕ, ◌≡◌, ◌≤◌, ◌⊎◌, ◌==◌, Bool, true, false, if◌then◌else◌, List, [], ◌∷◌, ◌++◌, length, Contains}
+use Rattle.std.specs.Prelude.{ℕ, ◌≡◌, ◌≤◌, ◌⊎◌, ◌==◌, ◌&&◌, not, nat_lt, codes, Bool, true, false, if◌then◌else◌, List, [], ◌∷◌, ◌++◌, length, Contains}
 
 -- the bytes that were given and not read, those of its answers that wait to be sent, and whether its last line was answered
 pub record SessionState : Type 0 where
@@ -26,6 +26,16 @@ first_line (c ∷ rest) = if c == 10 then [] else c ∷ first_line rest
 abbrev pub behind_line : List ℕ → List ℕ
 behind_line [] = []
 behind_line (c ∷ rest) = if c == 10 then rest else behind_line rest
+
+-- bytes stand behind the last LF
+abbrev pub ends_open : List ℕ → Bool
+ends_open [] = false
+ends_open (c ∷ []) = not (c == 10)
+ends_open (c ∷ d ∷ rest) = ends_open (d ∷ rest)
+
+-- the same bytes with LF behind a line that stands without it, if the line is not too long
+abbrev pub ended : List ℕ → List ℕ
+ended bytes = if ends_open bytes && nat_lt (length bytes) 1025 then bytes ++ codes "\n" else bytes
 
 -- there is a line to answer: one that ends in LF, or one that is too long
 abbrev pub HasLine : SessionState → Type 0

@@ -1,5 +1,5 @@
 ghost use Rattle.std.specs.Prelude.{◌≡◌, ◌≤◌, length};
-ghost use Rattle.session.specs.Session.{first_line};
+ghost use Rattle.session.specs.Session.{ends_open, first_line};
 
 use crate::answer::Answer;
 use crate::console::Console;
@@ -42,7 +42,7 @@ impl Session {
     ghost use Rattle.std.specs.Prelude.{◌≡◌, ◌-◌, ◌≤◌, ◌++◌, ◌↔◌, [], drop, min, take, length, IfOk, IsTrue, if◌then◌else◌};
     ghost use Rattle.session.specs.Meeting.{IsLineMet};
     ghost use Rattle.session.specs.Text.{IsTold, answer_text, is_too_long};
-    ghost use Rattle.session.specs.Session.{HasLine, behind_line, begun, first_line, with_unread, with_waiting};
+    ghost use Rattle.session.specs.Session.{HasLine, behind_line, begun, ended, first_line, with_unread, with_waiting};
 
     /// A session that was given nothing yet. It takes the memory of its lines.
     pub fn new(alloc: Global) -> Result<Session, AllocError>
@@ -71,6 +71,15 @@ impl Session {
         let count = bytes.len().min(self.room());
         self.unread.extend_from_slice(&bytes[..count]).unwrap();
         count
+    }
+
+    /// No more bytes come: what stands behind the last LF is a line too.
+    pub fn end(&mut self)
+        ensures { self.new ≡ with_unread (ended self.old.unread) self.old }
+    {
+        if ends_open(&self.unread) && self.unread.len() < MOST_UNREAD {
+            self.unread.push(b'\n').unwrap();
+        }
     }
 
     /// Whether there is a line to answer.
@@ -148,6 +157,16 @@ impl Session {
         }
         write_answer(alloc, catalogue, &mut self.waiting, Answer::OutOfMemory).unwrap();
         Answer::OutOfMemory
+    }
+}
+
+/// Whether bytes stand behind the last LF.
+fn ends_open(bytes: &[u8]) -> bool
+    ensures { result ≡ ends_open bytes.now }
+{
+    match bytes {
+        [] => false,
+        [.., last] => *last != b'\n',
     }
 }
 

@@ -105,3 +105,26 @@ fn ends_at_a_line_that_is_too_long(rt: HostRuntime) -> Result<(), Fail> {
     same(&session.is_over(), &true, &"its end")?;
     same(&session.has_line(), &false, &"no more")
 }
+
+/// What is given before no more bytes come, and what is answered.
+const LAST: [(&[u8], &[u8]); 4] = [
+    (b"", b""),
+    (b"list", b"a=absent -=absent\n"),
+    (b"list\n", b"a=absent -=absent\n"),
+    (b"check a\ncheck a\r", b"not found\nnot found\n"),
+];
+
+#[test]
+fn takes_a_last_line_that_has_no_lf(rt: HostRuntime) -> Result<(), Fail> {
+    let alloc = rt.alloc();
+    for (bytes, expected) in &LAST {
+        let mut console = OneThread::new(alloc)?;
+        let mut session = Session::new(alloc)?;
+        let mut answers = Vec::new(alloc);
+        session.give(bytes);
+        session.end();
+        answer_all(alloc, &mut session, &mut console, &mut answers)?;
+        same(&answers.as_slice(), expected, bytes)?;
+    }
+    Ok(())
+}
