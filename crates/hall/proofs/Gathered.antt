@@ -54,4 +54,9 @@ end_in history (seat ∷ seats) begin = each_of history seat seats begin (end_in
 pub made_in : (seats : List SeatState) → made_by (map held_of seats) ≡ sum_by (λ (seat : SeatState). length (own_calls seat)) seats
 made_in [] = refl
 made_in (seat ∷ seats) =
-    omega (arith, sum_by-cons (λ (seat : Held). length (calls_by seat.seen seat.number)) (held_of seat) (map held_of seats), sum_by-cons (λ (c : SeatState). length (own_calls c)) seat seats, made_in seats)
+    omega (
+      arith,
+      sum_by-cons (λ (seat : Held). length (calls_by seat.seen seat.number)) (held_of seat) (map held_of seats),
+      sum_by-cons (λ (c : SeatState). length (own_calls c)) seat seats,
+      made_in seats,
+    )

@@ -87,7 +87,8 @@ goes_on_of table later me rested number history most seat same rests most_is leg
 }
 
 -- a change that the desk in hand answered, seen from the seat's side
-pub carried_out : (old : SeatState) (table later : TableId) (me waiting rested : Seated) (number made seat : ℕ) (before after : State) (call : Call) (result : Result Reply Refusal) → seat_of table me number ≡ old
+pub carried_out : (old : SeatState) (table later : TableId) (me waiting rested : Seated) (number made seat : ℕ) (before after : State) (call : Call)
+    (result : Result Reply Refusal) → seat_of table me number ≡ old
     → InHand me waiting number made before → later ≡ table → HasAnswered before after number call result
     → rested ≡ (seat_view seat (past after.journal) after.max_entries, []) → IsCarriedOut old (seat_of later rested number) (Some call) result
 carried_out old table later me waiting rested number made seat before after call result view_is hand same answers rests =
@@ -122,20 +123,6 @@ pub record Kept (old new : SeatState) : Type 0 where
   pub goes_on : GoesOn old new
   pub kept : own_calls new ≡ own_calls old
 
-pub kept_on : (old : SeatState) (table later : TableId) (me waiting rested : Seated) (number made seat : ℕ) (before after : State) → seat_of table me number ≡ old
-    → InHand me waiting number made before → later ≡ table → after ≡ before → rested ≡ (seat_view seat (past after.journal) after.max_entries, [])
-    → Kept old (seat_of later rested number)
-kept_on old table later me waiting rested number made seat before after view_is hand same is rests =
-    let history : past after.journal ≡ past before.journal = ap (λ (d : State). past d.journal) is in
-    let seen : seen_in rested ≡ past before.journal = ap seen_in rests ∙ history in
-    let own_number = number_is me number made hand.seat in
-    let own : calls_by (past before.journal) number ≡ calls_by (seen_in me) number = subst (λ (n : ℕ). calls_by (past before.journal) n ≡ calls_by (seen_in me) n) own_number hand.follows.own in
-    subst (λ (o : SeatState). Kept o (seat_of later rested number)) view_is (record {
-      goes_on = goes_on_of table later me rested number (past after.journal) after.max_entries seat same rests (ap (λ (d : State). d.max_entries) is ∙ hand.limit)
-          (subst IsLegal (sym history) hand.follows.legal) (subst (IsOlder (seen_in me)) (sym history) hand.follows.begins);
-      kept = ap (λ (h : List Entry). calls_by h number) seen ∙ own;
-    })
-
 -- the seat may give the desk back as it took it
 pub may_leave : (me waiting : Seated) (number made : ℕ) (before after : State) → InHand me waiting number made before → after ≡ before
     → HasDesk waiting (number_in waiting) after.max_entries (past after.journal)
@@ -156,7 +143,9 @@ newest before after seat call reply answers = newest_of before.max_entries seat 
 
 pub unchanged : (before after : State) (seat : ℕ) (call : Call) (refusal : Refusal) → HasAnswered before after seat call (Err refusal) → after ≡ before
 unchanged before after seat call refusal answers =
-    let journal : after.journal ≡ before.journal = sym (reverse-reverse after.journal) ∙ (ap past (kept_of before.max_entries seat (past before.journal) (past after.journal) call refusal answers.answer) ∙ reverse-reverse before.journal) in
+    let journal : after.journal ≡ before.journal = sym (reverse-reverse after.journal)
+    ∙ (ap past (kept_of before.max_entries seat (past before.journal) (past after.journal) call refusal answers.answer)
+    ∙ reverse-reverse before.journal) in
     ap (λ (j : List Entry). record { journal = j; max_entries = after.max_entries }) journal ∙ ap (λ (m : ℕ). record { journal = before.journal; max_entries = m }) answers.most
 
 -- the history before the newest entry is that of the desk as it was taken out

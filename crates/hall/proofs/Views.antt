@@ -50,7 +50,13 @@ pub looked_made : (history : List Entry) (dealt : ℕ) (owner : ℕ → ℕ) (vi
 looked_made history dealt owner view [] are = refl
 looked_made history dealt owner view (seat ∷ seats) are =
     let made : Held → ℕ = λ seat. length (calls_by seat.seen seat.number) in
-    omega (arith, sum_by-cons made (held seat.number history) (map (λ seat. held seat.number history) seats), sum_by-cons made seat seats, ap length are.0.own, looked_made history dealt owner view seats are.1)
+    omega (
+      arith,
+      sum_by-cons made (held seat.number history) (map (λ seat. held seat.number history) seats),
+      sum_by-cons made seat seats,
+      ap length are.0.own,
+      looked_made history dealt owner view seats are.1,
+    )
 
 -- what they had seen begins it
 pub held_begin : (history : List Entry) (dealt : ℕ) (owner : ℕ → ℕ) (view : ℕ) (seats : List Held) → AreHeld history dealt owner view seats → AllBegin history seats

@@ -4,6 +4,7 @@ ghost use Rattle.desk_core.specs.Board.{board_of};
 ghost use Rattle.desk_core.specs.Status.{checked};
 
 use crate::answer::Answer;
+use crate::extent::Extent;
 use crate::gate::{BOARD, enter, leave};
 use crate::hall::Hall;
 use crate::note::Note;
@@ -16,12 +17,14 @@ use std::sync::Wait;
 
 /// The calls that change nothing.
 impl<P: Probe, K: Keep> Hall<P, K> {
-    ghost use Rattle.std.specs.Prelude.{◌≡◌, ◌↔◌, length, IfOk, IsErr, OnOk, OnErr};
+    ghost use Rattle.std.specs.Prelude.{◌≡◌, ◌-◌, ◌↔◌, length, IfOk, IsErr, OnOk, OnErr};
+    ghost use Rattle.desk_core.specs.Board.{board_of};
     ghost use Rattle.desk_core.specs.Catalogue.{slot_of};
     ghost use Rattle.desk_core.specs.Changes.{changes_of};
     ghost use Rattle.desk_core.specs.Status.{shown, status_map};
     ghost use Rattle.desk_core.specs.Watch.{IsBehind, IsOlder, opened, stepped};
     ghost use Rattle.hall.specs.Seats.{IsOf, GoesOn, own_calls};
+    ghost use Rattle.tail.specs.Tail.{forgotten};
 
     /// The status of the name, and how many entries the journal has where it is so. It waits for nobody: it is one load.
     pub fn check(&self, seat: &mut Seat<P, K>, name: &str) -> Answer
@@ -36,6 +39,34 @@ impl<P: Probe, K: Keep> Hall<P, K> {
             at: board_entries(board),
             status: status_on(board, self.catalogue.slot(name)),
         }
+    }
+
+    /// All statuses, and how many entries the journal has where they are so, in one word that `board_entries` and `board_status` of
+    /// `desk_core` read. It waits for nobody: it is one load.
+    pub fn board(&self, seat: &mut Seat<P, K>) -> u64
+        requires { IsOf self.now seat.old }
+        ensures goes_on { GoesOn seat.old seat.new }
+        ensures kept { own_calls seat.new ≡ own_calls seat.old }
+        ensures board { result ≡ board_of seat.new.seen }
+    {
+        self.table.shared.load::<Look>(&mut seat.place, BOARD)
+    }
+
+    /// How many entries the journal has, and how many of them are in memory. It waits for the seat's turn.
+    pub fn extent<R: Wait>(&self, rt: &R, seat: &mut Seat<P, K>) -> Extent
+        requires { IsOf self.now seat.old }
+        ensures goes_on { GoesOn seat.old seat.new }
+        ensures kept { own_calls seat.new ≡ own_calls seat.old }
+        ensures entries { result.entries ≡ length seat.new.seen }
+        ensures in_memory { result.kept ≡ length seat.new.seen - forgotten K.kept (length seat.new.seen) }
+    {
+        let desk = enter(rt, &self.table.shared, &mut seat.place);
+        let extent = Extent {
+            entries: board_entries(desk.board()),
+            kept: desk.journal_kept().len(),
+        };
+        leave(&self.table.shared, &mut seat.place, desk);
+        extent
     }
 
     /// What is shown of the name now, and a watch of what changes from now on. It waits for the seat's turn.

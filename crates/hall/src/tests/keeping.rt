@@ -3,7 +3,7 @@
 ghost use Rattle.hall.specs.Seats.{IsOf};
 
 use crate::tests::halls::catalogue;
-use crate::{Closed, Hall, Seat};
+use crate::{Closed, Extent, Hall, Seat};
 use desk_core::sixteen::KeepSixteen;
 use desk_core::{Behind, Reply, Setting, board_entries};
 use health_wire::Serving;
@@ -67,6 +67,16 @@ fn a_hall_forgets_and_says_so(rt: HostRuntime) -> Result<(), Fail> {
     let (hall, mut seats) = Hall::new(alloc, names, 100, 1)?;
     let mut seat = seats.pop().unwrap();
     expect_kept_and_behind(&rt, &hall, &mut seat)?;
+    let expected = Extent {
+        entries: 18,
+        kept: 16,
+    };
+    same(&hall.extent(&rt, &mut seat), &expected, &"how much is kept")?;
+    same(
+        &board_entries(hall.board(&mut seat)),
+        &18,
+        &"entries on the board",
+    )?;
     let Ok(Closed { desk, .. }) = hall.close(Vec::from_array(alloc, [seat])?) else {
         return Err(Fail::new("not closed"));
     };

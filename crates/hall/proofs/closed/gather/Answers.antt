@@ -17,7 +17,8 @@ loop-seat-init g c =
     sym c.into_iter-seats.ensures.rest ∙ (c.in-Some.ensures.items ∙ ap (λ it. c.in-Some.first ∷ it.rest.items) (sym c.into_iter-seat-iterator.ensures.into_iter_gives)) in
     let me = c.first.inside.place.me in
     let has : Came c.args.shared.now.table_id c.first.inside.place.table_id me c.in-Some.first others =
-    came c.args.shared.now.table_id c.first.inside.place.table_id me c.first.inside.number c.first.inside.made c.in-Some.first c.args.seats.items others c.first.invariant c.first.view_is list c.requires.seats in (
+    came c.args.shared.now.table_id c.first.inside.place.table_id me c.first.inside.number c.first.inside.made c.in-Some.first c.args.seats.items
+    others c.first.invariant c.first.view_is list c.requires.seats in (
       tt,
       tt,
       has.table_is,
@@ -35,7 +36,8 @@ join_seat-requires g c =
     let other = c.seat.inside.place in
     let kept = c.loop-seat.invariant in
     let has : Came shared.table_id other.table_id other.me c.in-Some-seat.seat c.next-in-loop-seat.new.self.rest.items =
-    came shared.table_id other.table_id other.me c.seat.inside.number c.seat.inside.made c.in-Some-seat.seat c.loop-seat.seat-iterator.rest.items c.next-in-loop-seat.new.self.rest.items c.seat.invariant c.seat.view_is
+    came shared.table_id other.table_id other.me c.seat.inside.number c.seat.inside.made c.in-Some-seat.seat c.loop-seat.seat-iterator.rest.items
+    c.next-in-loop-seat.new.self.rest.items c.seat.invariant c.seat.view_is
     c.in-Some-seat.ensures.steps.0 kept.6 in (
       kept.2,
       has.table_is,
@@ -53,7 +55,8 @@ loop-seat-preserved g c =
     let kept = c.loop-seat.invariant in
     let others = c.next-in-loop-seat.new.self.rest.items in
     let has : Came shared.table_id other.table_id other.me c.in-Some-seat.seat others =
-    came shared.table_id other.table_id other.me c.seat.inside.number c.seat.inside.made c.in-Some-seat.seat c.loop-seat.seat-iterator.rest.items others c.seat.invariant c.seat.view_is c.in-Some-seat.ensures.steps.0 kept.6 in
+    came shared.table_id other.table_id other.me c.seat.inside.number c.seat.inside.made c.in-Some-seat.seat c.loop-seat.seat-iterator.rest.items
+    others c.seat.invariant c.seat.view_is c.in-Some-seat.ensures.steps.0 kept.6 in
     let joined = c.join_seat.ensures in
     let seats : c.join_seat.new.seat.me.0.seats ≡ place.me.0.seats ++ held_of c.in-Some-seat.seat ∷ [] =
     ap (λ (m : Seated). m.0.seats) joined.2 ∙ ap (λ (hs : List Held). place.me.0.seats ++ hs) has.seats in (
@@ -64,5 +67,6 @@ loop-seat-preserved g c =
       ap (λ (m : Seated). m.1) joined.2 ∙ kept.4,
       omega (arith, kept.5, ap length seats, length-append place.me.0.seats (held_of c.in-Some-seat.seat ∷ [])),
       has.others_are,
-      grown place.me.0.seats c.join_seat.new.seat.me.0.seats c.in-Some-seat.seat others c.loop-seat.seat-iterator.rest.items (map held_of c.args.seats.items) seats c.in-Some-seat.ensures.steps.0 kept.7,
+      grown place.me.0.seats c.join_seat.new.seat.me.0.seats c.in-Some-seat.seat others c.loop-seat.seat-iterator.rest.items
+          (map held_of c.args.seats.items) seats c.in-Some-seat.ensures.steps.0 kept.7,
     )

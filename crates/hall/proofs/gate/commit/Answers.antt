@@ -26,5 +26,6 @@ store-requires g c =
     let step = commits shared.key shared.table_id.slots place.id entry.seat desk.max_entries c.requires.desk.0 history entry refl legal.1 legal.2 room in (
       c.requires.table.1,
       omega (arith, c.requires.table.0),
-      subst (F place.me c.board.result) (sym c.requires.entry) (subst (λ board. F place.me board entry) (sym word) (subst (λ me. F me (board_of (entry ∷ history)) entry) (sym c.requires.desk.1) step)),
+      subst (F place.me c.board.result) (sym c.requires.entry)
+          (subst (λ board. F place.me board entry) (sym word) (subst (λ me. F me (board_of (entry ∷ history)) entry) (sym c.requires.desk.1) step)),
     )

@@ -48,7 +48,8 @@ at_turn g c =
     let turn = (c.load.ensures.2 drawn.0 (ap (λ (me : Seated). me.0.stage) now)).0 (c.if-load-ticket.true ∙ drawn.1) in
     let looked = c.load-then-load-ticket.ensures.2 in
     entered (number_in me) me.0.most drawn.0 _ (seen_in me) looked.0 c.loop.place.me c.load.new.seat.me c.exchange-slot.new.seat.me c.load-then-load-ticket.new.seat.me
-    c.exchange-slot.result c.unwrap.result (now ∙ ap (λ (me : Seated). (at_stage me.0 (Queued drawn.0), [])) c.requires.rests) turn c.exchange-slot.ensures.2 c.exchange-slot.ensures.3 c.unwrap.ensures looked.1
+    c.exchange-slot.result c.unwrap.result (now ∙ ap (λ (me : Seated). (at_stage me.0 (Queued drawn.0), [])) c.requires.rests) turn
+    c.exchange-slot.ensures.2 c.exchange-slot.ensures.3 c.unwrap.ensures looked.1
 
 pub returns-then-load-ticket-clause-desk : goal.returns-then-load-ticket-clause-desk
 returns-then-load-ticket-clause-desk g c = (at_turn g c).has

@@ -60,7 +60,9 @@ pub returns-in-Ok-clause-old : goal.returns-in-Ok-clause-old
 returns-in-Ok-clause-old g c =
     rw c.in-Some.is
     (c.in-Ok.ensures.old
-    ∙ ap (λ (h : List Entry). probe_of h c.in-Some.call) (sym (before_newest c.finish.new.place.me c.entry-entry.result.seat c.seat.inside.number c.enter-desk.result c.change.new.self c.in-Some.call c.in-Ok.reply c.in-Ok.ensures.answered c.finish.ensures.rests)))
+    ∙ ap (λ (h : List Entry). probe_of h c.in-Some.call)
+    (sym (before_newest c.finish.new.place.me c.entry-entry.result.seat c.seat.inside.number c.enter-desk.result c.change.new.self c.in-Some.call
+    c.in-Ok.reply c.in-Ok.ensures.answered c.finish.ensures.rests)))
 
 pub returns-in-Err-clause-answered : goal.returns-in-Err-clause-answered
 returns-in-Err-clause-answered g c =
