@@ -1,5 +1,6 @@
 -- What a turn has read, asked and sent so far, and how it leaves its call.
-use Rattle.std.proofs.Common.{◌≡◌, ◌≢◌, ◌≤◌, ◌<◌, ◌+◌, ◌↔◌, ℕ, zero, suc, inl, inr, Bool, Option, true, false, Some, None, is_some, List, [], ◌∷◌, ◌++◌, length, take, drop, nat_eq, refl, ap, sym, ◌∙◌, subst, append_assoc, append-nil, if◌then◌else◌, arith, rules}
+use Rattle.std.proofs.Common.{◌≡◌, ◌≢◌, ◌≤◌, ◌<◌, ◌+◌, ◌↔◌, ℕ, zero, suc, inl, inr, Bool, Option, true, false, Some, None, is_some, List, [], ◌∷◌}
+use Rattle.std.proofs.Common.{◌++◌, length, take, drop, nat_eq, refl, ap, sym, ◌∙◌, subst, append_assoc, append-nil, if◌then◌else◌, arith, rules}
 use Rattle.std.proofs.KnownBytes.{Appends-trans, Appends-nil, Consumes-trans}
 use Rattle.std.proofs.lemmas.List.{length-drop, length-take-le, take-append-drop}
 use Rattle.std.specs.Bool.{OnFalse}

@@ -17,7 +17,8 @@ abbrev pub NoEndBelow : List ℕ → ℕ → Type 0
 NoEndBelow bytes n = (k : ℕ) → k < n → get_or bytes k 0 ≡ 13 → get_or bytes (suc k) 0 ≡ 10 → ⊥
 
 -- the first line ends at the first CR LF
-pub line_ends : (bytes : List ℕ) (n : ℕ) → suc n < length bytes → NoEndBelow bytes n → get_or bytes n 0 ≡ 13 → get_or bytes (suc n) 0 ≡ 10 → lines bytes ≡ take n bytes ∷ lines (drop (suc (suc n)) bytes)
+pub line_ends : (bytes : List ℕ) (n : ℕ) → suc n < length bytes → NoEndBelow bytes n → get_or bytes n 0 ≡ 13 → get_or bytes (suc n) 0 ≡ 10
+    → lines bytes ≡ take n bytes ∷ lines (drop (suc (suc n)) bytes)
 line_ends [] n within none cr lf = absurd (omega arith)
 line_ends (c ∷ []) n within none cr lf = absurd (omega arith)
 line_ends (c ∷ d ∷ rest) zero within none cr lf = rw (cr, lf) refl
@@ -34,7 +35,8 @@ line_whole (c ∷ d ∷ rest) some none =
     rw (not_end c d (none 0 (omega arith)), behind) refl
 
 -- the same from the place of the CR LF's second byte
-pub first_ends : (bytes : List ℕ) (i : ℕ) → 1 ≤ i → i < length bytes → ((k : ℕ) → suc k < i → get_or bytes k 0 ≡ 13 → get_or bytes (suc k) 0 ≡ 10 → ⊥) → get_or bytes (i - 1) 0 ≡ 13 → get_or bytes i 0 ≡ 10
+pub first_ends : (bytes : List ℕ) (i : ℕ) → 1 ≤ i → i < length bytes → ((k : ℕ) → suc k < i → get_or bytes k 0 ≡ 13 → get_or bytes (suc k) 0 ≡ 10 → ⊥)
+    → get_or bytes (i - 1) 0 ≡ 13 → get_or bytes i 0 ≡ 10
     → lines bytes ≡ take (i - 1) bytes ∷ lines (take (length bytes - (i + 1)) (drop (i + 1) bytes))
 first_ends bytes zero some within none cr lf = absurd (omega arith)
 first_ends bytes (suc n) some within none cr lf =

@@ -37,7 +37,8 @@ one_more digits i number digit each within so_far is =
     rw (digits_value_more 10 digits i within, value, so_far) refl
 
 -- at most nine digits write a number that fits
-pub stays_small : (digits : List ℕ) (i number digit : ℕ) → list_all is_ascii_digit digits ≡ true → length digits ≤ 9 → i < length digits → number ≡ digits_value 10 (take i digits) → digit ≡ get_or digits i 0 - 48
+pub stays_small : (digits : List ℕ) (i number digit : ℕ) → list_all is_ascii_digit digits ≡ true → length digits ≤ 9 → i < length digits
+    → number ≡ digits_value 10 (take i digits) → digit ≡ get_or digits i 0 - 48
     → number * 10 + digit < 2 ^ 32
 stays_small digits i number digit each short within so_far is =
     let front : digits_value 10 (take (i + 1) digits) ≤ digits_value 10 digits = digits_value-take-le 10 digits (i + 1) (omega arith) in

@@ -4,11 +4,13 @@ use Rattle.std.proofs.lemmas.List.{append-nil}
 use Rattle.std.proofs.lemmas.List.Elements.{All-nil, All-cons, All-head, All-tail}
 use Rattle.std.specs.Int.{w32, to_be_bytes}
 use Rattle.grpc_frame.specs.Frame.{frame}
-use Rattle.grpc_frame.specs.Split.{max_content_len, BeginsWithFrame, BeginsWithNoFrame, BeginsTooLong, bytes_of, AreFrames, Step, Fed, Took, Stayed, Run, fed_bytes, taken_frames, HasOneFirst, HasOneSplit}
+use Rattle.grpc_frame.specs.Split.{max_content_len, BeginsWithFrame, BeginsWithNoFrame, BeginsTooLong, bytes_of, AreFrames, Step, Fed, Took, Stayed}
+use Rattle.grpc_frame.specs.Split.{Run, fed_bytes, taken_frames, HasOneFirst, HasOneSplit}
 use Rattle.grpc_frame.proofs.Fronts.{same_parts, same_length}
 
 -- one more frame before the others
-pub frame_first : (bytes content rest behind more : List ℕ) (frames : List (ℕ × List ℕ)) (flag : ℕ) → BeginsWithFrame bytes flag content rest → AreFrames (rest ++ more) frames behind → AreFrames (bytes ++ more) ((flag, content) ∷ frames) behind
+pub frame_first : (bytes content rest behind more : List ℕ) (frames : List (ℕ × List ℕ)) (flag : ℕ) → BeginsWithFrame bytes flag content rest
+    → AreFrames (rest ++ more) frames behind → AreFrames (bytes ++ more) ((flag, content) ∷ frames) behind
 frame_first bytes content rest behind more frames flag front are =
     record {
       fit = All-cons (λ (one : ℕ × List ℕ). length one.1 ≤ max_content_len) (flag, content) frames front.fits are.fit;
@@ -32,7 +34,8 @@ pub run_whole : (steps : List Step) (rest : List ℕ) → Run [] steps rest → 
 run_whole steps rest run = run_from steps [] rest run
 
 -- the frame at the front is the only one there
-pub one_frame : (bytes content rest other more : List ℕ) (flag mark : ℕ) → BeginsWithFrame bytes flag content rest → BeginsWithFrame bytes mark other more → (flag ≡ mark) × (content ≡ other) × (rest ≡ more)
+pub one_frame : (bytes content rest other more : List ℕ) (flag mark : ℕ) → BeginsWithFrame bytes flag content rest
+    → BeginsWithFrame bytes mark other more → (flag ≡ mark) × (content ≡ other) × (rest ≡ more)
 one_frame bytes content rest other more flag mark one two =
     let same : frame flag content ++ rest ≡ frame mark other ++ more = sym one.parts ∙ two.parts in
     let flags : flag ≡ mark = cc in
@@ -48,7 +51,8 @@ pub one_first : (bytes : List ℕ) → HasOneFirst bytes
 one_first bytes flag mark content other rest more one two = one_frame bytes content rest other more flag mark one two
 
 -- the frames behind the first
-pub frames_behind : (bytes content rest : List ℕ) (frames : List (ℕ × List ℕ)) (flag : ℕ) → AreFrames bytes ((flag, content) ∷ frames) rest → BeginsWithFrame bytes flag content (bytes_of frames ++ rest) × AreFrames (bytes_of frames ++ rest) frames rest
+pub frames_behind : (bytes content rest : List ℕ) (frames : List (ℕ × List ℕ)) (flag : ℕ) → AreFrames bytes ((flag, content) ∷ frames) rest
+    → BeginsWithFrame bytes flag content (bytes_of frames ++ rest) × AreFrames (bytes_of frames ++ rest) frames rest
 frames_behind bytes content rest frames flag are = (
   record {
     fits = All-head (λ (one : ℕ × List ℕ). length one.1 ≤ max_content_len) (flag, content) frames are.fit;
@@ -71,11 +75,13 @@ one_split bytes (first ∷ frames) (other ∷ others) rest more one two =
     let here : BeginsWithFrame bytes first.0 first.1 (bytes_of frames ++ rest) × AreFrames (bytes_of frames ++ rest) frames rest = frames_behind bytes first.1 rest frames first.0 one.are in
     let there : BeginsWithFrame bytes other.0 other.1 (bytes_of others ++ more) × AreFrames (bytes_of others ++ more) others more = frames_behind bytes other.1 more others other.0 two.are in
     let same = one_frame bytes first.1 (bytes_of frames ++ rest) other.1 (bytes_of others ++ more) first.0 other.0 here.0 there.0 in
-    let behind = one_split (bytes_of frames ++ rest) frames others rest more (record { are = here.1; ends = one.ends }) (record { are = subst (λ (all : List ℕ). AreFrames all others more) (sym same.2) there.1; ends = two.ends }) in
+    let behind = one_split (bytes_of frames ++ rest) frames others rest more (record { are = here.1; ends = one.ends })
+    (record { are = subst (λ (all : List ℕ). AreFrames all others more) (sym same.2) there.1; ends = two.ends }) in
     (λ i. (same.0 i, same.1 i) ∷ behind.0 i, behind.1)
 
 -- two runs that were fed the same, each up to a rest that begins with no frame, took the same
-pub same_split : (steps others : List Step) (rest more : List ℕ) → Run [] steps rest → Run [] others more → fed_bytes steps ≡ fed_bytes others → BeginsWithNoFrame rest → BeginsWithNoFrame more → (taken_frames steps ≡ taken_frames others) × (rest ≡ more)
+pub same_split : (steps others : List Step) (rest more : List ℕ) → Run [] steps rest → Run [] others more → fed_bytes steps ≡ fed_bytes others
+    → BeginsWithNoFrame rest → BeginsWithNoFrame more → (taken_frames steps ≡ taken_frames others) × (rest ≡ more)
 same_split steps others rest more run other same ends other_ends =
     one_split (fed_bytes others) (taken_frames steps) (taken_frames others) rest more
     (record { are = subst (λ (all : List ℕ). AreFrames all (taken_frames steps) rest) same (run_whole steps rest run); ends = ends })

@@ -23,13 +23,16 @@ four_fit a b c d p q r s (suc (suc (suc zero))) = s
 four_fit a b c d p q r s (suc (suc (suc (suc i)))) = omega arith
 
 -- what stands behind the frame at the front is the rest from the new start on
-pub taken_front : (items value bytes content body rest : List ℕ) (flag start end : ℕ) → start ≤ length items → end ≡ length items → drop start items ≡ value → bytes ≡ value → BeginsWithFrame bytes flag content rest → body ≡ content → BeginsWithFrame value flag body (drop (end - length rest) items)
+pub taken_front : (items value bytes content body rest : List ℕ) (flag start end : ℕ) → start ≤ length items → end ≡ length items
+    → drop start items ≡ value → bytes ≡ value → BeginsWithFrame bytes flag content rest → body ≡ content
+    → BeginsWithFrame value flag body (drop (end - length rest) items)
 taken_front items value bytes content body rest flag start end within all view is front same =
     rw (all, rest_behind items (frame flag content) rest start within (view ∙ sym is ∙ front.parts), same) (subst (λ (all : List ℕ). BeginsWithFrame all flag content rest) is front)
 
 -- a length is over the limit exactly where the bytes begin too long
 pub over_tells : (bytes : List ℕ) (len : ℕ) → 5 ≤ length bytes → ((i : ℕ) → get_or bytes i 0 < 256) → len < 2 ^ 32
-    → len ≡ from_be_bytes w32 (get_or bytes 1 0 ∷ get_or bytes 2 0 ∷ get_or bytes 3 0 ∷ get_or bytes 4 0 ∷ []) → (max_content_len < len → BeginsTooLong bytes) × (BeginsTooLong bytes → max_content_len < len)
+    → len ≡ from_be_bytes w32 (get_or bytes 1 0 ∷ get_or bytes 2 0 ∷ get_or bytes 3 0 ∷ get_or bytes 4 0 ∷ [])
+    → (max_content_len < len → BeginsTooLong bytes) × (BeginsTooLong bytes → max_content_len < len)
 over_tells [] len five fit fits is = absurd (omega arith)
 over_tells (flag ∷ []) len five fit fits is = absurd (omega arith)
 over_tells (flag ∷ a ∷ []) len five fit fits is = absurd (omega arith)
@@ -38,7 +41,8 @@ over_tells (flag ∷ a ∷ b ∷ c ∷ []) len five fit fits is = absurd (omega 
 over_tells (flag ∷ a ∷ b ∷ c ∷ d ∷ rest) len five fit fits is =
     let four : to_be_bytes w32 len ≡ a ∷ b ∷ c ∷ d ∷ [] = be_bytes_4 (a ∷ b ∷ c ∷ d ∷ []) len refl (four_fit a b c d (fit 1) (fit 2) (fit 3) (fit 4)) is in (
       λ over. record { flag = flag; len = len; rest = rest; over = over; fits = fits; parts = ap (λ (field : List ℕ). flag ∷ field ++ rest) (sym four) },
-      λ long. let told : from_be_bytes w32 (a ∷ b ∷ c ∷ d ∷ []) ≡ long.len = ap (λ (all : List ℕ). from_be_bytes w32 (take 4 (drop 1 all))) long.parts ∙ from_be_bytes-to_be_bytes_4 long.len long.fits in
+      λ long. let told : from_be_bytes w32 (a ∷ b ∷ c ∷ d ∷ []) ≡ long.len = ap (λ (all : List ℕ). from_be_bytes w32 (take 4 (drop 1 all))) long.parts
+          ∙ from_be_bytes-to_be_bytes_4 long.len long.fits in
           let over : max_content_len < long.len = long.over in
           omega arith,
     )

@@ -13,7 +13,8 @@ use Rattle.health_wire.specs.Field.IsPayloadFault.{NoType, NoVarint, CutI64, NoL
 use Rattle.health_wire.specs.Field.IsFieldFault.{NoTag, NoNumber, NoPayload}
 
 -- a varint of a length, and then that many bytes
-pub text_found : (bytes rest : List ℕ) (count : ℕ) (text after : List ℕ) → Begins (λ front. IsVarint front count) bytes rest → count ≤ length rest → text ≡ take count rest → after ≡ drop count rest → Begins (λ front. IsPayload front (Len text)) bytes after
+pub text_found : (bytes rest : List ℕ) (count : ℕ) (text after : List ℕ) → Begins (λ front. IsVarint front count) bytes rest → count ≤ length rest
+    → text ≡ take count rest → after ≡ drop count rest → Begins (λ front. IsPayload front (Len text)) bytes after
 text_found bytes rest count text after (len, parts, len_is) fits text_is after_is =
     let text_len : length text ≡ count = ap length text_is ∙ length-take-le count rest fits in
     let whole : text ++ after ≡ rest = rw (text_is, after_is) (take-append-drop count rest) in (
@@ -43,11 +44,14 @@ with_tag bytes rest tag (front, parts, is) = record { low_bits = omega arith; ta
 pub number_fault : (bytes rest : List ℕ) (tag : ℕ) → Begins (λ front. IsVarint front tag) bytes rest → (IsFieldNumber (tag / 8) → ⊥) → IsFieldFault bytes BadTag
 number_fault bytes rest tag begins none = NoNumber (tag / 8) (tag % 8) rest (with_tag bytes rest tag begins) none
 
-pub payload_fault : (fault : WireFault) (bytes rest : List ℕ) (tag : ℕ) → Begins (λ front. IsVarint front tag) bytes rest → IsFieldNumber (tag / 8) → IsPayloadFault rest (tag % 8) fault → IsFieldFault bytes fault
+pub payload_fault : (fault : WireFault) (bytes rest : List ℕ) (tag : ℕ) → Begins (λ front. IsVarint front tag) bytes rest → IsFieldNumber (tag / 8)
+    → IsPayloadFault rest (tag % 8) fault → IsFieldFault bytes fault
 payload_fault fault bytes rest tag begins number none = NoPayload fault (tag / 8) (tag % 8) rest (with_tag bytes rest tag begins) number none
 
 -- a tag and its payload are a field
-pub field_found : (bytes after rest : List ℕ) (tag number : ℕ) (payload : Payload) → Begins (λ front. IsVarint front tag) bytes after → number ≡ tag / 8 → IsFieldNumber number → wire_type payload ≡ tag % 8 → Begins (λ front. IsPayload front payload) after rest → Begins (λ front. IsField front (record { number = number; payload = payload })) bytes rest
+pub field_found : (bytes after rest : List ℕ) (tag number : ℕ) (payload : Payload) → Begins (λ front. IsVarint front tag) bytes after
+    → number ≡ tag / 8 → IsFieldNumber number → wire_type payload ≡ tag % 8 → Begins (λ front. IsPayload front payload) after rest
+    → Begins (λ front. IsField front (record { number = number; payload = payload })) bytes rest
 field_found bytes after rest tag number payload (front, parts, is) number_is in_range type_is (back, more, payload_is) = (
   front ++ back,
   parts ∙ ap (λ xs. front ++ xs) more ∙ sym (append_assoc front back rest),
@@ -103,11 +107,13 @@ one_field f g a b x y is_a is_b same =
     )
 
 -- where there is a fault of a wire type's payload, there is no payload of it
-no_payload : (bytes front rest : List ℕ) (payload : Payload) {type_number : ℕ} {fault : WireFault} → IsPayloadFault bytes type_number fault → wire_type payload ≡ type_number → bytes ≡ front ++ rest → IsPayload front payload → ⊥
+no_payload : (bytes front rest : List ℕ) (payload : Payload) {type_number : ℕ} {fault : WireFault} → IsPayloadFault bytes type_number fault
+    → wire_type payload ≡ type_number → bytes ≡ front ++ rest → IsPayload front payload → ⊥
 no_payload bytes front rest payload (NoType n none) type_is parts is = none payload type_is
 no_payload bytes front rest (Varint value) (NoVarint fault none) type_is parts is = no_varint bytes front rest value none parts is
 no_payload bytes front rest (I64 eight) (CutI64 few) type_is parts is = omega (arith, front_within bytes front rest parts, ap length is.0, is.1)
-no_payload bytes front rest (Len text) (NoLen fault none) type_is parts (len, split, is) = no_varint bytes len (text ++ rest) (length text) none (parts ∙ ap (λ xs. xs ++ rest) split ∙ append_assoc len text rest) is
+no_payload bytes front rest (Len text) (NoLen fault none) type_is parts (len, split, is) =
+    no_varint bytes len (text ++ rest) (length text) none (parts ∙ ap (λ xs. xs ++ rest) split ∙ append_assoc len text rest) is
 no_payload bytes front rest (Len text) (CutLen count after (other, cut, count_is) few) type_is parts (len, split, is) =
     let whole : other ++ after ≡ len ++ (text ++ rest) = sym cut ∙ parts ∙ ap (λ xs. xs ++ rest) split ∙ append_assoc len text rest in
     let one = one_varint other len after (text ++ rest) count (length text) count_is is whole in
@@ -116,7 +122,9 @@ no_payload bytes front rest (I32 four) (CutI32 few) type_is parts is = omega (ar
 no_payload bytes front rest payload fault type_is parts is = omega arith
 
 -- a tag at the front is that of the field there
-same_tag : (bytes after : List ℕ) (number type_number : ℕ) (front rest : List ℕ) (field : WireField) → BeginsWithTag bytes number type_number after → bytes ≡ front ++ rest → (is : IsField front field) → (number ≡ field.number) × (type_number ≡ wire_type field.payload) × (after ≡ is.rest ++ rest)
+same_tag : (bytes after : List ℕ) (number type_number : ℕ) (front rest : List ℕ) (field : WireField) → BeginsWithTag bytes number type_number after
+    → bytes ≡ front ++ rest → (is : IsField front field) → (number ≡ field.number) × (type_number ≡ wire_type field.payload)
+    × (after ≡ is.rest ++ rest)
 same_tag bytes after number type_number front rest field begins parts is =
     let whole : begins.tag.0 ++ after ≡ is.tag ++ (is.rest ++ rest) = sym begins.tag.1 ∙ parts ∙ ap (λ xs. xs ++ rest) is.parts ∙ append_assoc is.tag is.rest rest in
     let tags = one_varint begins.tag.0 is.tag after (is.rest ++ rest) _ _ begins.tag.2 is.tag_is whole in

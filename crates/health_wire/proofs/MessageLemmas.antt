@@ -24,7 +24,9 @@ pub record HasRead {V : Type 0} (meaning : List WireField → V) (bytes rest : L
 pub start : {V : Type 0} (meaning : List WireField → V) (bytes : List ℕ) → HasRead meaning bytes bytes (meaning [])
 start meaning bytes = record { fields = []; reads = ([], refl, refl); value_is = refl }
 
-pub next : {V : Type 0} (meaning : List WireField → V) (bytes rest after : List ℕ) (field : WireField) (value new : V) → HasRead meaning bytes rest value → Begins (λ front. IsField front field) rest after → ((fields : List WireField) → value ≡ meaning fields → new ≡ meaning (fields ++ field ∷ [])) → HasRead meaning bytes after new
+pub next : {V : Type 0} (meaning : List WireField → V) (bytes rest after : List ℕ) (field : WireField) (value new : V)
+    → HasRead meaning bytes rest value → Begins (λ front. IsField front field) rest after
+    → ((fields : List WireField) → value ≡ meaning fields → new ≡ meaning (fields ++ field ∷ [])) → HasRead meaning bytes after new
 next meaning bytes rest after field value new read (front, parts, is) step = record {
   fields = read.fields ++ field ∷ [];
   reads = (
@@ -36,13 +38,15 @@ next meaning bytes rest after field value new read (front, parts, is) step = rec
 }
 
 -- at the end all bytes were read
-pub done : {V : Type 0} (meaning : List WireField → V) (bytes rest : List ℕ) (value : V) → length rest ≡ 0 → HasRead meaning bytes rest value → (fields : List WireField) × IsMessage bytes fields × (value ≡ meaning fields)
+pub done : {V : Type 0} (meaning : List WireField → V) (bytes rest : List ℕ) (value : V) → length rest ≡ 0 → HasRead meaning bytes rest value
+    → (fields : List WireField) × IsMessage bytes fields × (value ≡ meaning fields)
 done meaning bytes rest value empty read =
     let whole : read.reads.0 ≡ bytes = sym (append-nil read.reads.0) ∙ ap (λ xs. read.reads.0 ++ xs) (sym (nil_from_length rest empty)) ∙ sym read.reads.1 in
     (read.fields, let P : List ℕ → Type 0 = λ xs. IsMessage xs read.fields in subst P whole read.reads.2, read.value_is)
 
 -- a rest that begins with no field is the message's fault
-pub stuck : {V : Type 0} (meaning : List WireField → V) (bytes rest : List ℕ) (value : V) (fault : WireFault) → HasRead meaning bytes rest value → 0 < length rest → IsFieldFault rest fault → IsFault bytes fault
+pub stuck : {V : Type 0} (meaning : List WireField → V) (bytes rest : List ℕ) (value : V) (fault : WireFault) → HasRead meaning bytes rest value
+    → 0 < length rest → IsFieldFault rest fault → IsFault bytes fault
 stuck meaning bytes rest value fault read more fault_is = record { fields = read.fields; rest = rest; reads = read.reads; more = more; fault_is = fault_is }
 
 last_or-append : {V : Type 0} (o : Option V) (xs ys : List V) → last_or o (xs ++ ys) ≡ last_or (last_or o xs) ys
@@ -50,7 +54,9 @@ last_or-append o [] ys = refl
 last_or-append o (x ∷ xs) ys = last_or-append (Some x) xs ys
 
 -- what one more field gives, or else what was given until then
-pub last_given-more : {V : Type 0} (given : WireField → Option V) (default : V) (field : WireField) (found : Option V) → given field ≡ found → (value : V) (fields : List WireField) → value ≡ unwrap_or (last_given given fields) default → unwrap_or found value ≡ unwrap_or (last_given given (fields ++ field ∷ [])) default
+pub last_given-more : {V : Type 0} (given : WireField → Option V) (default : V) (field : WireField) (found : Option V) → given field ≡ found
+    → (value : V) (fields : List WireField) → value ≡ unwrap_or (last_given given fields) default
+    → unwrap_or found value ≡ unwrap_or (last_given given (fields ++ field ∷ [])) default
 last_given-more {V} given default field found is value fields value_is =
     let ends : last_given given (fields ++ field ∷ []) ≡ last_or (last_given given fields) (cons_option found []) =
     ap (last_or None) (filter_map-append given fields (field ∷ []))
@@ -63,7 +69,9 @@ last_given-more {V} given default field found is value fields value_is =
     latest (Some new) = refl
 
 -- the same, where the new value is told by the field
-pub given_after : {V : Type 0} (given : WireField → Option V) (default : V) (field : WireField) (value new : V) → new ≡ unwrap_or (given field) value → (fields : List WireField) → value ≡ unwrap_or (last_given given fields) default → new ≡ unwrap_or (last_given given (fields ++ field ∷ [])) default
+pub given_after : {V : Type 0} (given : WireField → Option V) (default : V) (field : WireField) (value new : V) → new ≡ unwrap_or (given field) value
+    → (fields : List WireField) → value ≡ unwrap_or (last_given given fields) default
+    → new ≡ unwrap_or (last_given given (fields ++ field ∷ [])) default
 given_after {V} given default field value new new_is fields value_is = new_is ∙ last_given-more given default field (given field) refl value fields value_is
 
 field_some : (bytes : List ℕ) (field : WireField) → IsField bytes field → 0 < length bytes
@@ -104,7 +112,8 @@ no_message bytes fault fields wrong is =
     no_next rest (f ∷ more) some none (front, after, parts, is, others) = no_field rest front after f none parts is
 
 -- what follows the longest front that is a message is one
-one_rest : (bytes a b x y : List ℕ) (fields others : List WireField) {f g : WireFault} → IsMessage a fields → IsMessage b others → bytes ≡ a ++ x → bytes ≡ b ++ y → IsFieldFault x f → IsFieldFault y g → x ≡ y
+one_rest : (bytes a b x y : List ℕ) (fields others : List WireField) {f g : WireFault} → IsMessage a fields → IsMessage b others → bytes ≡ a ++ x
+    → bytes ≡ b ++ y → IsFieldFault x f → IsFieldFault y g → x ≡ y
 one_rest bytes a b x y [] [] empty_a empty_b parts_a parts_b wrong_x wrong_y =
     sym (parts_a ∙ ap (λ xs. xs ++ x) empty_a) ∙ parts_b ∙ ap (λ xs. xs ++ y) empty_b
 one_rest bytes a b x y [] (g ∷ others) empty_a (front, rest, split, is, more) parts_a parts_b wrong_x wrong_y =

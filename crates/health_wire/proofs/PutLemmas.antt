@@ -2,7 +2,7 @@ use Rattle.std.proofs.Common.{◌≡◌, ℕ, ◌+◌, ◌-◌, ◌*◌, ◌/◌
 use Rattle.std.proofs.Math.Nat.{mul-le-mul_right, div-mul-le_self}
 use Rattle.std.proofs.Math.Pow.{pow-lt}
 use Rattle.std.proofs.lemmas.Bool.{cases_lt}
-use Rattle.std.proofs.lemmas.List.{append-nil, get_or_append_left, get_or_push, length_push}
+use Rattle.std.proofs.lemmas.List.{get_or_append_left, get_or_push, length_push}
 use Rattle.std.proofs.lemmas.Nat.{pow-add}
 use Rattle.health_wire.specs.Parts.{Appends}
 use Rattle.health_wire.specs.Varint.{AllContinue, IsShortestVarint, groups_value}
@@ -15,16 +15,6 @@ pub record HasPut (old out : List ℕ) (value rest : ℕ) : Type 0 where
   pub value_is : (tail : List ℕ) → groups_value tail ≡ rest → groups_value (front ++ tail) ≡ value
   pub needed : 0 < length front → 0 < rest
   pub bound : rest * 2 ^ (7 * length front) ≤ value
-
-pub put_none : (old : List ℕ) (value : ℕ) → HasPut old old value value
-put_none old value = record {
-  front = [];
-  out_is = sym (append-nil old);
-  continues = λ k below. absurd (omega arith);
-  value_is = λ tail is. is;
-  needed = λ some. absurd (omega arith);
-  bound = omega arith;
-}
 
 less_left : (rest value n : ℕ) → rest * 2 ^ (7 * n) ≤ value → rest / 128 * 2 ^ (7 * (n + 1)) ≤ value
 less_left rest value n bound =

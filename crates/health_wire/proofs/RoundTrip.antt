@@ -25,7 +25,8 @@ small_varint value small = record {
 lone_field : (bytes : List ℕ) (field : WireField) → IsField bytes field → IsMessage bytes (field ∷ [])
 lone_field bytes field is = (bytes, [], sym (append-nil bytes), is, refl)
 
-named_message : (bytes : List ℕ) (byte : ℕ) (name : List ℕ) → length (byte ∷ name) < 2 ^ 64 → IsRequestBytes bytes (byte ∷ name) → IsMessage bytes (record { number = 1; payload = Len (byte ∷ name) } ∷ [])
+named_message : (bytes : List ℕ) (byte : ℕ) (name : List ℕ) → length (byte ∷ name) < 2 ^ 64 → IsRequestBytes bytes (byte ∷ name)
+    → IsMessage bytes (record { number = 1; payload = Len (byte ∷ name) } ∷ [])
 named_message bytes byte name fits (len, parts, len_is) =
     lone_field bytes (record { number = 1; payload = Len (byte ∷ name) }) (record {
       tag = 10 ∷ [];

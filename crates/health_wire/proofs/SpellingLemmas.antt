@@ -47,5 +47,6 @@ one_spelling (x ∷ y ∷ a) (z ∷ w ∷ b) value bytes_a bytes_b is_a is_b =
     let first : x ≡ z = omega (arith, is_a.value_is, is_b.value_is, is_a.form.continues 0 (omega arith), is_b.form.continues 0 (omega arith), bytes_a 0, bytes_b 0) in
     let more : groups_value (w ∷ b) ≡ groups_value (y ∷ a) = omega (arith, is_a.value_is, is_b.value_is) in
     let P : ℕ → Type 0 = λ n. IsShortestVarint (w ∷ b) n in
-    let others = one_spelling (y ∷ a) (w ∷ b) (groups_value (y ∷ a)) (λ k. bytes_a (suc k)) (λ k. bytes_b (suc k)) (rest_of_shortest x y a value is_a) (subst P more (rest_of_shortest z w b value is_b)) in
+    let others = one_spelling (y ∷ a) (w ∷ b) (groups_value (y ∷ a)) (λ k. bytes_a (suc k)) (λ k. bytes_b (suc k)) (rest_of_shortest x y a value is_a)
+    (subst P more (rest_of_shortest z w b value is_b)) in
     ap (λ byte. byte ∷ y ∷ a) first ∙ ap (λ bytes. z ∷ bytes) others

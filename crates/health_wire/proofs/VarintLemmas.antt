@@ -1,14 +1,14 @@
-use Rattle.std.proofs.Common.{◌≡◌, ℕ, ◌+◌, ◌-◌, ◌*◌, ◌%◌, ◌^◌, ◌<◌, List, [], ◌∷◌, ◌++◌, length, get_or, take, reverse, refl, sym, ap, ◌∙◌, arith}
+use Rattle.std.proofs.Common.{◌≡◌, ℕ, ◌+◌, ◌-◌, ◌*◌, ◌%◌, ◌^◌, ◌<◌, List, [], ◌∷◌, ◌++◌, length, reverse, refl, sym, ap, ◌∙◌, arith}
 use Rattle.std.specs.List.{fold}
 use Rattle.std.proofs.Math.Nat.{mod-add-mod}
 use Rattle.std.proofs.lemmas.Nat.{mul-mod_first}
-use Rattle.std.proofs.lemmas.List.{get_or-take, length-take-le, reverse-append}
+use Rattle.std.proofs.lemmas.List.{reverse-append}
 use Rattle.std.proofs.lemmas.List.Sums.{fold-append}
 use Rattle.std.proofs.Common.{inl, inr}
 use Rattle.std.proofs.lemmas.Bool.{cases_lt}
 use Rattle.health_wire.specs.declared.fault.WireFault.{WireFault}
 use Rattle.health_wire.proofs.FrontLemmas.{byte_of_front, front_within, one_split}
-use Rattle.health_wire.specs.Varint.{AllContinue, IsVarintForm, IsVarint, IsVarintFault, groups_value}
+use Rattle.health_wire.specs.Varint.{IsVarintForm, IsVarint, IsVarintFault, groups_value}
 use Rattle.health_wire.specs.Varint.IsVarintFault.{Cut, Endless}
 
 -- one more group, below the groups that are read already, as 64 bits hold it
@@ -27,18 +27,6 @@ fold-onto (byte ∷ bytes) =
     ∙ fold-append onto 0 (reverse bytes) (byte ∷ [])
     ∙ ap (λ high. onto high byte) (fold-onto bytes)
     ∙ onto_mod (groups_value bytes) (byte % 128) (2 ^ 64)
-
--- the front up to and with the first byte that does not go on has the form
-pub form_to_first_end : (bytes : List ℕ) (i : ℕ) → i < 10 → i < length bytes → AllContinue bytes i → get_or bytes i 0 < 128 → IsVarintForm (take (i + 1) bytes)
-form_to_first_end bytes i few within goes_on ends =
-    let len : length (take (i + 1) bytes) ≡ i + 1 = length-take-le (i + 1) bytes (omega arith) in
-    let at = λ (k : ℕ) (below : k < i + 1). get_or-take (i + 1) bytes k 0 below in
-    record {
-      some = omega arith;
-      most = omega arith;
-      continues = λ k below. rw (at k (omega arith)) (goes_on k (omega arith));
-      ends = rw (len, at (i + 1 - 1) (omega arith)) (let same : i + 1 - 1 ≡ i = omega arith in rw same ends);
-    }
 
 -- no varint begins a longer one
 not_longer : (a b x y : List ℕ) → IsVarintForm a → IsVarintForm b → a ++ x ≡ b ++ y → length a < length b → ⊥

@@ -66,7 +66,8 @@ pub data IsPayloadFault (bytes : List ℕ) : ℕ → WireFault → Type 0 where
 pub data IsFieldFault (bytes : List ℕ) : WireFault → Type 0 where
   NoTag : (fault : WireFault) → IsVarintFault bytes fault → IsFieldFault bytes fault
   NoNumber : (number type_number : ℕ) (rest : List ℕ) → BeginsWithTag bytes number type_number rest → (IsFieldNumber number → ⊥) → IsFieldFault bytes BadTag
-  NoPayload : (fault : WireFault) (number type_number : ℕ) (rest : List ℕ) → BeginsWithTag bytes number type_number rest → IsFieldNumber number → IsPayloadFault rest type_number fault → IsFieldFault bytes fault
+  NoPayload : (fault : WireFault) (number type_number : ℕ) (rest : List ℕ) → BeginsWithTag bytes number type_number rest → IsFieldNumber number
+      → IsPayloadFault rest type_number fault → IsFieldFault bytes fault
 
 -- a payload that was read, apart from where it lies in memory
 abbrev pub payload_of : Value → Payload

@@ -1,4 +1,5 @@
-use Rattle.std.proofs.Common.{◌≡◌, ℕ, zero, suc, ◌+◌, ◌==◌, ◌<◌, ◌≤◌, ◌&&◌, ◌||◌, min, not, nat_le, nat_lt, cond, Bool, true, false, List, [], ◌∷◌, ◌++◌, length, take, drop, refl, sym, ap, subst, ◌∙◌, inl, inr, ◌⊎◌, arith, length-append}
+use Rattle.std.proofs.Common.{◌≡◌, ℕ, zero, suc, ◌+◌, ◌==◌, ◌<◌, ◌≤◌, ◌&&◌, ◌||◌, min, not, nat_le, nat_lt, cond, Bool, true, false, List, [], ◌∷◌}
+use Rattle.std.proofs.Common.{◌++◌, length, take, drop, refl, sym, ap, subst, ◌∙◌, inl, inr, ◌⊎◌, arith, length-append}
 use Rattle.std.specs.List.{list_all, prefix_len, range_with_len, Any}
 use Rattle.std.proofs.lemmas.Bool.{cases_lt, lt-ltb, le-ltb, le-leb, lt-leb, eqb-true, eq-eqb, false≢true}
 use Rattle.std.proofs.lemmas.List.{take-append-drop}
@@ -38,7 +39,8 @@ newest_are-row is zero events = rw (le-leb zero (length events) (omega arith), l
 newest_are-row is (suc count) [] = rw (lt-leb (suc count) 0 (omega arith)) refl
 newest_are-row is (suc count) (newest ∷ older) = by_test (is newest) refl (newest_are-row is count older)
   where
-    by_test : (b : Bool) → is newest ≡ b → newest_are is count older ≡ nat_le count (prefix_len is older) → newest_are is (suc count) (newest ∷ older) ≡ nat_le (suc count) (prefix_len is (newest ∷ older))
+    by_test : (b : Bool) → is newest ≡ b → newest_are is count older ≡ nat_le count (prefix_len is older)
+        → newest_are is (suc count) (newest ∷ older) ≡ nat_le (suc count) (prefix_len is (newest ∷ older))
     by_test true holds row = rw (holds, suc_le count (length older), one_le count (prefix_len is older)) row
     by_test false isnt row = rw (isnt, and_false (nat_le (suc count) (suc (length older)))) (sym (lt-leb (suc count) 0 (omega arith)))
 
@@ -56,7 +58,8 @@ not_true false is = refl
 
 -- a kind that the newest event is not of
 no_row : (is : Event → Bool) (count : ℕ) (newest : Event) (older : List Event) → 1 ≤ count → is newest ≡ false → newest_are is count (newest ∷ older) ≡ false
-no_row is count newest older some isnt = newest_are-row is count (newest ∷ older) ∙ lt-leb count (prefix_len is (newest ∷ older)) (omega (arith, some, ap (λ b. cond b (1 + prefix_len is older) 0) isnt))
+no_row is count newest older some isnt = newest_are-row is count (newest ∷ older)
+    ∙ lt-leb count (prefix_len is (newest ∷ older)) (omega (arith, some, ap (λ b. cond b (1 + prefix_len is older) 0) isnt))
 
 -- a point from which the service is down
 record IsDown (fall rise : ℕ) (events : List Event) : Type 0 where
@@ -289,7 +292,8 @@ memory_opens Manual = refl
 memory_opens (Depends mask) = refl
 
 -- the count after one more event that fits
-count_more : (rule : Rule) (event : Event) (events : List Event) → is_in_range rule ≡ true → fits rule event ≡ true → count_after rule (event ∷ events) ≡ count_next rule event (count_after rule events)
+count_more : (rule : Rule) (event : Event) (events : List Event) → is_in_range rule ≡ true → fits rule event ≡ true
+    → count_after rule (event ∷ events) ≡ count_next rule event (count_after rule events)
 count_more (Threshold fall rise start) Pass events counts fit =
     let both = and_parts (is_count fall) (is_count rise) counts in
     after_pass fall rise start events (some_count fall both.0) (some_count rise both.1)
@@ -368,7 +372,8 @@ memory_counted Manual events counts = refl
 memory_counted (Depends mask) events counts = refl
 
 -- the memory after one more event that fits
-pub memory_more : (rule : Rule) (event : Event) (events : List Event) → is_in_range rule ≡ true → fits rule event ≡ true → memory_after rule (event ∷ events) ≡ memory_next rule event (memory_after rule events)
+pub memory_more : (rule : Rule) (event : Event) (events : List Event) → is_in_range rule ≡ true → fits rule event ≡ true
+    → memory_after rule (event ∷ events) ≡ memory_next rule event (memory_after rule events)
 memory_more rule event events counts fit =
     ap (λ b. cond b (opening_memory rule) (count_after rule (event ∷ events))) (and_false (starts_unknown rule))
     ∙ count_more rule event events counts fit
@@ -387,7 +392,8 @@ and_true : (b : Bool) → b ≡ (b && true)
 and_true true = refl
 and_true false = refl
 
-pub memory_tells : (rule : Rule) (events : List Event) → is_in_range rule ≡ true → all_fit rule events ≡ true → is_up_at rule (memory_after rule events) ≡ (is_up rule events && not (is_unknown rule events))
+pub memory_tells : (rule : Rule) (events : List Event) → is_in_range rule ≡ true → all_fit rule events ≡ true
+    → is_up_at rule (memory_after rule events) ≡ (is_up rule events && not (is_unknown rule events))
 memory_tells (Threshold fall rise starts.Up) events counts fit =
     threshold_tells fall rise starts.Up events (some_count rise (and_parts (is_count fall) (is_count rise) counts).1) ∙ and_true (not (is_down fall rise events))
 memory_tells (Threshold fall rise starts.Unknown) [] counts fit =

@@ -9,7 +9,6 @@ pub enum Step {
     /// Changes what a key holds.
     Change(usize, u32),
     Admit(usize),
-    IsAdmitted(usize),
     Remove(usize),
     NextKey(usize),
 }
@@ -47,7 +46,6 @@ fn make(table: &mut Table<u32>, step: Step) -> Answer {
         Step::Get(key) => Answer::Holds(table.get(key).copied()),
         Step::Change(key, connection) => Answer::Is(change(table, key, connection)),
         Step::Admit(key) => Answer::Is(table.admit(key)),
-        Step::IsAdmitted(key) => Answer::Is(table.is_admitted(key)),
         Step::Remove(key) => Answer::Holds(table.remove(key)),
         Step::NextKey(from) => Answer::Next(table.next_key(from)),
     }

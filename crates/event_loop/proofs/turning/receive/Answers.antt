@@ -38,7 +38,8 @@ loop-reads-preserved g c =
     let goes = c.read_some.ensures.goes c.in-More.is in record {
       received = (
         before.0 ++ read.0,
-        subst (λ l. HasRead (g.R.Read.remaining (link_inner c.args.reader.now)) (g.R.Read.remaining (link_inner c.read_some.new.reader)) c.args.call.now c.read_some.new.call (before.0 ++ read.0) l) none
+        subst (λ l. HasRead (g.R.Read.remaining (link_inner c.args.reader.now)) (g.R.Read.remaining (link_inner c.read_some.new.reader))
+            c.args.call.now c.read_some.new.call (before.0 ++ read.0) l) none
             (read_more c.loop-reads.invariant.is_open before.1 read.2),
         omega (arith, length-append before.0 read.0, before.2, read.3 c.in-More.is),
       );

@@ -8,14 +8,23 @@ loop-writes-init g c = record { written = ([], written_none c.args.call.now, ome
 pub returns-then-not-send_some-clause-written : goal.returns-then-not-send_some-clause-written
 returns-then-not-send_some-clause-written g c =
     let before = c.loop-writes.invariant.written in
-    let written = c.send_some.ensures.written in
-    (before.0 ++ written.0, written_more before.1 written.1, λ left went. has_not_stopped _ (c.if-not-send_some.ensures.stops left) went, omega (arith, length-append before.0 written.0, before.3, written.3))
+    let written = c.send_some.ensures.written in (
+      before.0 ++ written.0,
+      written_more before.1 written.1,
+      λ left went. has_not_stopped _ (c.if-not-send_some.ensures.stops left) went,
+      omega (arith, length-append before.0 written.0, before.3, written.3),
+    )
 
 pub loop-writes-preserved : goal.loop-writes-preserved
 loop-writes-preserved g c =
     let before = c.loop-writes.invariant.written in
     let written = c.if-not-send_some.ensures.written in record {
-      written = (before.0 ++ written.0, written_more before.1 written.1, omega (arith, length-append before.0 written.0, before.2, written.2), omega (arith, length-append before.0 written.0, before.3, written.3));
+      written = (
+        before.0 ++ written.0,
+        written_more before.1 written.1,
+        omega (arith, length-append before.0 written.0, before.2, written.2),
+        omega (arith, length-append before.0 written.0, before.3, written.3),
+      );
       fresh = search rules;
       watching = c.send_some.ensures.watching ∙ c.loop-writes.invariant.watching;
       ending = c.send_some.ensures.ending ∙ c.loop-writes.invariant.ending;

@@ -2,7 +2,8 @@ use Rattle.std.proofs.Common.{◌≡◌, ◌++◌, true, [], length, length-appe
 use Rattle.event_loop.specs.Link.{link_last}
 use Rattle.event_loop.specs.Turn.{Moved, moved_by}
 use Rattle.web_call.specs.Stages.{is_open}
-use Rattle.event_loop.proofs.TurnLemmas.{answered_is_closed, asks_none, ending_lasts, has_turned, leaves_more, leaves_wanting, open_has_no_ending, starved_is_closed, told_asked, told_named, told_none, told_then}
+use Rattle.event_loop.proofs.TurnLemmas.{answered_is_closed, asks_none, ending_lasts, has_turned, leaves_more, leaves_wanting, open_has_no_ending}
+use Rattle.event_loop.proofs.TurnLemmas.{starved_is_closed, told_asked, told_named, told_none, told_then}
 use Rattle.event_loop.proofs.turning.turn.Goals as goal
 
 pub returns-then-wanted-gt0-clause-turned : goal.returns-then-wanted-gt0-clause-turned

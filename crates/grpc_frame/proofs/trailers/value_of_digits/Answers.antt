@@ -8,7 +8,11 @@ overflow_mul-number c =
 
 pub overflow_add-number : goal.overflow_add-number
 overflow_add-number c =
-    omega (arith, stays_small c.args.digits.now c.loop-digit.digit-index c.loop-digit.number c.from.result c.requires.digits c.requires.short c.loop-digit-test.true c.loop-digit.invariant c.from.ensures)
+    omega (
+      arith,
+      stays_small c.args.digits.now c.loop-digit.digit-index c.loop-digit.number c.from.result c.requires.digits c.requires.short
+          c.loop-digit-test.true c.loop-digit.invariant c.from.ensures,
+    )
 
 pub loop-digit-preserved : goal.loop-digit-preserved
 loop-digit-preserved c =
