@@ -1,5 +1,6 @@
 -- Statuses in one word, two bits each.
-use Rattle.std.proofs.Common.{◌≡◌, ◌≢◌, ℕ, zero, suc, ◌+◌, ◌-◌, ◌*◌, ◌/◌, ◌%◌, ◌^◌, ◌<◌, ◌≤◌, ◌==◌, Bool, true, false, if◌then◌else◌, Option, None, Some, refl, sym, ap, ◌∙◌, inl, inr, ◌⊎◌, add_comm, mul_comm, arith}
+use Rattle.std.proofs.Common.{◌≡◌, ◌≢◌, ℕ, zero, suc, ◌+◌, ◌-◌, ◌*◌, ◌/◌, ◌%◌, ◌^◌, ◌<◌, ◌≤◌, ◌==◌, Bool, true, false, if◌then◌else◌, Option, None}
+use Rattle.std.proofs.Common.{Some, refl, sym, ap, ◌∙◌, inl, inr, ◌⊎◌, add_comm, mul_comm, arith}
 use Rattle.std.proofs.Math.Nat.{mul_assoc, pow-le-pow_right, pow-suc, mul-le-mul_right, mod-one, div-eq_of_lt, add-mul-div_right}
 use Rattle.std.proofs.Math.Arith.{mod-mul}
 use Rattle.std.proofs.lemmas.Nat.{pow-add, pow_pos, mul-pow}

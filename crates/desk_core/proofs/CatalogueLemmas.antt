@@ -55,7 +55,8 @@ HasNoDouble-from_test (first ∷ others) none (suc i) (suc j) name at again =
     ap suc (HasNoDouble-from_test others (or_parts _ _ none).1 i j name at again)
 
 -- a name behind the first is not the first
-differs : (answer : Bool) (first : List ℕ) (others : List (List ℕ)) (k : ℕ) (d : List ℕ) → HasNoDouble (first ∷ others) → k < length others → bytes_eq (get_or others k d) first ≡ answer → answer ≡ false
+differs : (answer : Bool) (first : List ℕ) (others : List (List ℕ)) (k : ℕ) (d : List ℕ) → HasNoDouble (first ∷ others) → k < length others
+    → bytes_eq (get_or others k d) first ≡ answer → answer ≡ false
 differs false first others k d distinct within is = refl
 differs true first others k d distinct within is =
     let same : get_or others k d ≡ first = (bytes_eq-Decides (get_or others k d) first).0 is in
@@ -134,7 +135,8 @@ fault_in-IsCatalogue names is =
     rw (some, few, has_too_long-All names is.short, has_double-HasNoDouble names is.distinct, has_empty_name-Contains names is.has_empty) refl
 
 -- before its slot a name does not stand
-differs_before : (answer : Bool) (names : List (List ℕ)) (name : List ℕ) (i k : ℕ) → HasNoDouble names → name_at names i ≡ Some name → i < length names → k < i → bytes_eq name (get_or names k []) ≡ answer → answer ≡ false
+differs_before : (answer : Bool) (names : List (List ℕ)) (name : List ℕ) (i k : ℕ) → HasNoDouble names → name_at names i ≡ Some name
+    → i < length names → k < i → bytes_eq name (get_or names k []) ≡ answer → answer ≡ false
 differs_before false names name i k distinct at within below is = refl
 differs_before true names name i k distinct at within below is =
     let same : name ≡ get_or names k [] = (bytes_eq-Decides name (get_or names k [])).0 is in

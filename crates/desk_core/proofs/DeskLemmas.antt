@@ -1,5 +1,6 @@
 -- What a desk keeps, before and after an entry.
-use Rattle.std.proofs.Common.{◌≡◌, ◌≢◌, ℕ, zero, suc, ◌^◌, ◌<◌, ◌≤◌, ◌==◌, ◌&&◌, Bool, true, false, if◌then◌else◌, Option, None, Some, unwrap_or, List, [], ◌∷◌, ◌++◌, length, get_or, set, replicate, Ok, Err, refl, sym, ap, subst, ◌∙◌, inl, inr, ◌⊎◌, arith}
+use Rattle.std.proofs.Common.{◌≡◌, ◌≢◌, ℕ, zero, suc, ◌^◌, ◌<◌, ◌≤◌, ◌==◌, ◌&&◌, Bool, true, false, if◌then◌else◌, Option, None, Some, unwrap_or}
+use Rattle.std.proofs.Common.{List, [], ◌∷◌, ◌++◌, length, get_or, set, replicate, Ok, Err, refl, sym, ap, subst, ◌∙◌, inl, inr, ◌⊎◌, arith}
 use Rattle.std.specs.Option.{option_map, option_or}
 use Rattle.std.proofs.lemmas.Bool.{eqb-true, eqb-false, eq-eqb, cases_lt}
 use Rattle.std.proofs.lemmas.List.{length-reverse, get_or-set_other}
@@ -222,7 +223,8 @@ related_change Resume journal new seat reply old dependents is same related =
     rw same (related_same journal new (entry_of seat Resume reply) old is (λ i. refl) related)
 
 -- one more entry, with the statuses, the masks and the changes that it led to
-pub is_desk_more : (slots after_slots : List (Option (Rule × ℕ))) (shut now : Bool) (journal new : List Entry) (old kept changes : List Change) (old_statuses statuses : ℕ) (old_dependents dependents : List ℕ) (max_entries at : ℕ) (entry : Entry)
+pub is_desk_more : (slots after_slots : List (Option (Rule × ℕ))) (shut now : Bool) (journal new : List Entry) (old kept changes : List Change)
+    (old_statuses statuses : ℕ) (old_dependents dependents : List ℕ) (max_entries at : ℕ) (entry : Entry)
     → IsDesk slots shut journal old old_statuses old_dependents max_entries → Keeps after_slots now new max_entries
     → new ≡ journal ++ entry ∷ [] → at ≡ length journal → kept ≡ old
     → statuses ≡ packed (status_at (past new)) 16 → HasDependents (rule_at (past new)) dependents
@@ -272,7 +274,9 @@ is_desk_new max_entries statuses slots journal changes dependents keeps slots_is
     })
 
 -- an entry is added, its change is made, and what it touched is shown
-pub is_desk_changed : (slots room after : List (Option (Rule × ℕ))) (shut now : Bool) (journal new last : List Entry) (old kept changes : List Change) (old_statuses kept_statuses statuses : ℕ) (old_dependents kept_dependents dependents : List ℕ) (max_entries at seat : ℕ) (call : Call) (reply : Reply)
+pub is_desk_changed : (slots room after : List (Option (Rule × ℕ))) (shut now : Bool) (journal new last : List Entry) (old kept changes : List Change)
+    (old_statuses kept_statuses statuses : ℕ) (old_dependents kept_dependents dependents : List ℕ) (max_entries at seat : ℕ)
+    (call : Call) (reply : Reply)
     → IsDesk slots shut journal old old_statuses old_dependents max_entries → HasSame slots room
     → length journal < max_entries → IsLawfulCall call → reply ≡ reply_to (past journal) call
     → new ≡ journal ++ entry_of seat call reply ∷ [] → last ≡ new → at ≡ length journal → kept ≡ old
@@ -290,7 +294,8 @@ is_desk_changed slots room after shut now journal new last old kept changes old_
     let cached = shows slots shut journal new max_entries desk.parts keeps related (leaves_change call reply slots room after shut now same applied now_is) (statuses_is ∙ desk.cached) in
     let told_too = told ∙ ap (λ word. kept ++ changed at (shown_in word) (shown_in statuses) 16) statuses_is in
     subst Journal (sym last_is)
-    (is_desk_more slots after shut now journal new old kept changes old_statuses statuses old_dependents dependents max_entries at (entry_of seat call reply) desk keeps is at_is kept_is cached related told_too)
+    (is_desk_more slots after shut now journal new old kept changes old_statuses statuses old_dependents dependents
+    max_entries at (entry_of seat call reply) desk keeps is at_is kept_is cached related told_too)
 
 -- a change that was taken
 pub has_answered : (old new : State) (seat : ℕ) (call : Call) (reply : Reply) → IsLawfulCall call → length old.journal < old.max_entries
@@ -310,7 +315,8 @@ unanswered old inside new seat call is same most why = record {
 }
 
 -- more room for probes, and nothing else
-pub is_desk_room : (slots room : List (Option (Rule × ℕ))) (shut : Bool) (journal last : List Entry) (old changes : List Change) (old_statuses statuses : ℕ) (old_dependents dependents : List ℕ) (max_entries : ℕ)
+pub is_desk_room : (slots room : List (Option (Rule × ℕ))) (shut : Bool) (journal last : List Entry) (old changes : List Change)
+    (old_statuses statuses : ℕ) (old_dependents dependents : List ℕ) (max_entries : ℕ)
     → IsDesk slots shut journal old old_statuses old_dependents max_entries → HasSame slots room
     → last ≡ journal → changes ≡ old → statuses ≡ old_statuses → dependents ≡ old_dependents
     → IsDesk room shut last changes statuses dependents max_entries

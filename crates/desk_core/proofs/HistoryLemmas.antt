@@ -1,4 +1,5 @@
-use Rattle.std.proofs.Common.{◌≡◌, ℕ, ◌^◌, ◌<◌, ◌==◌, ◌&&◌, not, if◌then◌else◌, Bool, true, false, Option, None, Some, unwrap_or, List, [], ◌∷◌, ◌++◌, length, zero, suc, map, get_or, set, inl, inr, refl, sym, ap, subst, ◌∙◌, arith}
+use Rattle.std.proofs.Common.{◌≡◌, ℕ, ◌^◌, ◌<◌, ◌==◌, ◌&&◌, not, if◌then◌else◌, Bool, true, false, Option, None, Some, unwrap_or, List, [], ◌∷◌, ◌++◌}
+use Rattle.std.proofs.Common.{length, zero, suc, map, get_or, set, inl, inr, refl, sym, ap, subst, ◌∙◌, arith}
 use Rattle.std.specs.Option.{option_map, option_or}
 use Rattle.std.proofs.lemmas.List.{reverse-append, length_push, get_or-set_same, get_or-set_other, set_past, get_or_past}
 use Rattle.std.proofs.lemmas.Bool.{eqb-true, eqb-false, cases_lt}
@@ -28,7 +29,10 @@ pub past_more : (journal : List Entry) (entry : Entry) → past (journal ++ entr
 past_more journal entry = reverse-append journal (entry ∷ [])
 
 -- one more legal entry, and parts that are as it says
-pub keeps_more : (slots after : List (Option (Rule × ℕ))) (shut now : Bool) (journal new : List Entry) (max_entries : ℕ) (entry : Entry) → Keeps slots shut journal max_entries → length journal < max_entries → new ≡ journal ++ entry ∷ [] → entry.reply ≡ reply_to (past journal) entry.call → IsLawfulCall entry.call → now ≡ is_shut (entry ∷ past journal) → ((i : ℕ) → i < 16 → get_or after i None ≡ probe_at (entry ∷ past journal) i) → Keeps after now new max_entries
+pub keeps_more : (slots after : List (Option (Rule × ℕ))) (shut now : Bool) (journal new : List Entry) (max_entries : ℕ) (entry : Entry)
+    → Keeps slots shut journal max_entries → length journal < max_entries → new ≡ journal ++ entry ∷ []
+    → entry.reply ≡ reply_to (past journal) entry.call → IsLawfulCall entry.call → now ≡ is_shut (entry ∷ past journal)
+    → ((i : ℕ) → i < 16 → get_or after i None ≡ probe_at (entry ∷ past journal) i) → Keeps after now new max_entries
 keeps_more slots after shut now journal new max_entries entry keeps below is reply lawful shut_is each =
     let later : past new ≡ entry ∷ past journal = ap past is ∙ past_more journal entry in
     let Legal : List Entry → Type 0 = λ entries. IsLegal entries in
@@ -51,10 +55,14 @@ set_cases xs slot i value below = by_test (slot == i) refl
     by_test false is = get_or-set_other xs slot i value None (λ same. eqb-false slot i is (sym same))
 
 -- after a registration
-pub probe_at-register : (seat slot i : ℕ) (rule : Rule) (reply : Reply) (older : List Entry) → probe_at (record { seat = seat; call = Register slot rule; reply = reply } ∷ older) i ≡ (if slot == i then Some (rule, memory_after rule []) else probe_at older i)
+pub probe_at-register : (seat slot i : ℕ) (rule : Rule) (reply : Reply) (older : List Entry)
+    → probe_at (record { seat = seat; call = Register slot rule; reply = reply } ∷ older) i
+    ≡ (if slot == i then Some (rule, memory_after rule []) else probe_at older i)
 probe_at-register seat slot i rule reply older = by_test (slot == i)
   where
-    by_test : (b : Bool) → option_map (λ r. (r, memory_after r (if b then [] else heard older i r))) (unwrap_or (option_or (if b then Some (Some rule) else None) (last_said (says_rule i) older)) None) ≡ (if b then Some (rule, memory_after rule []) else probe_at older i)
+    by_test : (b : Bool) → option_map (λ r. (r, memory_after r (if b then [] else heard older i r)))
+        (unwrap_or (option_or (if b then Some (Some rule) else None) (last_said (says_rule i) older)) None)
+        ≡ (if b then Some (rule, memory_after rule []) else probe_at older i)
     by_test true = refl
     by_test false = refl
 
@@ -73,7 +81,8 @@ keeps_register slots after shut journal new max_entries seat slot rule reply kee
     ∙ sym (probe_at-register seat slot i rule reply (past journal)))
 
 -- a write of a value that none becomes none: past the end nothing is written, and nothing stands there
-set_by_cases : (change : Option (Rule × ℕ) → Option (Rule × ℕ)) → change None ≡ None → (xs : List (Option (Rule × ℕ))) (slot i : ℕ) → get_or (set xs slot (change (get_or xs slot None))) i None ≡ (if slot == i then change (get_or xs i None) else get_or xs i None)
+set_by_cases : (change : Option (Rule × ℕ) → Option (Rule × ℕ)) → change None ≡ None → (xs : List (Option (Rule × ℕ))) (slot i : ℕ)
+    → get_or (set xs slot (change (get_or xs slot None))) i None ≡ (if slot == i then change (get_or xs i None) else get_or xs i None)
 set_by_cases change none xs slot i = by_test (slot == i) refl
   where
     by_test : (b : Bool) → (slot == i) ≡ b → get_or (set xs slot (change (get_or xs slot None))) i None ≡ (if b then change (get_or xs i None) else get_or xs i None)
@@ -91,10 +100,12 @@ set_by_cases change none xs slot i = by_test (slot == i) refl
     by_test false is = get_or-set_other xs slot i (change (get_or xs slot None)) None (λ same. eqb-false slot i is (sym same))
 
 -- after a retirement
-probe_at-retire : (seat slot i : ℕ) (reply : Reply) (older : List Entry) → probe_at (record { seat = seat; call = Retire slot; reply = reply } ∷ older) i ≡ (if slot == i then None else probe_at older i)
+probe_at-retire : (seat slot i : ℕ) (reply : Reply) (older : List Entry)
+    → probe_at (record { seat = seat; call = Retire slot; reply = reply } ∷ older) i ≡ (if slot == i then None else probe_at older i)
 probe_at-retire seat slot i reply older = by_test (slot == i)
   where
-    by_test : (b : Bool) → option_map (λ r. (r, memory_after r (heard older i r))) (unwrap_or (option_or (if b then Some None else None) (last_said (says_rule i) older)) None) ≡ (if b then None else probe_at older i)
+    by_test : (b : Bool) → option_map (λ r. (r, memory_after r (heard older i r)))
+        (unwrap_or (option_or (if b then Some None else None) (last_said (says_rule i) older)) None) ≡ (if b then None else probe_at older i)
     by_test true = refl
     by_test false = refl
 
@@ -153,16 +164,21 @@ heard_done : (slot i : ℕ) (event : Event) (older : List Entry) → IsLegal old
     → states (λ r. with_event r (is_shut older) (if slot == i then Some event else None) (heard older i r)) (rule_at older i) ≡ (if slot == i then noted event (probe_at older i) else probe_at older i)
 heard_done slot i event older legal replied = by_test (slot == i) refl
   where
-    by_fit : (rule : Rule) (fit shut : Bool) → is_in_range rule ≡ true → fits rule event ≡ fit → (if fit then (if shut then Ignored else Done) else WrongKind) ≡ Done → state_of rule (if not shut && fit then event ∷ heard older i rule else heard older i rule) ≡ (rule, memory_next rule event (memory_after rule (heard older i rule)))
+    by_fit : (rule : Rule) (fit shut : Bool) → is_in_range rule ≡ true → fits rule event ≡ fit
+        → (if fit then (if shut then Ignored else Done) else WrongKind) ≡ Done
+        → state_of rule (if not shut && fit then event ∷ heard older i rule else heard older i rule)
+        ≡ (rule, memory_next rule event (memory_after rule (heard older i rule)))
     by_fit rule true true counts fit_is is = cc
     by_fit rule true false counts fit_is is = ap (λ m. (rule, m)) (memory_more rule event (heard older i rule) counts fit_is)
     by_fit rule false shut counts fit_is is = cc
 
-    at_slot : (o : Option Rule) (shut : Bool) → rule_at older i ≡ o → reply_to_event o shut event ≡ Done → states (λ r. with_event r shut (Some event) (heard older i r)) o ≡ noted event (states (heard older i) o)
+    at_slot : (o : Option Rule) (shut : Bool) → rule_at older i ≡ o → reply_to_event o shut event ≡ Done
+        → states (λ r. with_event r shut (Some event) (heard older i r)) o ≡ noted event (states (heard older i) o)
     at_slot None shut said is = refl
     at_slot (Some rule) shut said is = ap Some (by_fit rule (fits rule event) shut (rule_in_range older i rule legal said) refl is)
 
-    by_test : (b : Bool) → (slot == i) ≡ b → states (λ r. with_event r (is_shut older) (if b then Some event else None) (heard older i r)) (rule_at older i) ≡ (if b then noted event (probe_at older i) else probe_at older i)
+    by_test : (b : Bool) → (slot == i) ≡ b → states (λ r. with_event r (is_shut older) (if b then Some event else None) (heard older i r))
+        (rule_at older i) ≡ (if b then noted event (probe_at older i) else probe_at older i)
     by_test true is = let same : slot ≡ i = eqb-true slot i is in at_slot (rule_at older i) (is_shut older) refl (rw (← same) replied)
     by_test false is = refl
 
@@ -171,7 +187,8 @@ heard_by_none : (slot i : ℕ) (event : Event) (older : List Entry) → (reply_t
     → states (λ r. with_event r (is_shut older) (if slot == i then Some event else None) (heard older i r)) (rule_at older i) ≡ probe_at older i
 heard_by_none slot i event older replied = by_test (slot == i) refl
   where
-    by_fit : (rule : Rule) (fit shut : Bool) → ((if fit then (if shut then Ignored else Done) else WrongKind) ≡ Done → ⊥) → state_of rule (if not shut && fit then event ∷ heard older i rule else heard older i rule) ≡ state_of rule (heard older i rule)
+    by_fit : (rule : Rule) (fit shut : Bool) → ((if fit then (if shut then Ignored else Done) else WrongKind) ≡ Done → ⊥)
+        → state_of rule (if not shut && fit then event ∷ heard older i rule else heard older i rule) ≡ state_of rule (heard older i rule)
     by_fit rule true true not_done = refl
     by_fit rule true false not_done = absurd (not_done refl)
     by_fit rule false true not_done = refl
@@ -242,9 +259,11 @@ keeps_change (Register slot rule) slots after shut now journal new max_entries s
 keeps_change (Retire slot) slots after shut now journal new max_entries seat reply keeps below lawful reply_is is applied now_is =
     rw now_is (keeps_retire slots after shut journal new max_entries seat slot reply keeps below reply_is is applied)
 keeps_change (Observe slot finding) slots after shut now journal new max_entries seat reply keeps below lawful reply_is is applied now_is =
-    rw now_is (keeps_event slots after shut journal new max_entries slot (event_of_finding finding) (entry_of seat (Observe slot finding) reply) keeps below is reply_is lawful refl refl (λ i. refl) applied)
+    rw now_is (keeps_event slots after shut journal new max_entries slot (event_of_finding finding) (entry_of seat (Observe slot finding) reply) keeps
+    below is reply_is lawful refl refl (λ i. refl) applied)
 keeps_change (Set slot setting) slots after shut now journal new max_entries seat reply keeps below lawful reply_is is applied now_is =
-    rw now_is (keeps_event slots after shut journal new max_entries slot (event_of_setting setting) (entry_of seat (Set slot setting) reply) keeps below is reply_is lawful refl refl (λ i. refl) applied)
+    rw now_is (keeps_event slots after shut journal new max_entries slot (event_of_setting setting) (entry_of seat (Set slot setting) reply) keeps
+    below is reply_is lawful refl refl (λ i. refl) applied)
 keeps_change Shutdown slots after shut now journal new max_entries seat reply keeps below lawful reply_is is applied now_is =
     rw now_is (keeps_shutdown slots after shut journal new max_entries seat reply keeps below reply_is is applied)
 keeps_change Resume slots after shut now journal new max_entries seat reply keeps below lawful reply_is is applied now_is =

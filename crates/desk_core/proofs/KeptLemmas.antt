@@ -1,5 +1,6 @@
 -- How many changes a journal can have, and which of them are kept.
-use Rattle.std.proofs.Common.{ℕ, Option, Some, None, zero, suc, ◌≡◌, ◌+◌, ◌-◌, ◌*◌, ◌<◌, ◌≤◌, Bool, true, false, if◌then◌else◌, List, [], ◌∷◌, ◌++◌, length, take, drop, sym, ap, ◌∙◌, inl, inr, ◌⊎◌, arith, length-append}
+use Rattle.std.proofs.Common.{ℕ, Option, Some, None, zero, suc, ◌≡◌, ◌+◌, ◌-◌, ◌*◌, ◌<◌, ◌≤◌, Bool, true, false, if◌then◌else◌, List, [], ◌∷◌, ◌++◌}
+use Rattle.std.proofs.Common.{length, take, drop, sym, ap, ◌∙◌, inl, inr, ◌⊎◌, arith, length-append}
 use Rattle.std.proofs.lemmas.List.{length-reverse, take_all}
 use Rattle.std.proofs.Math.Seq.{drop-nil}
 use Rattle.health_wire.specs.declared.serving.Serving.{Serving}

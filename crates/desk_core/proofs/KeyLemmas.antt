@@ -1,5 +1,6 @@
 -- Names as the keys of a set: what a test of the strings says of their bytes, and that inserted in turn they stay in order.
-use Rattle.std.proofs.Common.{ℕ, ◌≡◌, ◌+◌, ◌-◌, ◌<◌, ◌≤◌, ◌↔◌, ◌||◌, not, Bool, false, List, [], ◌∷◌, length, take, drop, get_or, map, refl, ap, ◌∙◌, sym, arith, String, string_bytes, Option, Some, None, IsSome, IfSome}
+use Rattle.std.proofs.Common.{ℕ, ◌≡◌, ◌+◌, ◌-◌, ◌<◌, ◌≤◌, ◌↔◌, ◌||◌, not, Bool, false, List, [], ◌∷◌, length, take, drop, get_or, map, refl, ap, ◌∙◌}
+use Rattle.std.proofs.Common.{sym, arith, String, string_bytes, Option, Some, None, IsSome, IfSome}
 use Rattle.std.proofs.Math.Seq.{take-length}
 use Rattle.std.proofs.lemmas.Bool.{or_parts}
 use Rattle.std.proofs.lemmas.List.{length-map}
@@ -47,7 +48,8 @@ module _ {Z : Type 0} where
       rw (rest, take-length others, same, list_any-map (λ other. bytes_eq other (string_bytes first)) string_bytes others) refl
 
   -- strings of different bytes are different keys
-  apart : (name : String Z) (others : List (String Z)) → list_any (λ other. bytes_eq other (string_bytes name)) (map string_bytes others) ≡ false → AllByRecursion (λ other. string_eq name other ≡ false) others
+  apart : (name : String Z) (others : List (String Z)) → list_any (λ other. bytes_eq other (string_bytes name)) (map string_bytes others) ≡ false
+      → AllByRecursion (λ other. string_eq name other ≡ false) others
   apart name [] none = tt
   apart name (other ∷ others) none =
       let parts = or_parts _ _ none in

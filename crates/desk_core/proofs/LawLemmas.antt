@@ -65,9 +65,11 @@ serves_below entries i mask small are j in_mask =
           cc
     ]
 
-pub depends_on : (entries : List Entry) (i mask : ℕ) → IsLegal entries → rule_at entries i ≡ Some (Depends mask) → is_shut entries ≡ false → ((status_at entries i ≡ Some IsServing) ↔ AllServe entries mask)
+pub depends_on : (entries : List Entry) (i mask : ℕ) → IsLegal entries → rule_at entries i ≡ Some (Depends mask) → is_shut entries ≡ false
+    → ((status_at entries i ≡ Some IsServing) ↔ AllServe entries mask)
 depends_on entries i mask legal rule resumed =
-    let status : status_at entries i ≡ Some (serving_if (all_serving entries i mask)) = ap (status_by (all_serving entries i) entries i) rule ∙ ap (λ b. Some (if b then NotServing else serving_if (all_serving entries i mask))) resumed in
+    let status : status_at entries i ≡ Some (serving_if (all_serving entries i mask)) = ap (status_by (all_serving entries i) entries i) rule
+    ∙ ap (λ b. Some (if b then NotServing else serving_if (all_serving entries i mask))) resumed in
     let small : mask < 2 ^ i = relied_below i (Depends mask) (lawful_rule entries i (Depends mask) legal rule) in (
       λ serving. serves_below entries i mask small (all_asked entries i mask (up (all_serving entries i mask) (sym status ∙ serving))),
       λ all. status ∙ ap (λ b. Some (serving_if b)) (all_answered entries i mask (λ j below. all j)),
@@ -78,7 +80,8 @@ depends_on entries i mask legal rule resumed =
     up false is = cc
 
 -- a rule that relies on no slot leaves the status to the events
-pub by_events : (entries : List Entry) (i : ℕ) (rule : Rule) → rule_at entries i ≡ Some rule → relied_on rule ≡ 0 → is_shut entries ≡ false → status_at entries i ≡ Some (if is_unknown rule (heard entries i rule) then Unknown else serving_if (is_up rule (heard entries i rule)))
+pub by_events : (entries : List Entry) (i : ℕ) (rule : Rule) → rule_at entries i ≡ Some rule → relied_on rule ≡ 0 → is_shut entries ≡ false
+    → status_at entries i ≡ Some (if is_unknown rule (heard entries i rule) then Unknown else serving_if (is_up rule (heard entries i rule)))
 by_events entries i rule is none resumed =
     let up = is_up rule (heard entries i rule) in
     let unknown = is_unknown rule (heard entries i rule) in

@@ -12,7 +12,8 @@ use Rattle.desk_core.specs.Present.{says_rule, rule_at, IsLawful}
 use Rattle.desk_core.specs.Legal.{IsLegal, IsLawfulCall}
 
 -- one more call keeps the rule in force lawful
-lawful_more : (i : ℕ) (rule : Rule) (call : Call) (before : Option (Option Rule)) → (unwrap_or before None ≡ Some rule → IsLawful i rule) → IsLawfulCall call → unwrap_or (option_or (says_rule i call) before) None ≡ Some rule → IsLawful i rule
+lawful_more : (i : ℕ) (rule : Rule) (call : Call) (before : Option (Option Rule)) → (unwrap_or before None ≡ Some rule → IsLawful i rule)
+    → IsLawfulCall call → unwrap_or (option_or (says_rule i call) before) None ≡ Some rule → IsLawful i rule
 lawful_more i rule (Register slot other) before until lawful named = by_test (slot == i) refl named
   where
     by_test : (b : Bool) → (slot == i) ≡ b → unwrap_or (option_or (if b then Some (Some other) else None) before) None ≡ Some rule → IsLawful i rule

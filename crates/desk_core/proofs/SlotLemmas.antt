@@ -1,4 +1,5 @@
-use Rattle.std.proofs.Common.{◌&&◌, ◌||◌, ◌==◌, not, true, zero, suc, add-one, refl, ◌≡◌, ℕ, ◌+◌, ◌<◌, Option, Some, List, [], ◌∷◌, ◌++◌, length, take, drop, map, get_or, set, sym, ap, ◌∙◌, arith, append_assoc}
+use Rattle.std.proofs.Common.{◌&&◌, ◌||◌, ◌==◌, not, true, zero, suc, add-one, refl, ◌≡◌, ℕ, ◌+◌, ◌<◌, Option, Some, List, [], ◌∷◌, ◌++◌, length}
+use Rattle.std.proofs.Common.{take, drop, map, get_or, set, sym, ap, ◌∙◌, arith, append_assoc}
 use Rattle.std.proofs.lemmas.List.{drop_more, map_more, get_or_at, set_at, length-map, length-take-le}
 use Rattle.std.proofs.lemmas.Nat.Bits.{bit_at-zero}
 use Rattle.probe_core.specs.declared.rule.Rule.{Rule}
@@ -14,13 +15,15 @@ use Rattle.desk_core.specs.Slots.{was_reset, covers_below}
 abbrev pub HasReset : List (Option (Rule × ℕ)) → List (Option (Rule × ℕ)) → ℕ → Type 0
 HasReset old new index = new ≡ map was_reset (take index old) ++ drop index old
 
-pub reset_more : (old now new : List (Option (Rule × ℕ))) (index : ℕ) (default : Option (Rule × ℕ)) → index < length old → HasReset old now index → new ≡ set now index (was_reset (get_or now index default)) → HasReset old new (index + 1)
+pub reset_more : (old now new : List (Option (Rule × ℕ))) (index : ℕ) (default : Option (Rule × ℕ)) → index < length old → HasReset old now index
+    → new ≡ set now index (was_reset (get_or now index default)) → HasReset old new (index + 1)
 reset_more old now new index default below reset is =
     let front = map was_reset (take index old) in
     let place = get_or old index default in
     let rest = drop (index + 1) old in
     let len : length (map was_reset (take index old)) ≡ index = length-map (take index old) was_reset ∙ length-take-le index old (omega arith) in
-    let whole : now ≡ map was_reset (take index old) ++ (get_or old index default ∷ drop (index + 1) old) = reset ∙ ap (λ xs. map was_reset (take index old) ++ xs) (drop_more old index default below) in
+    let whole : now ≡ map was_reset (take index old) ++ (get_or old index default ∷ drop (index + 1) old) = reset
+    ∙ ap (λ xs. map was_reset (take index old) ++ xs) (drop_more old index default below) in
     let read : get_or now index default ≡ get_or old index default = ap (λ xs. get_or xs index default) whole ∙ get_or_at front place rest default index len in
     is
     ∙ ap (λ x. set now index (was_reset x)) read

@@ -1,4 +1,5 @@
-use Rattle.std.proofs.Common.{◌≡◌, ℕ, zero, suc, ◌+◌, ◌-◌, ◌^◌, ◌<◌, ◌&&◌, ◌||◌, not, if◌then◌else◌, Bool, true, false, Option, None, Some, List, [], ◌∷◌, get_or, inl, inr, ◌⊎◌, ◌≤◌, refl, sym, ap, ◌∙◌, arith}
+use Rattle.std.proofs.Common.{◌≡◌, ℕ, zero, suc, ◌+◌, ◌-◌, ◌^◌, ◌<◌, ◌&&◌, ◌||◌, not, if◌then◌else◌, Bool, true, false, Option, None, Some, List, []}
+use Rattle.std.proofs.Common.{◌∷◌, get_or, inl, inr, ◌⊎◌, ◌≤◌, refl, sym, ap, ◌∙◌, arith}
 use Rattle.std.specs.Option.{option_map}
 use Rattle.std.proofs.Math.Nat.{div-eq_of_lt}
 use Rattle.std.proofs.lemmas.Bool.{cases_lt}
@@ -61,7 +62,8 @@ covers_short f n (suc more) mask small =
     rw next (rw clear (and_true (covers_below f (n + more) mask) ∙ covers_short f n more mask small))
 
 -- one more event keeps what was heard to what fits
-fits_more : (rule : Rule) (events : List Event) (event : Event) (fit shut : Bool) → all_fit rule events ≡ true → fits rule event ≡ fit → all_fit rule (if not shut && fit then event ∷ events else events) ≡ true
+fits_more : (rule : Rule) (events : List Event) (event : Event) (fit shut : Bool) → all_fit rule events ≡ true → fits rule event ≡ fit
+    → all_fit rule (if not shut && fit then event ∷ events else events) ≡ true
 fits_more rule events event true true until is = until
 fits_more rule events event true false until is = ap (λ b. b && all_fit rule events) is ∙ until
 fits_more rule events event false true until is = until
@@ -103,7 +105,8 @@ status_of_probe tells entries i below legal in_range known = by_rule (rule_at en
         ∙ covers_same below (status_at entries) i mask known
         ∙ sym (all_serving-covers entries i mask)
 
-    opinion_of : (rule : Rule) → rule_at entries i ≡ Some rule → opinion_at (covers_below below 16) rule (memory_after rule (heard entries i rule)) ≡ opinion (all_serving entries i) (heard entries i rule) rule
+    opinion_of : (rule : Rule) → rule_at entries i ≡ Some rule → opinion_at (covers_below below 16) rule (memory_after rule (heard entries i rule))
+        ≡ opinion (all_serving entries i) (heard entries i rule) rule
     opinion_of rule is =
         let events = heard entries i rule in
         let covers = covers_below below 16 (relied_on rule) in
@@ -114,7 +117,9 @@ status_of_probe tells entries i below legal in_range known = by_rule (rule_at en
         ∙ same_opinion (is_unknown rule events) (is_up rule events) covers
         ∙ ap (λ b. if is_unknown rule events then Unknown else serving_if (is_up rule events && b)) (covered (relied_on rule) (relied_below i rule (lawful_rule entries i rule legal is)))
 
-    by_rule : (o : Option Rule) → rule_at entries i ≡ o → option_map (status_from (covers_below below 16) (is_shut entries)) (option_map (λ rule. state_of rule (heard entries i rule)) o) ≡ status_by (all_serving entries i) entries i o
+    by_rule : (o : Option Rule) → rule_at entries i ≡ o
+        → option_map (status_from (covers_below below 16) (is_shut entries)) (option_map (λ rule. state_of rule (heard entries i rule)) o)
+        ≡ status_by (all_serving entries i) entries i o
     by_rule None is = refl
     by_rule (Some rule) is = ap (λ status. Some (if is_shut entries then NotServing else status)) (opinion_of rule is)
 

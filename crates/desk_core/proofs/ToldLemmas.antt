@@ -1,5 +1,6 @@
 -- What is known by all changes.
-use Rattle.std.proofs.Common.{ℕ, zero, suc, ◌≡◌, ◌<◌, ◌==◌, nat_lt, Bool, true, false, if◌then◌else◌, Some, unwrap_or, get_or, List, [], ◌∷◌, ◌++◌, length, find, option_map, refl, sym, ap, ◌∙◌, arith, append_assoc, eqb-true, lt-ltb}
+use Rattle.std.proofs.Common.{ℕ, zero, suc, ◌≡◌, ◌<◌, ◌==◌, nat_lt, Bool, true, false, if◌then◌else◌, Some, unwrap_or, get_or, List, [], ◌∷◌, ◌++◌}
+use Rattle.std.proofs.Common.{length, find, option_map, refl, sym, ap, ◌∙◌, arith, append_assoc, eqb-true, lt-ltb}
 use Rattle.std.proofs.lemmas.Bool.Decides.{nat_tests}
 use Rattle.std.proofs.lemmas.List.{append-nil, reverse-append}
 use Rattle.health_wire.specs.declared.serving.Serving.{Serving}

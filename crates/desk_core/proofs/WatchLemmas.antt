@@ -1,5 +1,7 @@
 -- What watchers are told.
-use Rattle.std.proofs.Common.{ℕ, zero, suc, ◌≡◌, ◌+◌, ◌<◌, ◌≤◌, Option, None, Some, Bool, true, false, List, [], ◌∷◌, ◌++◌, length, take, drop, map, refl, sym, ap, subst, ◌∙◌, arith, append_assoc, if◌then◌else◌, not, cond, nat_lt, ltb-true, ltb-false, length-drop, max, ◌-◌, unwrap_or}
+use Rattle.std.proofs.Common.{ℕ, zero, suc, ◌≡◌, ◌+◌, ◌<◌, ◌≤◌, Option, None, Some, Bool, true, false, List, [], ◌∷◌, ◌++◌, length, take, drop, map}
+use Rattle.std.proofs.Common.{refl, sym, ap, subst, ◌∙◌, arith, append_assoc, if◌then◌else◌, not, cond, nat_lt, ltb-true, ltb-false, length-drop, max}
+use Rattle.std.proofs.Common.{◌-◌, unwrap_or}
 use Rattle.std.proofs.lemmas.List.{append-nil, map-append, take-append-le, take_all, drop-append-le, drop-take, length-append, length-take}
 use Rattle.std.proofs.lemmas.List.Elements.{filter-append}
 use Rattle.std.proofs.Math.Seq.{take-add, take-append_seam}
@@ -34,7 +36,8 @@ front_stays older entries is_older =
     ∙ take-append_seam (changes_of older) (changes_since is_older.newer older)
 
 -- the first that passes, and no others before it
-first_at : {X Y : Type 0} (p : X → Bool) (f : X → Y) (xs : List X) (n : ℕ) → n ≡ position_or_len p xs → n < length xs → Some (map f (filter p (take (suc n) xs))) ≡ option_map (λ x. f x ∷ []) (slice_get xs n)
+first_at : {X Y : Type 0} (p : X → Bool) (f : X → Y) (xs : List X) (n : ℕ) → n ≡ position_or_len p xs → n < length xs
+    → Some (map f (filter p (take (suc n) xs))) ≡ option_map (λ x. f x ∷ []) (slice_get xs n)
 first_at p f [] n at below = absurd (omega (arith, below))
 first_at p f (x ∷ xs) zero at below = by_test (p x) at
   where
@@ -222,7 +225,8 @@ walk_from_opening entries later slot go_on =
 
 -- the steps move a cursor forth, and not past the end
 walk_range : (later : List (List Entry)) (entries : List Entry) (slot : Option ℕ) (start cursor : ℕ) → GoOn entries later → start ≤ cursor → cursor ≤ length (changes_of entries)
-    → (cursor ≤ cursor_past (record { slot = slot; start = start; cursor = cursor }) later) × (cursor_past (record { slot = slot; start = start; cursor = cursor }) later ≤ length (changes_of (last_of entries later)))
+    → (cursor ≤ cursor_past (record { slot = slot; start = start; cursor = cursor }) later)
+    × (cursor_past (record { slot = slot; start = start; cursor = cursor }) later ≤ length (changes_of (last_of entries later)))
 walk_range [] entries slot start cursor go_on first within = (omega arith, within)
 walk_range (next ∷ later) entries slot start cursor go_on first within =
     let since : List Change = changes_since go_on.0.newer entries in

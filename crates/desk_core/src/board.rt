@@ -4,7 +4,7 @@ ghost use Rattle.desk_core.specs.Status.{checked};
 ghost use Rattle.desk_core.specs.Board.{board_of, entries_in, status_in};
 
 use crate::slot::Slot;
-use crate::statuses::Statuses;
+use crate::status_word::StatusWord;
 use health_wire::Serving;
 
 /// How many entries the journal had when `Desk::board` gave this word.
@@ -20,5 +20,5 @@ pub fn board_status(word: u64, slot: Slot) -> Option<Serving>
     ensures value { result ≡ status_in word slot }
     ensures board { (entries : List Entry) → word ≡ board_of entries → result ≡ checked entries (Some slot) }
 {
-    Statuses::on_board(word).get(slot)
+    StatusWord::on_board(word).get(slot)
 }

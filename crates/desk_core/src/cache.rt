@@ -6,13 +6,13 @@ use crate::call::Call;
 use crate::slot::Slot;
 use crate::slots::Slots;
 use crate::status::{has_slot, status_of};
-use crate::statuses::Statuses;
+use crate::status_word::StatusWord;
 use probe_core::{Probe, Rule};
 
 /// The statuses of all slots, and for each slot the mask of the slots that depend on it.
 #[derive(Drop)]
 pub(crate) struct Cache {
-    statuses: Statuses,
+    statuses: StatusWord,
     dependents: [u16; 16],
 }
 
@@ -30,12 +30,12 @@ impl Cache {
         ensures dependents { result.dependents ≡ replicate 16 0 }
     {
         Cache {
-            statuses: Statuses::none(),
+            statuses: StatusWord::none(),
             dependents: [0; 16],
         }
     }
 
-    pub(crate) fn statuses(&self) -> Statuses
+    pub(crate) fn statuses(&self) -> StatusWord
         ensures { result ≡ self.now.statuses }
     {
         self.statuses

@@ -5,7 +5,7 @@ ghost use Rattle.desk_core.specs.Changes.{is_same, changed};
 ghost use Rattle.desk_core.specs.Slots.{shown_in};
 
 use crate::slot::Slot;
-use crate::statuses::{Statuses, status_of_code};
+use crate::status_word::{StatusWord, status_of_code};
 use health_wire::Serving;
 use tail::Tail;
 
@@ -21,7 +21,7 @@ pub struct Change {
 
 /// Lists the slots that are shown otherwise after the entry at this place than before it. It looks at the words from the
 /// first slot up, as long as what is left of them differs.
-pub(crate) fn tell(changes: &mut Tail<Change>, at: u32, before: Statuses, after: Statuses)
+pub(crate) fn tell(changes: &mut Tail<Change>, at: u32, before: StatusWord, after: StatusWord)
     requires room { 16 ≤ changes.old.room }
     requires few { length changes.old.items + 16 < 2 ^ 63 }
     ensures kept { changes.new.keep ≡ changes.old.keep }

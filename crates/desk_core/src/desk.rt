@@ -8,11 +8,11 @@ use crate::history::History;
 use crate::keep::{Capacity, Keep, KeepAll};
 use crate::lawful::is_lawful_call;
 use crate::refusal::Refusal;
-use crate::registered::{Handed, Registered};
+use crate::registration::{Handed, Registered};
 use crate::reply::{Reply, reply_to_event, reply_to_register, reply_to_retire};
 use crate::slot::Slot;
 use crate::slots::Slots;
-use crate::statuses::Statuses;
+use crate::status_word::StatusWord;
 use crate::watch::{Behind, Watch};
 use health_wire::Serving;
 use probe_core::{Probe, Rule};
@@ -316,7 +316,7 @@ fn shut_after(is_shut: bool, call: &Call) -> bool
     }
 }
 
-fn word_of(entries: u64, statuses: Statuses) -> u64
+fn word_of(entries: u64, statuses: StatusWord) -> u64
     requires { entries < 2 ^ 32 }
     ensures { result ≡ entries * 2 ^ 32 + statuses }
 {

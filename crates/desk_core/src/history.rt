@@ -9,7 +9,7 @@ use crate::keep::Capacity;
 use crate::reply::Reply;
 use crate::slot::Slot;
 use crate::slots::Slots;
-use crate::statuses::Statuses;
+use crate::status_word::StatusWord;
 use probe_core::{Probe, memory_tells_status};
 use std::alloc::{AllocError, Global};
 use tail::Tail;
@@ -80,7 +80,7 @@ impl History {
         }
     }
 
-    pub(crate) fn statuses(&self) -> Statuses
+    pub(crate) fn statuses(&self) -> StatusWord
         ensures { result ≡ self.now.cache.statuses }
     {
         self.cache.statuses()

@@ -1,4 +1,28 @@
 //! The registry of services: their names, their probes and the journal of all changes.
+//!
+//! # A caller
+//!
+//! ```rust
+//! #![tactic(auto)]
+//!
+//! ghost use Rattle.std.specs.Prelude.{◌≡◌, true, false};
+//! ghost use Rattle.desk_core.specs.Desk.{HasAnswered};
+//!
+//! use desk_core::{Call, Desk, Finding, Refusal, Reply, Slot};
+//! use probe_core::Probe;
+//!
+//! /// Tells the registry whether a service was reached.
+//! pub fn report<P: Probe>(desk: &mut Desk<P>, slot: Slot, is_reached: bool) -> Result<Reply, Refusal>
+//!     ensures reached { is_reached ≡ true → HasAnswered desk.old desk.new 0 (Call.Observe slot Finding.Pass) result }
+//!     ensures missed { is_reached ≡ false → HasAnswered desk.old desk.new 0 (Call.Observe slot Finding.Fail) result }
+//! {
+//!     if is_reached {
+//!         desk.observe(0, slot, Finding::Pass)
+//!     } else {
+//!         desk.observe(0, slot, Finding::Fail)
+//!     }
+//! }
+//! ```
 #![tactic(auto)]
 
 mod board;
@@ -16,14 +40,14 @@ mod name;
 mod order;
 mod owned;
 mod refusal;
-mod registered;
 mod registrar;
+mod registration;
 mod reply;
 pub mod sixteen;
 mod slot;
 mod slots;
 mod status;
-mod statuses;
+mod status_word;
 mod watch;
 
 pub use board::{board_entries, board_status};
@@ -42,8 +66,8 @@ pub use laws::{
 pub use name::Name;
 pub use order::Order;
 pub use refusal::Refusal;
-pub use registered::{Handed, Registered};
 pub use registrar::{Registrar, carry_out};
+pub use registration::{Handed, Registered};
 pub use reply::Reply;
 pub use slot::Slot;
 pub use watch::{Behind, Watch};

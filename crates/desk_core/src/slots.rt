@@ -6,7 +6,7 @@ use crate::owned::Owned;
 use crate::reply::Reply;
 use crate::slot::Slot;
 use crate::status::status_of;
-use crate::statuses::Statuses;
+use crate::status_word::StatusWord;
 use probe_core::{Event, Probe, Rule, memory_tells_status};
 use std::alloc::{AllocError, Global};
 
@@ -136,12 +136,12 @@ impl<P: Probe> Slots<P> {
     }
 
     /// The statuses of all slots, computed anew from the first slot up.
-    pub(crate) fn statuses(&self, is_shut: bool) -> Statuses
+    pub(crate) fn statuses(&self, is_shut: bool) -> StatusWord
         ensures { (journal : List Entry) (max_entries : ℕ) → Keeps self.now.places.items is_shut journal max_entries
             → (i : ℕ) → i < 16 → status_in result i ≡ status_at (past journal) i }
     {
         memory_tells_status();
-        let mut statuses = Statuses::none();
+        let mut statuses = StatusWord::none();
         for number in 0..Slot::COUNT {
             let slot = Slot::at(number);
             let status = status_of(self.get(slot), is_shut, statuses);

@@ -6,7 +6,7 @@ ghost use Rattle.desk_core.specs.Slots.{covers_below, status_from};
 
 use crate::owned::Owned;
 use crate::slot::Slot;
-use crate::statuses::Statuses;
+use crate::status_word::StatusWord;
 use health_wire::Serving;
 use probe_core::Probe;
 
@@ -14,7 +14,7 @@ use probe_core::Probe;
 pub(crate) fn status_of<P: Probe>(
     owned: Option<&Owned<P>>,
     is_shut: bool,
-    below: Statuses,
+    below: StatusWord,
 ) -> Option<Serving>
     ensures { result ≡ option_map (status_from (covers_below (status_in below) 16) is_shut) (option_copied owned.entry) }
 {
@@ -32,7 +32,7 @@ pub(crate) fn status_of<P: Probe>(
 }
 
 /// Whether all slots of the mask are serving.
-fn covers(below: Statuses, mask: u16) -> bool
+fn covers(below: StatusWord, mask: u16) -> bool
     ensures { result ≡ covers_below (status_in below) 16 mask }
 {
     if mask == 0 {

@@ -50,15 +50,19 @@ fn tells_a_watch_whose_next_change_is_just_kept(rt: HostRuntime) -> Result<(), F
     expect_told(&desk, &mut watch, &[Ok(NOT_SERVING), Ok(SERVING)])
 }
 
+fn expect_just_behind(desk: &mut Desk<Manual, KeepSixteen>) -> Result<(), Fail> {
+    let mut watch = desk.open(Some(slot(0)?)).0;
+    flip(desk, 17)?;
+    expect_told(desk, &mut watch, &[BEHIND, BEHIND])?;
+    same(&watch.cursor(), &2, &"the cursor")?;
+    flip(desk, 2)?;
+    expect_told(desk, &mut watch, &[BEHIND])
+}
+
 #[test]
 fn says_that_a_watch_is_just_behind(rt: HostRuntime) -> Result<(), Fail> {
     let mut desk = desk_of_two(rt.alloc())?;
-    let mut watch = desk.open(Some(slot(0)?)).0;
-    flip(&mut desk, 17)?;
-    expect_told(&desk, &mut watch, &[BEHIND, BEHIND])?;
-    same(&watch.cursor(), &2, &"the cursor")?;
-    flip(&mut desk, 2)?;
-    expect_told(&desk, &mut watch, &[BEHIND])
+    expect_just_behind(&mut desk)
 }
 
 /// A watch that has nothing to be told is moved by each look, and is behind only by a gap between two looks.
@@ -80,21 +84,26 @@ fn keeps_a_quiet_watch_beside_a_busy_one(rt: HostRuntime) -> Result<(), Fail> {
     expect_quiet(rt.alloc(), None)
 }
 
-#[test]
-fn forgets_all_but_sixteen_of_a_hundred_flips(rt: HostRuntime) -> Result<(), Fail> {
-    let mut desk = desk_of_two(rt.alloc())?;
+/// Of a hundred changes sixteen are kept: a watch from before them is behind, and a new one is told what comes.
+fn expect_sixteen(desk: &mut Desk<Manual, KeepSixteen>) -> Result<(), Fail> {
     let mut early = desk.open(Some(slot(0)?)).0;
-    flip(&mut desk, 100)?;
-    expect_told(&desk, &mut early, &[BEHIND])?;
+    flip(desk, 100)?;
+    expect_told(desk, &mut early, &[BEHIND])?;
     let (mut watch, status) = desk.open(Some(slot(0)?));
     same(&status, &Serving::Serving, &"a new watch")?;
-    expect_told(&desk, &mut watch, &[Ok(None)])?;
-    flip(&mut desk, 2)?;
-    expect_told(&desk, &mut watch, &[Ok(NOT_SERVING), Ok(SERVING), Ok(None)])?;
+    expect_told(desk, &mut watch, &[Ok(None)])?;
+    flip(desk, 2)?;
+    expect_told(desk, &mut watch, &[Ok(NOT_SERVING), Ok(SERVING), Ok(None)])?;
     let found = (desk.journal_kept().len(), board_entries(desk.board()));
     same(&found, &(16, 104), &"what is kept")?;
     let Capacity { entries, changes } = desk.capacity();
     same(&(entries <= 32, changes <= 32), &(true, true), &"memory")
+}
+
+#[test]
+fn forgets_all_but_sixteen_of_a_hundred_flips(rt: HostRuntime) -> Result<(), Fail> {
+    let mut desk = desk_of_two(rt.alloc())?;
+    expect_sixteen(&mut desk)
 }
 
 /// For how many entries, and for how many changes, the desk has memory.
@@ -103,22 +112,32 @@ fn memory(desk: &Desk<Manual, KeepSixteen>) -> (usize, usize) {
     (entries, changes)
 }
 
+/// A change of an empty desk is refused without memory, and is not in its history.
+fn is_refused(alloc: Global) -> bool {
+    let mut empty: Desk<Manual, KeepSixteen> = Desk::new(alloc, 200);
+    empty.shutdown(0) == Err(Refusal::NoMemory) && board_entries(empty.board()) == 0
+}
+
+/// Flips a hundred times without memory, and tells whether an empty desk is refused a change meanwhile.
+fn flip_without_memory(alloc: Global, desk: &mut Desk<Manual, KeepSixteen>) -> Result<bool, Fail> {
+    let scarcity = Scarcity::with_small_room(alloc)?;
+    let rest = scarcity.leave_steps(0)?;
+    let is_refused = is_refused(alloc);
+    let gone_on = flip(desk, 100);
+    drop(rest);
+    drop(scarcity);
+    gone_on?;
+    Ok(is_refused)
+}
+
 #[test]
 fn takes_no_memory_at_its_limit(rt: HostRuntime) -> Result<(), Fail> {
     let alloc: Global = rt.alloc();
     let mut desk = desk_of_two(alloc)?;
     flip(&mut desk, 60)?;
     same(&memory(&desk), &(32, 32), &"the limit")?;
-    let scarcity = Scarcity::with_small_room(alloc)?;
-    let rest = scarcity.leave_steps(0)?;
-    let mut empty: Desk<Manual, KeepSixteen> = Desk::new(alloc, 200);
-    let is_refused = empty.shutdown(0) == Err(Refusal::NoMemory);
-    let gone_on = flip(&mut desk, 100);
-    drop(rest);
-    drop(scarcity);
-    gone_on?;
+    let is_refused = flip_without_memory(alloc, &mut desk)?;
     same(&is_refused, &true, &"without memory")?;
-    same(&board_entries(empty.board()), &0, &"the refused one")?;
     same(&memory(&desk), &(32, 32), &"the same memory")
 }
 

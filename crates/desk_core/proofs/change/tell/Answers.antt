@@ -48,5 +48,6 @@ returns-clause-told c =
     let same : c.args.before / 4 ^ c.loop-old.number ≡ c.args.after / 4 ^ c.loop-old.number = sym c.loop-old.invariant.old_is ∙ c.loop-old-test.false ∙ c.loop-old.invariant.new_is in
     c.loop-old.invariant.told
     ∙ ap (λ cs. c.args.changes.now.items ++ cs)
-    (sym (told_rest c.args.at c.loop-old.number (16 - c.loop-old.number) (shown_in c.args.before) (shown_in c.args.after) (λ i past below. rest_same c.args.before c.args.after c.loop-old.number i same past))
+    (sym (told_rest c.args.at c.loop-old.number (16 - c.loop-old.number) (shown_in c.args.before) (shown_in c.args.after)
+    (λ i past below. rest_same c.args.before c.args.after c.loop-old.number i same past))
     ∙ ap (λ n. changed c.args.at (shown_in c.args.before) (shown_in c.args.after) n) whole)

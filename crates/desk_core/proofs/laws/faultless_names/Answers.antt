@@ -1,4 +1,5 @@
-use Rattle.desk_core.proofs.CatalogueLemmas.{IsCatalogue-from_none, fault_in-IsCatalogue, All-from_test, has_too_long-All, HasNoDouble-from_test, has_double-HasNoDouble, Contains-from_test, has_empty_name-Contains}
+use Rattle.desk_core.proofs.CatalogueLemmas.{IsCatalogue-from_none, fault_in-IsCatalogue, All-from_test, has_too_long-All, HasNoDouble-from_test}
+use Rattle.desk_core.proofs.CatalogueLemmas.{has_double-HasNoDouble, Contains-from_test, has_empty_name-Contains}
 use Rattle.desk_core.proofs.laws.faultless_names.Goals as goal
 
 pub returns : goal.returns

@@ -12,4 +12,8 @@ returns-then-len-from-clause-some g c seat =
     let long = c.if-len-from.true in
     let len : c.len.result ≡ length c.self.inside.history.journal.items = c.len.ensures in
     rw (← c.self.view_is)
-    (record { most = refl; answer = Full c.args.call.now (c.is_lawful_call.ensures.0 c.if-not-is_lawful_call.false) (length-reverse c.self.inside.history.journal.items ∙ omega (arith, long, len, c.self.invariant.0.parts.room)) refl })
+    (record {
+      most = refl;
+      answer = Full c.args.call.now (c.is_lawful_call.ensures.0 c.if-not-is_lawful_call.false)
+          (length-reverse c.self.inside.history.journal.items ∙ omega (arith, long, len, c.self.invariant.0.parts.room)) refl;
+    })

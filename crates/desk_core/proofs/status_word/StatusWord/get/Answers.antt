@@ -1,7 +1,7 @@
 use Rattle.std.proofs.Common.{◌/◌, ◌%◌, ◌^◌, ◌*◌, ap, ◌∙◌}
 use Rattle.desk_core.specs.Board.{status_of_code}
 use Rattle.desk_core.proofs.BoardLemmas.{four_is}
-use Rattle.desk_core.proofs.statuses.Statuses.get.Goals as goal
+use Rattle.desk_core.proofs.status_word.StatusWord.get.Goals as goal
 
 pub returns : goal.returns
 returns c =

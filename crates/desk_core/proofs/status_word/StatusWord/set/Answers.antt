@@ -2,7 +2,7 @@ use Rattle.std.proofs.Common.{◌<◌, rules, ap, ◌∙◌, arith}
 use Rattle.desk_core.specs.Board.{packed, status_in}
 use Rattle.desk_core.specs.Slots.{with_status}
 use Rattle.desk_core.proofs.BoardLemmas.{weight_is, replaced, packed_fits}
-use Rattle.desk_core.proofs.statuses.Statuses.set.Goals as goal
+use Rattle.desk_core.proofs.status_word.StatusWord.set.Goals as goal
 
 pub overflow_mul-self-2 : goal.overflow_mul-self-2
 overflow_mul-self-2 c =

@@ -7,11 +7,11 @@ use std::marker::Model;
 
 /// The statuses of all slots in one word, two bits each, the first slot lowest.
 #[derive(Clone, Copy, Debug, PartialEq, Eq)]
-pub(crate) struct Statuses {
+pub(crate) struct StatusWord {
     word: u32,
 }
 
-impl Model for Statuses {
+impl Model for StatusWord {
     ghost use Rattle.std.specs.Prelude.{ℕ};
 
     ghost Value = { ℕ };
@@ -21,23 +21,23 @@ impl Model for Statuses {
     ghost inverse = { λ n. record { word = n } };
 }
 
-impl Statuses {
+impl StatusWord {
     ghost use Rattle.std.specs.Prelude.{◌≡◌, ◌<◌, ◌%◌, ◌^◌};
     ghost use Rattle.desk_core.specs.Board.{packed, status_in};
     ghost use Rattle.desk_core.specs.Slots.{with_status};
 
     /// No slot has a status.
-    pub(crate) fn none() -> Statuses
+    pub(crate) fn none() -> StatusWord
         ensures { result ≡ 0 }
     {
-        Statuses { word: 0 }
+        StatusWord { word: 0 }
     }
 
     /// The statuses in the lower half of a board.
-    pub(crate) fn on_board(word: u64) -> Statuses
+    pub(crate) fn on_board(word: u64) -> StatusWord
         ensures { result ≡ word % 2 ^ 32 }
     {
-        Statuses {
+        StatusWord {
             word: (word % (1 << 32)) as u32,
         }
     }
