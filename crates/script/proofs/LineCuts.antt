@@ -3,7 +3,7 @@ use Rattle.std.proofs.Common.{ℕ, ◌≡◌, ◌<◌, ◌≤◌, ◌==◌, List
 use Rattle.std.specs.Bool.{if◌then◌else◌, Decides}
 use Rattle.std.specs.List.{onto_first, starts_with}
 use Rattle.std.proofs.lemmas.Bool.{ne_eqb}
-use Rattle.script.specs.Lines.{lines, without_cr}
+use Rattle.script.specs.TextLines.{lines, without_cr}
 
 -- one byte more is at most one line more
 few_after : (ends : Bool) (c n : ℕ) (others : List (List ℕ)) → length others ≤ n → length (if ends then [] ∷ others else onto_first c others) ≤ suc n

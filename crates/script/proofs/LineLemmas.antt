@@ -3,7 +3,7 @@ use Rattle.std.proofs.Common.{ℕ, ◌≤◌, ◌<◌, Option, None, Some, Bor, 
 use Rattle.probe_core.specs.declared.rule.Rule.{Rule}
 use Rattle.probe_core.specs.declared.rule.Rule.TheVariants.{Threshold}
 use Rattle.probe_core.specs.declared.start.Start.TheVariants as starts
-use Rattle.script.specs.Lines.{texts}
+use Rattle.script.specs.TextLines.{texts}
 use Rattle.script.specs.Word.{IsNumber}
 use Rattle.script.proofs.WordLemmas.{one_word, two_words}
 use Rattle.script.specs.Line.{IsMaskOf, IsThreshold, IsRule}

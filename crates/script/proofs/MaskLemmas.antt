@@ -1,5 +1,6 @@
 -- The mask of some words' slots, one word after another.
-use Rattle.std.proofs.Common.{ℕ, ◌≡◌, ◌+◌, ◌*◌, ◌%◌, ◌^◌, ◌<◌, ◌↔◌, List, [], ◌∷◌, ◌++◌, length, get_or, take, true, Any, Some, None, Option, IsSome, length-append, refl, sym, ap, ◌∙◌, subst, arith, ⊎_elim, Bor, ◌==◌, w16, ◌≤◌, bit_or}
+use Rattle.std.proofs.Common.{ℕ, ◌≡◌, ◌+◌, ◌*◌, ◌%◌, ◌^◌, ◌<◌, ◌↔◌, List, [], ◌∷◌, ◌++◌, length, get_or, take, true, Any, Some, None, Option, IsSome}
+use Rattle.std.proofs.Common.{length-append, refl, sym, ap, ◌∙◌, subst, arith, ⊎_elim, Bor, ◌==◌, w16, ◌≤◌, bit_or}
 use Rattle.std.specs.Int.{bit_at}
 use Rattle.std.proofs.lemmas.Bool.{cases_lt, cases_eq, eqb-true, eq-eqb}
 use Rattle.std.proofs.lemmas.List.{get_or_append_left, get_or_at, map_more, length-map, get_or-map}
@@ -10,7 +11,7 @@ use Rattle.std.proofs.lemmas.Nat.Bits.{bit_at_set_same, bit_at_set_other, bit_at
 use Rattle.desk_core.specs.Catalogue.{slot_of}
 use Rattle.desk_core.specs.Status.{has_slot}
 use Rattle.script.specs.Line.{IsMaskOf}
-use Rattle.script.specs.Lines.{texts}
+use Rattle.script.specs.TextLines.{texts}
 use Rattle.script.specs.Word.{name_of}
 
 -- what holds of one of the elements holds of one of more
@@ -62,7 +63,10 @@ pub one_more : (names words : List (List ℕ)) (word : List ℕ) (mask slot : �
 one_more names words word mask slot is at within =
     record {
       listed = All-push (λ other. IsSome (slot_of names (name_of other))) words word is.listed (subst (λ (found : Option ℕ). IsSome found) (sym at) refl);
-      bits = λ i. ⊎_elim (λ (same : i ≡ slot). subst (λ (place : ℕ). (has_slot (bit_or mask (1 * 2 ^ slot % 2 ^ 16)) place ≡ true) ↔ Any (λ other. slot_of names (name_of other) ≡ Some place) (words ++ word ∷ [])) (sym same) (set_slot names words word mask slot at within))
+      bits = λ i. ⊎_elim (λ (same : i ≡ slot). subst
+          (λ (place : ℕ). (has_slot (bit_or mask (1 * 2 ^ slot % 2 ^ 16)) place ≡ true)
+          ↔ Any (λ other. slot_of names (name_of other) ≡ Some place) (words ++ word ∷ [])) (sym same)
+          (set_slot names words word mask slot at within))
           (λ (other : i ≡ slot → ⊥). kept_slot names words word mask slot i at within other (is.bits i))
           (cases_eq i slot);
       fits = or_lt 16 mask (1 * 2 ^ slot % 2 ^ 16) is.fits (omega arith);

@@ -32,7 +32,14 @@ own = numerals_by_value (AllDigits 10) tells_digits
 read : {E : Type 0} (word : List ℕ) (parsed : Result ℕ E) → list_all is_ascii_digit word ≡ true → length word ≤ 10
     → OkIff parsed ((0 < length word) × (digits_value 10 word < 2 ^ 32)) (digits_value 10 word) → IsReading IsNumber word (result_ok parsed)
 read word (Ok value) digits most is =
-    record { least = is.0.0; most = most; digits = digits; value_is = is.1; fits = (let below : digits_value 10 word < 2 ^ 32 = is.0.1 in let same : value ≡ digits_value 10 word = is.1 in omega arith) }
+    record {
+      least = is.0.0;
+      most = most;
+      digits = digits;
+      value_is = is.1;
+      fits =
+          (let below : digits_value 10 word < 2 ^ 32 = is.0.1 in let same : value ≡ digits_value 10 word = is.1 in omega arith);
+    }
 read word (Err error) digits most none = λ value is.
     none (is.least, (let fits : value < 2 ^ 32 = is.fits in let same : value ≡ digits_value 10 word = is.value_is in omega arith))
 

@@ -9,7 +9,7 @@ use Rattle.script.specs.declared.script_fault.ScriptFault.{ScriptFault}
 use Rattle.script.specs.declared.script_fault.ScriptFault.TheVariants.{BadLine, Catalogue}
 use Rattle.script.specs.Line.{IsLine}
 use Rattle.script.specs.Line.IsLine.{OrderLine}
-use Rattle.script.specs.Lines.{Left, left_from, with_line, first_numbers}
+use Rattle.script.specs.TextLines.{Left, left_from, with_line, first_numbers}
 use Rattle.script.specs.Opening.{IsCatalogueLine, IsMaxLine, TakesCatalogue, TakesMax, IsCatalogueFault, IsMaxFault}
 use Rattle.script.specs.Opening.IsCatalogueFault.{NoLine, OtherLine, BadNames}
 use Rattle.script.specs.Opening.IsMaxFault.{NoMaxLine, OtherMaxLine}
@@ -129,7 +129,8 @@ go_or_next mode names watches text line go next =
 same_line : (mode : Mode) (names : List (List ℕ)) (watches : ℕ) (text : List ℕ) (line other : Line) → IsNextLine mode names watches text line → IsNextLine mode names watches text other → other ≡ line
 same_line mode names watches text line other is is_o = one_line_text names text other line is_o.is is.is
 
-one_lines : (mode : Mode) (names : List (List ℕ)) (watches : ℕ) (body : List (ℕ × List ℕ)) (a b : List Line) (rest more : List (ℕ × List ℕ)) → TakesLines mode names watches body a rest → TakesLines mode names watches body b more
+one_lines : (mode : Mode) (names : List (List ℕ)) (watches : ℕ) (body : List (ℕ × List ℕ)) (a b : List Line) (rest more : List (ℕ × List ℕ))
+    → TakesLines mode names watches body a rest → TakesLines mode names watches body b more
     → (a ≡ b) × (rest ≡ more)
 one_lines mode names watches body a b rest more (AtEnd w) (AtEnd v) = (refl, refl)
 one_lines mode names watches body a b rest more (AtGo w n text behind go) (AtGo v m other left go_o) = (refl, refl)
@@ -140,7 +141,8 @@ one_lines mode names watches body a b rest more (NextLine w n text line others l
     let both = one_lines mode names (watches_after line w) others lines found left last takes (subst (λ (one : Line). TakesLines mode names (watches_after one w) others found last) equal takes_o) in
     (ap (λ (all : List Line). line ∷ all) both.0 ∙ ap (λ (one : Line). one ∷ found) (sym equal), both.1)
 
-lines_or_fault : (mode : Mode) (names : List (List ℕ)) (watches : ℕ) (body : List (ℕ × List ℕ)) (a : List Line) (rest : List (ℕ × List ℕ)) (fault : ScriptFault) → TakesLines mode names watches body a rest
+lines_or_fault : (mode : Mode) (names : List (List ℕ)) (watches : ℕ) (body : List (ℕ × List ℕ)) (a : List Line) (rest : List (ℕ × List ℕ))
+    (fault : ScriptFault) → TakesLines mode names watches body a rest
     → IsLinesFault mode names watches body fault → ⊥
 lines_or_fault mode names watches body a rest fault (AtEnd w) is = elim is [ ]
 lines_or_fault mode names watches body a rest fault (AtGo w n text behind go) (BadHere v m other left not none) = not go
@@ -150,7 +152,8 @@ lines_or_fault mode names watches body a rest fault (NextLine w n text line othe
     let equal : other ≡ line = same_line mode names w text line other is is_o in
     lines_or_fault mode names (watches_after line w) others lines left f takes (subst (λ (one : Line). IsLinesFault mode names (watches_after one w) others f) equal later)
 
-one_lines_fault : (mode : Mode) (names : List (List ℕ)) (watches : ℕ) (body : List (ℕ × List ℕ)) (f g : ScriptFault) → IsLinesFault mode names watches body f → IsLinesFault mode names watches body g → f ≡ g
+one_lines_fault : (mode : Mode) (names : List (List ℕ)) (watches : ℕ) (body : List (ℕ × List ℕ)) (f g : ScriptFault)
+    → IsLinesFault mode names watches body f → IsLinesFault mode names watches body g → f ≡ g
 one_lines_fault mode names watches body f g (BadHere w n text rest not none) (BadHere v m same behind not_o none_o) = refl
 one_lines_fault mode names watches body f g (BadHere w n text rest not none) (BadLater v m same line behind h is later) = absurd (none line is)
 one_lines_fault mode names watches body f g (BadLater w n text line rest h is later) (BadHere v m same behind not none) = absurd (none line is)
@@ -182,14 +185,16 @@ one_opening mode bytes a b m n body other is_a is_b =
     (names.0, most.0, most.1)
 
 -- the lines of an opened script
-same_body : (mode : Mode) (bytes : List ℕ) (a b : List (List ℕ)) (m n : ℕ) (body other : Left) (lines : List Line) (rest : List (ℕ × List ℕ)) → Opens mode bytes a m body → Opens mode bytes b n other → TakesLines mode b 0 other.lines lines rest
+same_body : (mode : Mode) (bytes : List ℕ) (a b : List (List ℕ)) (m n : ℕ) (body other : Left) (lines : List Line) (rest : List (ℕ × List ℕ))
+    → Opens mode bytes a m body → Opens mode bytes b n other → TakesLines mode b 0 other.lines lines rest
     → TakesLines mode a 0 body.lines lines rest
 same_body mode bytes a b m n body other lines rest is_a is_b takes =
     let same = one_opening mode bytes a b m n body other is_a is_b in
     let left : TakesLines mode b 0 body.lines lines rest = subst (λ (all : Left). TakesLines mode b 0 all.lines lines rest) (sym same.2) takes in
     subst (λ (names : List (List ℕ)). TakesLines mode names 0 body.lines lines rest) (sym same.0) left
 
-same_fault : (mode : Mode) (bytes : List ℕ) (a b : List (List ℕ)) (m n : ℕ) (body other : Left) (fault : ScriptFault) → Opens mode bytes a m body → Opens mode bytes b n other → IsLinesFault mode b 0 other.lines fault
+same_fault : (mode : Mode) (bytes : List ℕ) (a b : List (List ℕ)) (m n : ℕ) (body other : Left) (fault : ScriptFault) → Opens mode bytes a m body
+    → Opens mode bytes b n other → IsLinesFault mode b 0 other.lines fault
     → IsLinesFault mode a 0 body.lines fault
 same_fault mode bytes a b m n body other fault is_a is_b takes =
     let same = one_opening mode bytes a b m n body other is_a is_b in
@@ -211,16 +216,20 @@ pub one_script : (mode : Mode) (bytes : List ℕ) (a b : ScriptParts) → IsScri
 unfolding parts_of
 one_script mode bytes a b is_a is_b =
     let opening = one_opening mode bytes a.names b.names a.max b.max is_a.body is_b.body is_a.opens is_b.opens in
-    let lines = one_lines mode a.names 0 is_a.body.lines a.lines b.lines is_a.behind_go is_b.behind_go is_a.lines (same_body mode bytes a.names b.names a.max b.max is_a.body is_b.body b.lines is_b.behind_go is_a.opens is_b.opens is_b.lines) in
+    let lines = one_lines mode a.names 0 is_a.body.lines a.lines b.lines is_a.behind_go is_b.behind_go is_a.lines
+    (same_body mode bytes a.names b.names a.max b.max is_a.body is_b.body b.lines is_b.behind_go is_a.opens is_b.opens is_b.lines) in
     let orders = one_orders is_a.behind_go a.orders b.orders is_a.orders (subst (λ (left : List (ℕ × List ℕ)). AreOrders left b.orders) (sym lines.1) is_b.orders) in
-    let counts = is_a.numbers ∙ ap (λ (all : List Line). first_numbers (length all) is_a.body.lines) lines.0 ∙ ap (λ (left : Left). first_numbers (length b.lines) left.lines) opening.2 ∙ sym is_b.numbers in
+    let counts = is_a.numbers ∙ ap (λ (all : List Line). first_numbers (length all) is_a.body.lines) lines.0
+    ∙ ap (λ (left : Left). first_numbers (length b.lines) left.lines) opening.2 ∙ sym is_b.numbers in
     same_parts a.names b.names a.max b.max a.lines b.lines a.numbers b.numbers a.orders b.orders opening.0 opening.1 lines.0 counts orders
 
 -- an opened script has no fault in its opening
-opens_or_catalogue : (mode : Mode) (bytes : List ℕ) (names : List (List ℕ)) (max : ℕ) (body : Left) (fault : ScriptFault) → Opens mode bytes names max body → IsCatalogueFault (left_from mode 1 bytes) fault → ⊥
+opens_or_catalogue : (mode : Mode) (bytes : List ℕ) (names : List (List ℕ)) (max : ℕ) (body : Left) (fault : ScriptFault)
+    → Opens mode bytes names max body → IsCatalogueFault (left_from mode 1 bytes) fault → ⊥
 opens_or_catalogue mode bytes names max body fault is wrong = catalogue_or_fault (left_from mode 1 bytes) (left_from mode 1 bytes) is.behind_catalogue names fault refl is.catalogue wrong
 
-opens_or_max : (mode : Mode) (bytes : List ℕ) (names others : List (List ℕ)) (max : ℕ) (body rest : Left) (fault : ScriptFault) → Opens mode bytes names max body → TakesCatalogue (left_from mode 1 bytes) others rest → IsMaxFault rest fault → ⊥
+opens_or_max : (mode : Mode) (bytes : List ℕ) (names others : List (List ℕ)) (max : ℕ) (body rest : Left) (fault : ScriptFault)
+    → Opens mode bytes names max body → TakesCatalogue (left_from mode 1 bytes) others rest → IsMaxFault rest fault → ⊥
 opens_or_max mode bytes names others max body rest fault is takes wrong =
     let same = one_catalogue (left_from mode 1 bytes) others names rest is.behind_catalogue takes is.catalogue in
     max_or_fault rest is.behind_catalogue body max fault same.1 is.most wrong
@@ -265,7 +274,8 @@ one_fault mode bytes f g (InMax names rest h text takes wrong) (InCatalogue k ot
 one_fault mode bytes f g (InMax names rest h text takes wrong) (InMax others more k other takes_o bad) =
     one_max_fault rest more h k (one_catalogue (left_from mode 1 bytes) names others rest more takes takes_o).1 wrong bad
 one_fault mode bytes f g (InMax names rest h text takes wrong) (InLines others max body k opens bad) = absurd (opens_or_max mode bytes others names max body rest h opens takes wrong)
-one_fault mode bytes f g (InMax names rest h text takes wrong) (InOrders others max body lines behind k opens found bad) = absurd (opens_or_max mode bytes others names max body rest h opens takes wrong)
+one_fault mode bytes f g (InMax names rest h text takes wrong) (InOrders others max body lines behind k opens found bad) =
+    absurd (opens_or_max mode bytes others names max body rest h opens takes wrong)
 one_fault mode bytes f g (InLines names max body h opens wrong) (Long long) = absurd (long_or_text bytes long opens.is_text)
 one_fault mode bytes f g (InLines names max body h opens wrong) (NoText short not) = absurd (not opens.is_text.text)
 one_fault mode bytes f g (InLines names max body h opens wrong) (InCatalogue k text bad) = absurd (opens_or_catalogue mode bytes names max body k opens bad)
@@ -277,7 +287,8 @@ one_fault mode bytes f g (InLines names max body h opens wrong) (InOrders others
 one_fault mode bytes f g (InOrders names max body lines rest h opens takes wrong) (Long long) = absurd (long_or_text bytes long opens.is_text)
 one_fault mode bytes f g (InOrders names max body lines rest h opens takes wrong) (NoText short not) = absurd (not opens.is_text.text)
 one_fault mode bytes f g (InOrders names max body lines rest h opens takes wrong) (InCatalogue k text bad) = absurd (opens_or_catalogue mode bytes names max body k opens bad)
-one_fault mode bytes f g (InOrders names max body lines rest h opens takes wrong) (InMax others behind k text found bad) = absurd (opens_or_max mode bytes names others max body behind k opens found bad)
+one_fault mode bytes f g (InOrders names max body lines rest h opens takes wrong) (InMax others behind k text found bad) =
+    absurd (opens_or_max mode bytes names others max body behind k opens found bad)
 one_fault mode bytes f g (InOrders names max body lines rest h opens takes wrong) (InLines others most left k opens_o bad) =
     absurd (lines_or_fault mode names 0 body.lines lines rest k takes (same_fault mode bytes names others max most body left k opens opens_o bad))
 one_fault mode bytes f g (InOrders names max body lines rest h opens takes wrong) (InOrders others most left found behind k opens_o takes_o bad) =

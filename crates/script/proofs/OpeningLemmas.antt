@@ -5,7 +5,7 @@ use Rattle.desk_core.specs.declared.catalogue.CatalogueFault.{CatalogueFault}
 use Rattle.desk_core.specs.Fault.{fault_in}
 use Rattle.script.specs.declared.script_fault.ScriptFault.{ScriptFault}
 use Rattle.script.specs.declared.script_fault.ScriptFault.TheVariants.{BadLine, Catalogue, NoMemory}
-use Rattle.script.specs.Lines.{Left, with_line, AreWords, texts}
+use Rattle.script.specs.TextLines.{Left, with_line, AreWords, texts}
 use Rattle.script.specs.Opening.{IsCatalogueLine, IsMaxLine, IsCatalogueFault, IsMaxFault}
 use Rattle.script.specs.Opening.IsCatalogueFault.{NoLine, OtherLine, BadNames}
 use Rattle.script.specs.Opening.IsMaxFault.{NoMaxLine, OtherMaxLine}
@@ -39,7 +39,8 @@ pub no_max_line : (left : Left) (end : ℕ) → left.lines ≡ [] → end ≡ le
 no_max_line left end none is = rw is (NoMaxLine left none)
 
 -- another line comes
-pub other_line : (left rest : Left) (number : ℕ) (line : List ℕ) → left ≡ with_line (number, line) rest → ((names : List (List ℕ)) → ¬ IsCatalogueLine line names) → IsCatalogueFault left (BadLine number)
+pub other_line : (left rest : Left) (number : ℕ) (line : List ℕ) → left ≡ with_line (number, line) rest
+    → ((names : List (List ℕ)) → ¬ IsCatalogueLine line names) → IsCatalogueFault left (BadLine number)
 other_line left rest number line parts none = subst (λ (all : Left). IsCatalogueFault all (BadLine number)) (sym parts) (OtherLine number line rest none)
 
 pub other_max_line : (left rest : Left) (number : ℕ) (line : List ℕ) → left ≡ with_line (number, line) rest → ((max : ℕ) → ¬ IsMaxLine line max) → IsMaxFault left (BadLine number)
@@ -53,7 +54,8 @@ bad_names left rest number line names fault (Some first) parts is found told =
     let same : fault ≡ Catalogue first = cc in
     rw (same, parts) (BadNames number line rest names first is found)
 
-pub names_fault : {A : Type 0} (left rest : Left) (number : ℕ) (line : List ℕ) (names : List (List ℕ)) (result : Result A ScriptFault) → left ≡ with_line (number, line) rest → IsCatalogueLine line names
+pub names_fault : {A : Type 0} (left rest : Left) (number : ℕ) (line : List ℕ) (names : List (List ℕ)) (result : Result A ScriptFault)
+    → left ≡ with_line (number, line) rest → IsCatalogueLine line names
     → IfErr result (λ fault. fault ≢ NoMemory → option_map Catalogue (fault_in names) ≡ Some fault) → IfErr result (λ fault. fault ≢ NoMemory → IsCatalogueFault left fault)
 names_fault left rest number line names (Ok value) parts is told = told
 names_fault left rest number line names (Err fault) parts is told = λ other. bad_names left rest number line names fault (fault_in names) parts is refl (told other)

@@ -42,28 +42,29 @@ met-watches run after line outcome (Opens name) = length_push run.watches _ ∙ 
 met-watches run after line outcome (Steps number next status stepped) = ap (λ r. length r.watches) stepped.after_is ∙ length-set run.watches number _
 met-watches run after line outcome Packs = refl
 
--- a run before its first line
-pub running-start : (start : RunState) (lines : List Line) (rules : List Rule) (printed : List ℕ) → printed ≡ [] → StepsFollow (length start.watches) lines → rules ≡ rules_in lines → IsRunning start lines start lines rules printed
-running-start start lines rules printed none steps rules_are =
-    rw none record { on = λ rest run. run; steps = steps; rules_are = rules_are }
-
 -- a run at the line whose turn it is
-pub running-turn : (start run : RunState) (whole items lines : List Line) (i : ℕ) (line : Line) (rules : List Rule) (printed : List ℕ) → items ≡ lines → i < length items → line ≡ get_or items i line → IsRunning start whole run (drop i lines) rules printed → IsRunning start whole run (line ∷ drop (i + 1) lines) rules printed
+pub running-turn : (start run : RunState) (whole items lines : List Line) (i : ℕ) (line : Line) (rules : List Rule) (printed : List ℕ) → items ≡ lines
+    → i < length items → line ≡ get_or items i line → IsRunning start whole run (drop i lines) rules printed
+    → IsRunning start whole run (line ∷ drop (i + 1) lines) rules printed
 running-turn start run whole items lines i line rules printed same below is running =
     subst (λ left. IsRunning start whole run left rules printed) (subst (λ l. drop i l ≡ line ∷ drop (i + 1) l) same (left_is items i line below is)) running
 
 -- a run that met one more line and printed what it came to
-pub running-next : (start run after : RunState) (whole lines : List Line) (line : Line) (rules left : List Rule) (printed more : List ℕ) (outcome : Outcome) → IsRunning start whole run (line ∷ lines) rules printed → rules ≡ option_to_list (rule_in line) ++ left → IsLineRun run line after outcome → more ≡ printed ++ (outcome_text outcome ++ codes "\n") → IsRunning start whole after lines left more
+pub running-next : (start run after : RunState) (whole lines : List Line) (line : Line) (rules left : List Rule) (printed more : List ℕ)
+    (outcome : Outcome) → IsRunning start whole run (line ∷ lines) rules printed → rules ≡ option_to_list (rule_in line) ++ left
+    → IsLineRun run line after outcome → more ≡ printed ++ (outcome_text outcome ++ codes "\n") → IsRunning start whole after lines left more
 running-next start run after whole lines line rules left printed more outcome running taken met more_is = record {
   on = λ rest later.
-      let together : printed ++ (outcome_text outcome ++ codes "\n" ++ rest) ≡ more ++ rest = sym (append_assoc printed (outcome_text outcome ++ codes "\n") rest) ∙ ap (λ text. text ++ rest) (sym more_is) in
+      let together : printed ++ (outcome_text outcome ++ codes "\n" ++ rest) ≡ more ++ rest =
+      sym (append_assoc printed (outcome_text outcome ++ codes "\n") rest) ∙ ap (λ text. text ++ rest) (sym more_is) in
       subst (λ output. ScriptRun start whole output) together (running.on _ (Runs run after line outcome _ rest met later));
   steps = subst (λ watches. StepsFollow watches lines) (sym (met-watches run after line outcome met)) running.steps.1;
   rules_are = rules_behind line lines rules left running.rules_are taken;
 }
 
 -- a run behind its last line
-pub running-end : (start run : RunState) (whole items lines : List Line) (i : ℕ) (rules : List Rule) (printed output : List ℕ) → items ≡ lines → length items ≤ i → output ≡ printed → IsRunning start whole run (drop i lines) rules printed → ScriptRun start whole output
+pub running-end : (start run : RunState) (whole items lines : List Line) (i : ℕ) (rules : List Rule) (printed output : List ℕ) → items ≡ lines
+    → length items ≤ i → output ≡ printed → IsRunning start whole run (drop i lines) rules printed → ScriptRun start whole output
 running-end start run whole items lines i rules printed output same past is running =
     let none : drop i lines ≡ [] = ap (drop i) (sym same) ∙ drop_of_length-le items past in
     let ended = subst (λ left. IsRunning start whole run left rules printed) none running in

@@ -26,7 +26,10 @@ rules_more lines i line below is =
     ap rules_in (take_more lines i line below) ∙ filter_map-append rule_in (take i lines) (get_or lines i line ∷ []) ∙ ap (λ l. rules_in (take i lines) ++ cons_option (rule_in l) []) (sym is)
 
 -- a line that registers a service has a probe made
-pub made_one : {P : Type 0} (rule_of : P → Rule) (memory_of : P → ℕ) (lines : List Line) (i : ℕ) (line : Line) (found : Option Rule) (rule : Rule) (made : Result P AllocError) (probe : P) (probes next : List P) → i < length lines → line ≡ get_or lines i line → found ≡ rule_in line → found ≡ Some rule → IsAsked rule_of memory_of rule made → made ≡ Ok probe → next ≡ probes ++ probe ∷ [] → AreMade rule_of memory_of (take i lines) probes → AreMade rule_of memory_of (take (i + 1) lines) next
+pub made_one : {P : Type 0} (rule_of : P → Rule) (memory_of : P → ℕ) (lines : List Line) (i : ℕ) (line : Line) (found : Option Rule) (rule : Rule)
+    (made : Result P AllocError) (probe : P) (probes next : List P) → i < length lines → line ≡ get_or lines i line → found ≡ rule_in line
+    → found ≡ Some rule → IsAsked rule_of memory_of rule made → made ≡ Ok probe → next ≡ probes ++ probe ∷ []
+    → AreMade rule_of memory_of (take i lines) probes → AreMade rule_of memory_of (take (i + 1) lines) next
 made_one {P} rule_of memory_of lines i line found rule made probe probes next below is looked some asked gave pushed before =
     let Asked : Result P AllocError → Type 0 = λ m. IsAsked rule_of memory_of rule m in
     let Made : List P → Type 0 = λ ps. AreMade rule_of memory_of (take (i + 1) lines) ps in
@@ -40,7 +43,9 @@ made_one {P} rule_of memory_of lines i line found rule made probe probes next be
     subst Made (sym pushed) after
 
 -- another line has none
-pub made_none : {P : Type 0} (rule_of : P → Rule) (memory_of : P → ℕ) (lines : List Line) (i : ℕ) (line : Line) (found : Option Rule) (probes : List P) → i < length lines → line ≡ get_or lines i line → found ≡ rule_in line → found ≡ None → AreMade rule_of memory_of (take i lines) probes → AreMade rule_of memory_of (take (i + 1) lines) probes
+pub made_none : {P : Type 0} (rule_of : P → Rule) (memory_of : P → ℕ) (lines : List Line) (i : ℕ) (line : Line) (found : Option Rule)
+    (probes : List P) → i < length lines → line ≡ get_or lines i line → found ≡ rule_in line → found ≡ None
+    → AreMade rule_of memory_of (take i lines) probes → AreMade rule_of memory_of (take (i + 1) lines) probes
 made_none rule_of memory_of lines i line found probes below is looked none before = record {
   rules = before.rules ∙ sym (append-nil (rules_in (take i lines))) ∙ ap (λ r. rules_in (take i lines) ++ cons_option r []) (sym none ∙ looked) ∙ sym (rules_more lines i line below is);
   memories = before.memories;

@@ -1,5 +1,5 @@
 -- The lines of a script, one after another, and its faults.
-use Rattle.std.proofs.Common.{ℕ, suc, refl, sym, ◌≡◌, ◌≤◌, ◌↔◌, Bool, true, false, IsTrue, List, [], ◌∷◌, ◌++◌, length, append_assoc, length-append, map, take, ap, ◌∙◌, subst, arith}
+use Rattle.std.proofs.Common.{ℕ, suc, sym, ◌≡◌, ◌≤◌, ◌↔◌, Bool, true, false, IsTrue, List, [], ◌∷◌, ◌++◌, length, append_assoc, length-append, map, take, ap, ◌∙◌, subst, arith}
 use Rattle.std.proofs.lemmas.List.{append-nil, take-map}
 use Rattle.std.proofs.Math.Seq.{take-append_seam}
 use Rattle.std.specs.Str.{IsUtf8}
@@ -11,9 +11,10 @@ use Rattle.script.specs.declared.script.Mode.TheVariants.{Replay, Serve, Run}
 use Rattle.script.specs.declared.script_fault.ScriptFault.{ScriptFault}
 use Rattle.script.specs.declared.script_fault.ScriptFault.TheVariants.{BadLine}
 use Rattle.script.specs.Line.{IsLineText, IsOrderText}
-use Rattle.script.specs.Lines.{Left, left_from, with_line, first_numbers}
+use Rattle.script.specs.TextLines.{Left, left_from, with_line, first_numbers}
 use Rattle.script.specs.Opening.{TakesCatalogue, TakesMax, IsCatalogueFault, IsMaxFault}
-use Rattle.script.specs.Script.{watches_after, IsStepOfOpened, StepsFollow, IsAllowed, IsNextLine, IsGo, TakesLines, IsLinesFault, AreOrders, IsOrdersFault, IsText, Opens, IsScript, IsScriptFault, ScriptParts}
+use Rattle.script.specs.Script.{watches_after, IsStepOfOpened, StepsFollow, IsAllowed, IsNextLine, IsGo, TakesLines, IsLinesFault, AreOrders}
+use Rattle.script.specs.Script.{IsOrdersFault, IsText, Opens, IsScript, IsScriptFault, ScriptParts}
 use Rattle.script.proofs.OneLine.{one_line_text}
 use Rattle.script.specs.Script.TakesLines.{AtEnd, AtGo, NextLine}
 use Rattle.script.specs.Script.IsLinesFault.{BadHere, BadLater}
@@ -22,7 +23,8 @@ use Rattle.script.specs.Script.IsOrdersFault.{NotHere, NotLater}
 use Rattle.script.specs.Script.IsScriptFault.{InCatalogue, InMax, InLines, InOrders}
 
 -- a line that may not stand there is no next line, and no other is
-pub not_allowed : (mode : Mode) (names : List (List ℕ)) (watches : ℕ) (text : List ℕ) (line : Line) (allowed : Bool) → IsLineText names text line → (IsTrue allowed ↔ IsAllowed mode watches line) → allowed ≡ false
+pub not_allowed : (mode : Mode) (names : List (List ℕ)) (watches : ℕ) (text : List ℕ) (line : Line) (allowed : Bool) → IsLineText names text line
+    → (IsTrue allowed ↔ IsAllowed mode watches line) → allowed ≡ false
     → (other : Line) → ¬ IsNextLine mode names watches text other
 not_allowed mode names watches text line allowed is tells failed other next =
     let same : other ≡ line = one_line_text names text other line next.is is in
@@ -78,11 +80,9 @@ pub record Numbering (start : List (ℕ × List ℕ)) (count : ℕ) (numbers : L
   pub all : map (λ line. line.0) start ≡ numbers ++ map (λ line. line.0) now
   pub each : length numbers ≡ count
 
-pub begins_numbers : (start : List (ℕ × List ℕ)) → Numbering start 0 [] start
-begins_numbers start = record { all = refl; each = refl }
-
 -- one number more
-pub next_number : (start : List (ℕ × List ℕ)) (lines more : List Line) (line : Line) (numbers new : List ℕ) (left rest : Left) (number : ℕ) (text : List ℕ) → Numbering start (length lines) numbers left.lines
+pub next_number : (start : List (ℕ × List ℕ)) (lines more : List Line) (line : Line) (numbers new : List ℕ) (left rest : Left) (number : ℕ)
+    (text : List ℕ) → Numbering start (length lines) numbers left.lines
     → left ≡ with_line (number, text) rest → more ≡ lines ++ line ∷ [] → new ≡ numbers ++ number ∷ [] → Numbering start (length more) new rest.lines
 next_number start lines more line numbers new left rest number text so_far parts longer pushed =
     let at : left.lines ≡ (number, text) ∷ rest.lines = lines_left left rest (number, text) parts in
@@ -149,11 +149,9 @@ pub record Ordering (start : List (ℕ × List ℕ)) (orders : List OrderOf) (no
   pub on : (more : List OrderOf) → AreOrders now more → AreOrders start (orders ++ more)
   pub fault : (fault : ScriptFault) → IsOrdersFault now fault → IsOrdersFault start fault
 
-pub begins_orders : (start : List (ℕ × List ℕ)) → Ordering start [] start
-begins_orders start = record { on = λ more are. are; fault = λ fault is. is }
-
 -- one order more
-pub next_order : (start : List (ℕ × List ℕ)) (orders new : List OrderOf) (left rest : Left) (number : ℕ) (text : List ℕ) (order : OrderOf) → Ordering start orders left.lines → left ≡ with_line (number, text) rest
+pub next_order : (start : List (ℕ × List ℕ)) (orders new : List OrderOf) (left rest : Left) (number : ℕ) (text : List ℕ) (order : OrderOf)
+    → Ordering start orders left.lines → left ≡ with_line (number, text) rest
     → IsOrderText text order → new ≡ orders ++ order ∷ [] → Ordering start new rest.lines
 next_order start orders new left rest number text order so_far parts is pushed =
     let at : left.lines ≡ (number, text) ∷ rest.lines = lines_left left rest (number, text) parts in
@@ -181,7 +179,8 @@ pub begun : (mode : Mode) (bytes text : List ℕ) (start : Left) → length byte
 begun mode bytes text start short utf8 same is = record { is_text = record { short = short; text = utf8 }; is = is ∙ ap (left_from mode 1) same }
 
 -- a script opens
-pub opened : (mode : Mode) (bytes : List ℕ) (start behind body : Left) (names : List (List ℕ)) (max : ℕ) → Begun mode bytes start → TakesCatalogue start names behind → TakesMax behind max body → Opens mode bytes names max body
+pub opened : (mode : Mode) (bytes : List ℕ) (start behind body : Left) (names : List (List ℕ)) (max : ℕ) → Begun mode bytes start
+    → TakesCatalogue start names behind → TakesMax behind max body → Opens mode bytes names max body
 opened mode bytes start behind body names max so_far catalogue most =
     record { is_text = so_far.is_text; behind_catalogue = behind; catalogue = subst (λ (left : Left). TakesCatalogue left names behind) so_far.is catalogue; most = most }
 
@@ -194,18 +193,21 @@ pub in_max : (mode : Mode) (bytes : List ℕ) (start behind : Left) (names : Lis
 in_max mode bytes start behind names fault so_far catalogue is =
     InMax names behind fault so_far.is_text (subst (λ (left : Left). TakesCatalogue left names behind) so_far.is catalogue) is
 
-pub in_lines : (mode : Mode) (bytes : List ℕ) (start behind body : Left) (names : List (List ℕ)) (max : ℕ) (fault : ScriptFault) → Begun mode bytes start → TakesCatalogue start names behind → TakesMax behind max body
+pub in_lines : (mode : Mode) (bytes : List ℕ) (start behind body : Left) (names : List (List ℕ)) (max : ℕ) (fault : ScriptFault)
+    → Begun mode bytes start → TakesCatalogue start names behind → TakesMax behind max body
     → IsLinesFault mode names 0 body.lines fault → IsScriptFault mode bytes fault
 in_lines mode bytes start behind body names max fault so_far catalogue most is =
     InLines names max body fault (opened mode bytes start behind body names max so_far catalogue most) is
 
-pub in_orders : (mode : Mode) (bytes : List ℕ) (start behind body : Left) (names : List (List ℕ)) (max : ℕ) (lines : List Line) (rest : List (ℕ × List ℕ)) (fault : ScriptFault) → Begun mode bytes start
+pub in_orders : (mode : Mode) (bytes : List ℕ) (start behind body : Left) (names : List (List ℕ)) (max : ℕ) (lines : List Line)
+    (rest : List (ℕ × List ℕ)) (fault : ScriptFault) → Begun mode bytes start
     → TakesCatalogue start names behind → TakesMax behind max body → TakesLines mode names 0 body.lines lines rest → IsOrdersFault rest fault → IsScriptFault mode bytes fault
 in_orders mode bytes start behind body names max lines rest fault so_far catalogue most takes is =
     InOrders names max body lines rest fault (opened mode bytes start behind body names max so_far catalogue most) takes is
 
 -- all parts of a script
-pub whole : (mode : Mode) (bytes : List ℕ) (start behind body : Left) (names : List (List ℕ)) (max : ℕ) (lines : List Line) (numbers : List ℕ) (rest : List (ℕ × List ℕ)) (orders : List OrderOf) (script : ScriptParts) → Begun mode bytes start
+pub whole : (mode : Mode) (bytes : List ℕ) (start behind body : Left) (names : List (List ℕ)) (max : ℕ) (lines : List Line) (numbers : List ℕ)
+    (rest : List (ℕ × List ℕ)) (orders : List OrderOf) (script : ScriptParts) → Begun mode bytes start
     → TakesCatalogue start names behind → TakesMax behind max body → TakesLines mode names 0 body.lines lines rest → numbers ≡ first_numbers (length lines) body.lines → AreOrders rest orders
     → script ≡ record { names = names; max = max; lines = lines; numbers = numbers; orders = orders } → IsScript mode bytes script
 whole mode bytes start behind body names max lines numbers rest orders script so_far catalogue most takes numbered are is =

@@ -27,11 +27,6 @@ pub record IsSettingUp {S : Type 0} (answers : S → S → Option Call → Resul
   pub on : (new : S) (more : List (Result Reply Refusal)) → AreAnswered answers now new (line_changes names left) more → AreAnswered answers old new whole (results ++ more)
   pub rules_are : rules ≡ rules_in left
 
--- before the first line
-pub setting-start : {S : Type 0} (answers : S → S → Option Call → Result Reply Refusal → Type 0) (names : List (List ℕ)) (old : S) (lines : List Line) (rules : List Rule)
-    (results : List (Result Reply Refusal)) → results ≡ [] → rules ≡ rules_in lines → IsSettingUp answers names old (line_changes names lines) old lines rules results
-setting-start answers names old lines rules results none rules_are = rw none record { on = λ new more answered. answered; rules_are = rules_are }
-
 -- at the line whose turn it is
 pub setting-turn : {S : Type 0} (answers : S → S → Option Call → Result Reply Refusal → Type 0) (names : List (List ℕ)) (old : S) (whole : List (Option Call)) (now : S)
     (lines : List Line) (i : ℕ) (line : Line) (rules : List Rule) (results : List (Result Reply Refusal)) → i < length lines → line ≡ get_or lines i line

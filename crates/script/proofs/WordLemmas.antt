@@ -2,7 +2,7 @@
 use Rattle.std.proofs.Common.{ℕ, ◌≡◌, ◌<◌, ◌≤◌, ◌==◌, ◌||◌, List, [], ◌∷◌, length, get_or, take, drop, ◌-◌, Bool, true, false, refl, sym, ap, ◌∙◌, arith, Bor}
 use Rattle.std.proofs.Math.Seq.{take-length}
 use Rattle.std.specs.List.{list_any, slice_split}
-use Rattle.script.specs.Lines.{AreWords, texts}
+use Rattle.script.specs.TextLines.{AreWords, texts}
 
 -- a word alone
 pub one_word : (words : List (Bor (List ℕ))) (default : Bor (List ℕ)) (first : List ℕ) → 1 ≤ length words → length words < 2 → (get_or words 0 default).now ≡ first → texts words ≡ first ∷ []

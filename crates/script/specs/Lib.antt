@@ -1,10 +1,10 @@
 pub mod Change
 pub mod Line
-pub mod Lines
 pub mod Opening
 pub mod Reading
 pub mod Rules
 pub mod Run
 pub mod RunText
 pub mod Script
+pub mod TextLines
 pub mod Word

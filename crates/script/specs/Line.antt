@@ -11,7 +11,7 @@ use Rattle.desk_core.specs.Catalogue.{slot_of}
 use Rattle.desk_core.specs.Status.{has_slot}
 use Rattle.script.specs.declared.line.Line.{Line}
 use Rattle.script.specs.declared.line.Line.TheVariants.{Register, Retire, Order, Check, Open, Step, Board}
-use Rattle.script.specs.Lines.{AreWords}
+use Rattle.script.specs.TextLines.{AreWords}
 use Rattle.script.specs.Word.{name_of, IsNumber}
 
 -- the slots of these words' names, as the bits of a mask

@@ -4,7 +4,7 @@ use Rattle.desk_core.specs.declared.catalogue.CatalogueFault.{CatalogueFault}
 use Rattle.desk_core.specs.Fault.{fault_in}
 use Rattle.script.specs.declared.script_fault.ScriptFault.{ScriptFault}
 use Rattle.script.specs.declared.script_fault.ScriptFault.TheVariants.{BadLine, Catalogue}
-use Rattle.script.specs.Lines.{Left, with_line, AreWords}
+use Rattle.script.specs.TextLines.{Left, with_line, AreWords}
 use Rattle.script.specs.Word.{name_of, IsNumber}
 
 -- the line lists these names, one or more

@@ -51,16 +51,20 @@ pub record IsStepped (run : RunState) (number : ℕ) (after : RunState) (status 
 
 -- how a run meets a line: the run after it, and what the line comes to
 pub data IsLineRun (run : RunState) : Line → RunState → Outcome → Type 0 where
-  Changes : (line : Line) (call : Option Call) (after : RunState) (taken : Result Reply Refusal) → line_change run.names line ≡ Some call → IsChanged run after call taken → IsLineRun run line after (outcomes.Changed taken)
+  Changes : (line : Line) (call : Option Call) (after : RunState) (taken : Result Reply Refusal) → line_change run.names line ≡ Some call
+      → IsChanged run after call taken → IsLineRun run line after (outcomes.Changed taken)
   Checks : (name : List ℕ) → IsLineRun run (Check name) run (outcomes.Checked (status_map run.names run.entries name))
-  Opens : (name : List ℕ) → IsLineRun run (Open name) (with_watches run (run.watches ++ opened (changes_of run.entries) (slot_of run.names name) ∷ [])) (outcomes.Opened (length run.watches) (shown run.entries (slot_of run.names name)))
+  Opens : (name : List ℕ) → IsLineRun run (Open name)
+      (with_watches run (run.watches ++ opened (changes_of run.entries) (slot_of run.names name) ∷ []))
+      (outcomes.Opened (length run.watches) (shown run.entries (slot_of run.names name)))
   Steps : (number : ℕ) (after : RunState) (status : Option Serving) → IsStepped run number after status → IsLineRun run (Step number) after (outcomes.Stepped status)
   Packs : IsLineRun run Board run (outcomes.Board (board_of run.entries))
 
 -- what a run that meets these lines prints: what each comes to, in a line of its own
 pub data ScriptRun : RunState → List Line → List ℕ → Type 0 where
   Ends : (run : RunState) → ScriptRun run [] []
-  Runs : (run after : RunState) (line : Line) (outcome : Outcome) (lines : List Line) (output : List ℕ) → IsLineRun run line after outcome → ScriptRun after lines output → ScriptRun run (line ∷ lines) (outcome_text outcome ++ codes "\n" ++ output)
+  Runs : (run after : RunState) (line : Line) (outcome : Outcome) (lines : List Line) (output : List ℕ) → IsLineRun run line after outcome
+      → ScriptRun after lines output → ScriptRun run (line ∷ lines) (outcome_text outcome ++ codes "\n" ++ output)
 
 -- what a run of a script prints
 abbrev pub IsScriptRun : ScriptParts → List ℕ → Type 0

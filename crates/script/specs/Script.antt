@@ -8,7 +8,7 @@ use Rattle.script.specs.declared.script.Mode.{Mode}
 use Rattle.script.specs.declared.script.Mode.TheVariants.{Replay, Serve, Run}
 use Rattle.script.specs.declared.script_fault.ScriptFault.{ScriptFault}
 use Rattle.script.specs.declared.script_fault.ScriptFault.TheVariants.{TooLong, NotText, BadLine}
-use Rattle.script.specs.Lines.{Left, left_from, first_numbers}
+use Rattle.script.specs.TextLines.{Left, left_from, first_numbers}
 use Rattle.script.specs.Line.{IsLineText, IsOrderText}
 use Rattle.script.specs.Opening.{TakesCatalogue, TakesMax, IsCatalogueFault, IsMaxFault}
 

@@ -1,9 +1,39 @@
 //! Scripts: lines of text that set a registry up, change it and ask it.
+//!
+//! # A caller
+//!
+//! ```rust
+//! #![tactic(auto)]
+//!
+//! ghost use Rattle.std.specs.Prelude.{◌≡◌, ◌≢◌, IfOk, IfErr};
+//! ghost use Rattle.probe_core.specs.Made.{MakesAsked};
+//! ghost use Rattle.script.specs.Run.{IsScriptRun};
+//! ghost use Rattle.script.specs.Script.{ScriptParts, IsScript, IsScriptFault};
+//!
+//! use probe_core::{Probe, Rule};
+//! use script::{Mode, ScriptFault, read_script, run_script};
+//! use std::alloc::{AllocError, Global};
+//!
+//! /// Runs the text of a script. It gives what the lines come to, or the first fault of the text.
+//! pub fn replay<P: Probe, F: Fn(Rule) -> Result<P, AllocError>>(
+//!     alloc: Global,
+//!     text: &[u8],
+//!     make: &F,
+//! ) -> Result<Vec<u8>, ScriptFault>
+//!     requires callable { F.IsAlwaysCallable make.now }
+//!     requires asked { MakesAsked P.rule P.memory (F.post make.now) }
+//!     ensures ran { IfOk result (λ output. (script : ScriptParts)
+//!         × IsScript Mode.Replay text.now script × IsScriptRun script output.items) }
+//!     ensures fault { IfErr result (λ fault. fault ≢ ScriptFault.NoMemory → IsScriptFault Mode.Replay text.now fault) }
+//! {
+//!     let script = read_script(alloc, text, Mode::Replay)?;
+//!     Ok(run_script(alloc, script, make)?)
+//! }
+//! ```
 #![tactic(auto)]
 
 mod laws;
 mod line;
-mod lines;
 mod name;
 mod number;
 mod opening;
@@ -17,18 +47,19 @@ mod run;
 mod script;
 mod script_fault;
 mod setup;
+mod text_lines;
 mod texts;
 mod words;
 
 pub use laws::{changes_in_place, one_script};
 pub use line::{Line, read_line};
-pub use lines::without_cr;
-pub use probes::probes_for;
+pub use probes::{probe_for, probes_for};
 pub use reading::read_script;
 pub use replay::run_script;
 pub use script::{Mode, Script};
 pub use script_fault::ScriptFault;
 pub use setup::set_up;
+pub use text_lines::without_cr;
 pub use texts::{changed_text, checked_text};
 
 #[cfg(test)]

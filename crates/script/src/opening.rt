@@ -1,15 +1,15 @@
 ghost use Rattle.std.specs.Prelude.{◌≡◌, ◌≢◌, map, string_bytes, IfOk, IfErr, OnOk, None, Some};
 ghost use Rattle.std.specs.Option.{option_map};
 ghost use Rattle.desk_core.specs.Fault.{fault_in};
-ghost use Rattle.script.specs.Lines.{texts};
+ghost use Rattle.script.specs.TextLines.{texts};
 ghost use Rattle.script.specs.Opening.{IsCatalogueLine, IsMaxLine, TakesCatalogue, TakesMax, IsCatalogueFault, IsMaxFault};
 ghost use Rattle.script.specs.Reading.{IsReading};
 ghost use Rattle.script.specs.Word.{name_of};
 
-use crate::lines::Lines;
 use crate::name::name_of;
 use crate::number::number_of;
 use crate::script_fault::ScriptFault;
+use crate::text_lines::Lines;
 use crate::words::words_of;
 use desk_core::{Catalogue, CatalogueFault};
 use std::alloc::{AllocError, Global};

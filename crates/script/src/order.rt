@@ -1,6 +1,6 @@
 ghost use Rattle.std.specs.Prelude.{IfOk};
 ghost use Rattle.script.specs.Line.{IsOrder, IsOrderText};
-ghost use Rattle.script.specs.Lines.{texts};
+ghost use Rattle.script.specs.TextLines.{texts};
 ghost use Rattle.script.specs.Reading.{IsReading};
 
 use crate::name::read_name;

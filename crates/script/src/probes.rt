@@ -1,4 +1,4 @@
-ghost use Rattle.std.specs.Prelude.{◌≡◌, ◌++◌, List, map, All, IfOk};
+ghost use Rattle.std.specs.Prelude.{◌≡◌, ◌++◌, List, map, All, IfOk, IfSome};
 ghost use Rattle.std.specs.Option.{option_map, option_to_list};
 ghost use Rattle.std.specs.Vec.Iter.{into_iter_items};
 ghost use Rattle.probe_core.specs.declared.rule.Rule.{Rule};
@@ -10,6 +10,22 @@ use crate::line::Line;
 use probe_core::{Probe, Rule};
 use std::alloc::{AllocError, Global};
 use std::vec::IntoIter;
+
+/// A probe for the line, if it registers one.
+pub fn probe_for<P: Probe, F: Fn(Rule) -> Result<P, AllocError>>(
+    make: &F,
+    line: &Line,
+) -> Result<Option<P>, AllocError>
+    requires callable { F.IsAlwaysCallable make.now }
+    requires asked { MakesAsked P.rule P.memory (F.post make.now) }
+    ensures rule { IfOk result (λ probe. option_map P.rule probe ≡ rule_in line.now) }
+    ensures memory { IfOk result (λ probe. IfSome probe (λ one. P.memory one ≡ opening_memory (P.rule one))) }
+{
+    match line.rule() {
+        Some(rule) => Ok(Some(make(rule)?)),
+        None => Ok(None),
+    }
+}
 
 /// A probe for each of the lines that register one, in their order.
 pub fn probes_for<P: Probe, F: Fn(Rule) -> Result<P, AllocError>>(

@@ -1,14 +1,14 @@
 ghost use Rattle.std.specs.Prelude.{◌≡◌, ◌≢◌, ◌+◌, ◌^◌, ◌<◌, ◌↔◌, length, IsTrue, IfOk, IfErr};
-ghost use Rattle.script.specs.Lines.{first_numbers};
+ghost use Rattle.script.specs.TextLines.{first_numbers};
 ghost use Rattle.script.specs.Reading.{IsReading};
 ghost use Rattle.script.specs.Script.{IsGo, IsNextLine, TakesLines, IsLinesFault, AreOrders, IsOrdersFault, IsText, IsScript, IsScriptFault};
 
 use crate::line::{Line, read_line};
-use crate::lines::Lines;
 use crate::opening::{read_catalogue, read_max};
 use crate::order::read_order;
 use crate::script::{Mode, Script};
 use crate::script_fault::ScriptFault;
+use crate::text_lines::Lines;
 use desk_core::{Catalogue, Order};
 use std::alloc::{AllocError, Global};
 

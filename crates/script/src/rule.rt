@@ -1,5 +1,5 @@
 ghost use Rattle.script.specs.Line.{IsRule, IsThreshold, IsMaskOf};
-ghost use Rattle.script.specs.Lines.{texts};
+ghost use Rattle.script.specs.TextLines.{texts};
 ghost use Rattle.script.specs.Reading.{IsReading};
 
 use crate::name::name_of;

@@ -1,7 +1,7 @@
 ghost use Rattle.std.specs.Prelude.{◌≡◌, ◌==◌, length, IfOk};
 ghost use Rattle.std.specs.List.{list_any, slice_split};
 ghost use Rattle.std.specs.Option.{option_map};
-ghost use Rattle.script.specs.Lines.{AreWords, texts};
+ghost use Rattle.script.specs.TextLines.{AreWords, texts};
 ghost use Rattle.script.specs.Reading.{IsReading};
 
 use std::alloc::{AllocError, Global};

@@ -1,6 +1,6 @@
 use Rattle.std.proofs.Common.{◌≡◌, map, take}
 use Rattle.std.specs.String.{string_bytes}
-use Rattle.script.specs.Lines.{texts}
+use Rattle.script.specs.TextLines.{texts}
 use Rattle.script.specs.Word.{name_of}
 use Rattle.script.proofs.opening.names_of.Given as goal
 

@@ -16,4 +16,5 @@ loop-line-preserved g c =
 
 pub returns : goal.returns
 returns g c =
-    running-end _ _ _ _ _ _ _ _ _ (c.deref-line-items.ensures.value ∙ c.into_parts-catalogue.ensures.lines) c.loop-line-test.false (ap (λ bytes. bytes.items) c.into_bytes.ensures.value) c.loop-line.invariant
+    running-end _ _ _ _ _ _ _ _ _ (c.deref-line-items.ensures.value ∙ c.into_parts-catalogue.ensures.lines) c.loop-line-test.false
+    (ap (λ bytes. bytes.items) c.into_bytes.ensures.value) c.loop-line.invariant

@@ -1,7 +1,7 @@
 use Rattle.std.proofs.Common.{lit<, refl}
 use Rattle.std.proofs.lemmas.Str.Pattern.{starts_char}
 use Rattle.script.proofs.LineCuts.{no_hash}
-use Rattle.script.proofs.lines.uncommented.Goals as goal
+use Rattle.script.proofs.text_lines.uncommented.Goals as goal
 
 pub returns : goal.returns
 returns c =

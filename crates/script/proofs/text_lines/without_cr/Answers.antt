@@ -1,7 +1,7 @@
 use Rattle.std.proofs.Common.{lit<, refl}
 use Rattle.std.proofs.lemmas.Str.Pattern.{strip_suffix_char}
 use Rattle.script.proofs.LineCuts.{strip_cr}
-use Rattle.script.proofs.lines.without_cr.Goals as goal
+use Rattle.script.proofs.text_lines.without_cr.Goals as goal
 
 pub returns : goal.returns
 returns c =

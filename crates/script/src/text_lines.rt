@@ -1,5 +1,5 @@
 ghost use Rattle.std.specs.Prelude.{◌≡◌, ◌<◌, ◌∷◌, length};
-ghost use Rattle.script.specs.Lines.{without_cr, content, lines};
+ghost use Rattle.script.specs.TextLines.{without_cr, content, lines};
 ghost use Rattle.script.specs.declared.script.Mode.TheVariants.{Run};
 
 use crate::script::Mode;
@@ -15,7 +15,7 @@ pub(crate) struct Lines<'a> {
 
 impl<'a> Model for Lines<'a> {
     ghost use Rattle.std.specs.Prelude.{◌+◌, ◌^◌, ◌<◌, length};
-    ghost use Rattle.script.specs.Lines.{Left, left_from, lines};
+    ghost use Rattle.script.specs.TextLines.{Left, left_from, lines};
 
     ghost Value = { Left };
 
@@ -26,7 +26,7 @@ impl<'a> Model for Lines<'a> {
 
 impl<'a> Lines<'a> {
     ghost use Rattle.std.specs.Prelude.{◌≡◌, ◌≤◌, [], length, IfOk, IfErr};
-    ghost use Rattle.script.specs.Lines.{left_from, with_line};
+    ghost use Rattle.script.specs.TextLines.{left_from, with_line};
 
     /// The lines of a text, whose numbers count from 1.
     pub(crate) fn new(mode: Mode, text: &'a str) -> Lines<'a>
