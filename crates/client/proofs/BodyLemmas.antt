@@ -1,5 +1,6 @@
 -- How the body of a response goes on.
-use Rattle.std.proofs.Common.{ℕ, ◌≡◌, ◌≢◌, ◌+◌, ◌-◌, ◌<◌, ◌≤◌, List, [], ◌∷◌, ◌++◌, length, take, drop, codes, refl, sym, ap, ◌∙◌, subst, arith, append_assoc, length-append, add-zero, zero-add, IsTrue, None, inl, inr}
+use Rattle.std.proofs.Common.{ℕ, ◌≡◌, ◌≢◌, ◌+◌, ◌-◌, ◌<◌, ◌≤◌, List, [], ◌∷◌, ◌++◌, length, take, drop, codes, refl, sym, ap, ◌∙◌, subst, arith}
+use Rattle.std.proofs.Common.{append_assoc, length-append, add-zero, zero-add, IsTrue, None, inl, inr}
 use Rattle.std.proofs.Math.Seq.{take-append_seam, take-append-add}
 use Rattle.std.specs.Char.{is_ascii_hexdigit}
 use Rattle.std.proofs.lemmas.List.{append-nil, nil_from_length}
@@ -12,12 +13,12 @@ use Rattle.std.specs.Str.{bytes_eq}
 use Rattle.std.specs.List.{flat_map}
 use Rattle.httparse.specs.Grammar.{AllPass, is_ows, ChunkLine, IsChunkLine, print_chunk_line, HasNoChunkLine, NeverHasChunkLine, MayBecomeChunkLine}
 use Rattle.httparse.specs.Spans.{IsChunkLineAt}
-use Rattle.client.specs.declared.framing.Framing.{Framing}
-use Rattle.client.specs.declared.framing.Framing.TheVariants.{Chunked, Length}
+use Rattle.client.specs.declared.http_framing.Framing.{Framing}
+use Rattle.client.specs.declared.http_framing.Framing.TheVariants.{Chunked, Length}
 use Rattle.client.specs.declared.response_body.Next.{Next}
 use Rattle.client.specs.declared.response_body.Next.TheVariants.{Line, Data, End, Last}
 use Rattle.client.specs.Chunks.{Chunk, IsChunk, chunk_text, AreChunks}
-use Rattle.client.specs.Framing.{max_body_len}
+use Rattle.client.specs.HttpFraming.{max_body_len}
 use Rattle.client.specs.ResponseBody.{IsInChunk, Stands, NoLine, LongLine, TooMuch, NoEnd, IsBadBody, max_line_len}
 
 -- more bytes behind chunks
@@ -111,17 +112,6 @@ whole_line part byte len size line none at =
       | inl within ↦ absurd (none line (take (length part - length text) rest) (at.reads.0, front_of part (byte ∷ []) text rest reads within))
       | inr over ↦ reads ∙ ap (λ (all : List ℕ). text ++ all) (nil_from_length rest (omega arith)) ∙ append-nil text
     ]
-
--- a line that goes on
-pub line_open : (framing : Framing) (bytes content part : List ℕ) (byte more : ℕ) → HasNoChunkLine (part ++ byte ∷ [])
-    → MayBecomeChunkLine (part ++ byte ∷ []) → length (part ++ byte ∷ []) < max_line_len → Stands framing bytes content (Line part) more
-    → Stands framing (bytes ++ byte ∷ []) (content ++ []) (Line (part ++ byte ∷ [])) more
-line_open Chunked bytes content part byte more none may short stands =
-    content_stays Chunked _ content _ more (record {
-      comes = record { chunks = AreChunks-more bytes content part (byte ∷ []) stands.comes.chunks; none = none; may = may; short = short };
-      most = stands.most;
-    })
-line_open (Length len) bytes content part byte more none may short stands = absurd stands.comes
 
 -- a line that is whole
 pub line_data : (framing : Framing) (bytes content part : List ℕ) (byte more len size : ℕ) (line : ChunkLine) → IsChunkLineAt (part ++ byte ∷ []) len size line

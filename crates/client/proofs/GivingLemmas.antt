@@ -12,16 +12,16 @@ use Rattle.grpc_frame.specs.Split.{max_content_len}
 use Rattle.web_call.specs.InputHead.{IsHead, IsOpenHead, ends_blank, max_head_len}
 use Rattle.web_call.specs.declared.method.Method.{Method}
 use Rattle.web_call.specs.declared.method.Method.TheVariants.{Check, Watch}
-use Rattle.client.specs.declared.framing.Framing.{Framing}
+use Rattle.client.specs.declared.http_framing.Framing.{Framing}
 use Rattle.client.specs.declared.response_body.Next.{Next}
 use Rattle.client.specs.declared.response_body.Next.TheVariants.{Line, Data, End, Last}
-use Rattle.client.specs.Frames.{IsSoundFront}
-use Rattle.client.specs.Framing.{IsFramed}
+use Rattle.client.specs.GrpcFrames.{IsSoundFront}
+use Rattle.client.specs.HttpFraming.{IsFramed}
 use Rattle.client.specs.Reply.{IsReply, IsGoingOn, InBody, IsBad, ByBody, is_enough}
 use Rattle.client.specs.ResponseBody.{Stands, GoesOn, IsBadBody, content_of, is_content, left_of, wanted_by}
 use Rattle.client.specs.Stages.{IsEnding}
 use Rattle.client.proofs.BodyLemmas.{data_more, last_more}
-use Rattle.client.proofs.FrameLemmas.{Tells-more}
+use Rattle.client.proofs.GrpcFrameLemmas.{Tells-more}
 use Rattle.client.proofs.ReplyLemmas.{no_frame, sound_start}
 
 -- no status is enough
@@ -178,10 +178,6 @@ head_open part byte open_head blank short = record {
   ];
   within = short;
 }
-
--- no bytes are the front of a head
-pub head_begun : IsOpenHead []
-head_begun = record { ends_nowhere = λ k within. let none : k ≡ 0 = omega arith in ap (λ (n : ℕ). ends_blank (take n [])) none; within = omega arith }
 
 -- one of two tests is true, or neither
 either : (a b : Bool) → (a || b) ≡ true → (a ≡ true) ⊎ (b ≡ true)

@@ -1,6 +1,6 @@
 pub mod AskingLemmas
 pub mod BodyLemmas
-pub mod FrameLemmas
 pub mod GivingLemmas
+pub mod GrpcFrameLemmas
 pub mod ReplyLemmas
 pub mod TransferLemmas

@@ -15,11 +15,11 @@ use Rattle.web_call.specs.declared.method.Method.TheVariants.{Check, Watch}
 use Rattle.client.specs.declared.response_body.Next.{Next}
 use Rattle.client.specs.declared.response_body.Next.TheVariants.{Line, Data, End, Last}
 use Rattle.client.specs.declared.told.Ended.{Ended}
-use Rattle.client.specs.Frames.{IsSoundFront}
+use Rattle.client.specs.GrpcFrames.{IsSoundFront}
 use Rattle.client.specs.Reply.{IsReply, IsGoingOn, IsTold, ByTrailers, ByCount, ByEnd, IsBad, ByContent, NotSound, BadMessage, BadTrailers, Behind, CutFrame, NoTrailers, is_enough}
 use Rattle.client.specs.ResponseBody.{left_of, spare_in, wanted_by}
 use Rattle.client.specs.Stages.{IsEnding}
-use Rattle.client.proofs.FrameLemmas.{Tells-push}
+use Rattle.client.proofs.GrpcFrameLemmas.{Tells-push}
 
 -- where nothing is wanted the body is over
 at_last : (next : Next) → 1 ≤ spare_in next → wanted_by next ≤ 0 → next ≡ Last 0
@@ -53,7 +53,13 @@ no_frame flag content rest front = let none : 0 ≡ length (frame flag content +
 
 -- nor do they begin one that is wrong
 pub sound_start : (more : ℕ) → IsSoundFront more []
-sound_start more = record { flagged = tt; fits = tt; short = λ long. let none : 0 ≡ length (long.flag ∷ Rattle.std.specs.Int.to_be_bytes Rattle.std.specs.Int.w32 long.len ++ long.rest) = ap length long.parts in omega arith }
+sound_start more = record {
+  flagged = tt;
+  fits = tt;
+  short =
+      λ long. let none : 0 ≡ length (long.flag ∷ Rattle.std.specs.Int.to_be_bytes Rattle.std.specs.Int.w32 long.len ++ long.rest) =
+      ap length long.parts in omega arith;
+}
 
 -- a message that is none
 pub message_bad : (method : Method) (most : ℕ) (bytes : List ℕ) (next : Next) (more : ℕ) (statuses message : List ℕ) (fault : WireFault) → IsFault message fault

@@ -1,6 +1,6 @@
 pub mod Chunks
-pub mod Frames
-pub mod Framing
+pub mod GrpcFrames
+pub mod HttpFraming
 pub mod Reply
 pub mod Request
 pub mod ResponseBody

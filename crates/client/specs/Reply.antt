@@ -12,12 +12,12 @@ use Rattle.web_call.specs.InputHead.{IsHead, IsOpenHead}
 use Rattle.web_call.specs.declared.method.Method.{Method}
 use Rattle.web_call.specs.declared.method.Method.TheVariants.{Check, Watch}
 use Rattle.client.specs.declared.ask_fault.AskFault.TheVariants.{BadResponse, Http}
-use Rattle.client.specs.declared.framing.Framing.{Framing}
+use Rattle.client.specs.declared.http_framing.Framing.{Framing}
 use Rattle.client.specs.declared.response_body.Next.{Next}
 use Rattle.client.specs.declared.response_body.Next.TheVariants.{Last}
 use Rattle.client.specs.declared.told.Ended.{Ended}
-use Rattle.client.specs.Frames.{IsSoundFront, Tells}
-use Rattle.client.specs.Framing.{IsFramed}
+use Rattle.client.specs.GrpcFrames.{IsSoundFront, Tells}
+use Rattle.client.specs.HttpFraming.{IsFramed}
 use Rattle.client.specs.ResponseBody.{IsBadBody, Stands, left_of, wanted_by}
 
 -- whether so many statuses are all that was asked for: a Check is told by its trailers alone

@@ -1,12 +1,12 @@
 -- How far the body of a response has come, and the content that has come with it (RFC 9112, sections 6 and 7.1).
 use Rattle.std.specs.Prelude.{ℕ, ◌≡◌, ◌≢◌, ◌+◌, ◌-◌, ◌*◌, ◌<◌, ◌≤◌, Bool, true, false, List, [], ◌++◌, length, codes}
 use Rattle.httparse.specs.Grammar.{ChunkLine, IsChunkLine, print_chunk_line, chunk_size, HasNoChunkLine, NeverHasChunkLine, MayBecomeChunkLine}
-use Rattle.client.specs.declared.framing.Framing.{Framing}
-use Rattle.client.specs.declared.framing.Framing.TheVariants.{Chunked, Length}
+use Rattle.client.specs.declared.http_framing.Framing.{Framing}
+use Rattle.client.specs.declared.http_framing.Framing.TheVariants.{Chunked, Length}
 use Rattle.client.specs.declared.response_body.Next.{Next}
 use Rattle.client.specs.declared.response_body.Next.TheVariants.{Line, Data, End, Last}
 use Rattle.client.specs.Chunks.{AreChunks}
-use Rattle.client.specs.Framing.{max_body_len}
+use Rattle.client.specs.HttpFraming.{max_body_len}
 
 -- the longest line of a chunk, with its CR LF, which is this client's limit
 abbrev pub max_line_len : ℕ

@@ -6,7 +6,7 @@ use Rattle.client.specs.declared.reply.Reply.{Reply}
 use Rattle.client.specs.declared.reply.Stage.{Stage}
 use Rattle.client.specs.declared.reply.Stage.TheVariants.{Head, Body, Told}
 use Rattle.client.specs.declared.response_body.Next.{Next}
-use Rattle.client.specs.Frames.{missing_in}
+use Rattle.client.specs.GrpcFrames.{missing_in}
 use Rattle.client.specs.Reply.{EndsWith, IsGoingOn, IsTold, is_enough}
 use Rattle.client.specs.ResponseBody.{is_content, owed_by, wanted_by}
 

@@ -6,7 +6,7 @@ ghost use Rattle.grpc_frame.specs.Lines.{lines, trim};
 ghost use Rattle.grpc_frame.specs.Trailers.{IsStatusText, block, trailers_in, written_text};
 ghost use Rattle.grpc_frame.specs.declared.code.Code.{Code};
 ghost use Rattle.client.specs.declared.told.Ended.{Ended};
-ghost use Rattle.client.specs.Frames.{HasStatus, Tells};
+ghost use Rattle.client.specs.GrpcFrames.{HasStatus, Tells};
 
 use grpc_frame::{any_cutting, trailers_read_back, written_frames};
 

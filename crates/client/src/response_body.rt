@@ -1,9 +1,9 @@
 ghost use Rattle.std.specs.Prelude.{◌≡◌, ◌≤◌, ◌<◌, ◌+◌, ◌*◌, ◌∷◌, [], ◌++◌, nat_lt, length, ℕ, List, IfOk, OnErr, IfErr};
-ghost use Rattle.client.specs.declared.framing.Framing.{Framing};
+ghost use Rattle.client.specs.declared.http_framing.Framing.{Framing};
 ghost use Rattle.client.specs.ResponseBody.{Stands, GoesOn, IsBadBody, is_content, left_of, most_content, owed_by, spare_in, wanted_by};
 
 use crate::ask_fault::AskFault;
-use crate::framing::{Framing, MAX_BODY_LEN};
+use crate::http_framing::{Framing, MAX_BODY_LEN};
 use crate::kept::Kept;
 use httparse::{Status, parse_chunk_size};
 

@@ -1,6 +1,6 @@
 ghost use Rattle.std.specs.Prelude.{◌≡◌, ◌≢◌, ◌≤◌, ◌<◌, ◌⊎◌, [], ◌∷◌, ◌++◌, ℕ, List, true, false, nat_le, ◌||◌, length, vec_len, IfOk, IfErr, IsErrOf};
 ghost use Rattle.client.specs.declared.reply.Stage.TheVariants as stages;
-ghost use Rattle.client.specs.Frames.{missing_in};
+ghost use Rattle.client.specs.GrpcFrames.{missing_in};
 ghost use Rattle.client.specs.Reply.{IsBad, IsGoingOn, IsRefused, IsTold};
 ghost use Rattle.client.specs.ResponseBody.{is_content, owed_by, wanted_by};
 ghost use Rattle.client.specs.Stages.{Holds, StandsAt, method_of, most_of, owed_at, owed_of, wanted_of};
@@ -9,8 +9,8 @@ ghost use Rattle.web_call.specs.InputHead.{IsHead, IsOpenHead, ends_blank};
 use super::hearing::{settled, with_content};
 use super::{Call, Heard, Reading, Reply, Stage};
 use crate::ask_fault::AskFault;
-use crate::frames::missing_in;
-use crate::framing::framing_of;
+use crate::grpc_frames::missing_in;
+use crate::http_framing::framing_of;
 use crate::response_body::ResponseBody;
 use crate::told::Told;
 use grpc_frame::Splitter;

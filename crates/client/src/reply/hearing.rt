@@ -1,14 +1,14 @@
 ghost use Rattle.std.specs.Prelude.{◌≡◌, ◌≢◌, ◌≤◌, ◌<◌, ◌+◌, ◌*◌, ◌∷◌, [], ◌++◌, ℕ, List, true, false, length, IfOk, IfErr, OnErr, IsErrOf};
 ghost use Rattle.grpc_frame.specs.Frame.{frame};
 ghost use Rattle.grpc_frame.specs.Split.{BeginsWithNoFrame, max_content_len};
-ghost use Rattle.client.specs.Frames.{missing_in};
+ghost use Rattle.client.specs.GrpcFrames.{missing_in};
 ghost use Rattle.client.specs.Reply.{IsBad, IsGoingOn, is_enough};
 ghost use Rattle.client.specs.ResponseBody.{owed_by};
 ghost use Rattle.client.specs.Stages.{IsEnding, StandsAt, owed_at};
 
 use super::{Call, Heard, Reading, Stage};
 use crate::ask_fault::AskFault;
-use crate::frames::{MESSAGE, next_frame};
+use crate::grpc_frames::{MESSAGE, next_frame};
 use crate::response_body::ResponseBody;
 use crate::told::{Ended, Told};
 use grpc_frame::{Frame, read_trailers};

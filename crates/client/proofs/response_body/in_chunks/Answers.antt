@@ -1,7 +1,7 @@
 use Rattle.std.proofs.Common.{subst, sym, List, ℕ, []}
-use Rattle.client.specs.declared.framing.Framing.TheVariants.{Chunked}
+use Rattle.client.specs.declared.http_framing.Framing.TheVariants.{Chunked}
 use Rattle.client.specs.declared.response_body.Next.TheVariants.{Line}
-use Rattle.client.specs.Framing.{max_body_len}
+use Rattle.client.specs.HttpFraming.{max_body_len}
 use Rattle.client.specs.ResponseBody.{Stands}
 use Rattle.client.proofs.BodyLemmas.{begun_chunks}
 use Rattle.client.proofs.response_body.in_chunks.Goals as goal

@@ -1,8 +1,8 @@
 use Rattle.std.proofs.Common.{◌≡◌, drop, map}
 use Rattle.std.specs.List.{list_any}
 use Rattle.httparse.specs.Spans.{header_bytes}
-use Rattle.client.specs.Framing.{is_chunked}
-use Rattle.client.proofs.framing.has_chunked.Given as goal
+use Rattle.client.specs.HttpFraming.{is_chunked}
+use Rattle.client.proofs.http_framing.has_chunked.Given as goal
 
 abbrev pub invariant-loop-line : goal.invariant-loop-line
 invariant-loop-line l =

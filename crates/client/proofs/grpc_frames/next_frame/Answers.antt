@@ -1,5 +1,5 @@
-use Rattle.client.proofs.FrameLemmas.{taken_there, none_there}
-use Rattle.client.proofs.frames.next_frame.Goals as goal
+use Rattle.client.proofs.GrpcFrameLemmas.{taken_there, none_there}
+use Rattle.client.proofs.grpc_frames.next_frame.Goals as goal
 
 pub returns-in-Ok-clause-frame : goal.returns-in-Ok-clause-frame
 returns-in-Ok-clause-frame c =

@@ -2,7 +2,7 @@ ghost use Rattle.std.specs.Prelude.{◌≡◌, ◌≤◌, length, map, All, IfOk
 ghost use Rattle.std.specs.List.{list_any};
 ghost use Rattle.httparse.specs.Spans.{IsHeaderWithin, header_bytes};
 ghost use Rattle.client.specs.ResponseBody.{most_content};
-ghost use Rattle.client.specs.Framing.{IsFramed, framing_in, is_chunked, only_length};
+ghost use Rattle.client.specs.HttpFraming.{IsFramed, framing_in, is_chunked, only_length};
 
 use crate::ask_fault::AskFault;
 use httparse::Status;

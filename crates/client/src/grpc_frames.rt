@@ -1,7 +1,7 @@
 ghost use Rattle.std.specs.Prelude.{◌≡◌, ◌≢◌, ◌≤◌, ◌<◌, [], ◌++◌, length, ℕ, OnOk, OnErr, IfOk, IfErr, IfSome, IfNone, IsErrOf};
 ghost use Rattle.grpc_frame.specs.Frame.{frame};
 ghost use Rattle.grpc_frame.specs.Split.{BeginsWithNoFrame, max_content_len};
-ghost use Rattle.client.specs.Frames.{IsSoundFront, FitsIn, IsFlagged, missing_in};
+ghost use Rattle.client.specs.GrpcFrames.{IsSoundFront, FitsIn, IsFlagged, missing_in};
 
 use crate::ask_fault::AskFault;
 use grpc_frame::{Frame, SplitFault, Splitter};

@@ -11,7 +11,7 @@ use Rattle.grpc_frame.specs.declared.frame.Frame.{Frame}
 use Rattle.grpc_frame.specs.Frame.{frame}
 use Rattle.grpc_frame.specs.Split.{max_content_len, BeginsWithFrame, BeginsWithNoFrame, bytes_of}
 use Rattle.health_wire.specs.Response.{IsResponse}
-use Rattle.client.specs.Frames.{HasStatus, Tells, missing_in}
+use Rattle.client.specs.GrpcFrames.{HasStatus, Tells, missing_in}
 use Rattle.client.proofs.BodyLemmas.{at_most, front_of}
 
 -- the length that stands in a frame

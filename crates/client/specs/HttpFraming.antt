@@ -9,8 +9,8 @@ use Rattle.web_call.specs.Head.{is_too_large}
 use Rattle.web_call.specs.Lines.{count_named, first_named, is_named}
 use Rattle.client.specs.declared.ask_fault.AskFault.{AskFault}
 use Rattle.client.specs.declared.ask_fault.AskFault.TheVariants.{BadResponse, Http}
-use Rattle.client.specs.declared.framing.Framing.{Framing}
-use Rattle.client.specs.declared.framing.Framing.TheVariants.{Chunked, Length}
+use Rattle.client.specs.declared.http_framing.Framing.{Framing}
+use Rattle.client.specs.declared.http_framing.Framing.TheVariants.{Chunked, Length}
 
 -- the most bytes of content that are read, which is this client's limit
 abbrev pub max_body_len : ℕ
