@@ -35,7 +35,7 @@ use Rattle.web_call.specs.Reading.{is_whole}
 use Rattle.web_call.specs.Request.{IsRequested}
 use Rattle.web_call.specs.Stages.{watches}
 use Rattle.web_call.specs.Text.{text_bytes, IsTextOf}
-use Rattle.web_call.specs.Texts.{check_pieces, crlf, message_chunk, message_frame, watch_end, watch_head_text}
+use Rattle.web_call.specs.ResponseTexts.{check_pieces, crlf, message_chunk, message_frame, watch_end, watch_head_text}
 use Rattle.web_call.specs.Walk.{told_by, watch_after}
 use Rattle.desk_core.proofs.WatchLemmas.{step_tells}
 use Rattle.web_call.proofs.HeadLemmas.{one_answer}

@@ -10,7 +10,7 @@ use Rattle.web_call.specs.Pieces.{Piece, plain, framed, text_of, frames_within}
 use Rattle.web_call.specs.declared.text.Text.{Text}
 use Rattle.web_call.specs.Response.{check_body_text}
 use Rattle.web_call.specs.Text.{IsTextOf, ends_by, text_bytes}
-use Rattle.web_call.specs.Texts.{body_head, check_pieces, crlf, message_chunk, message_frame, watch_head_text, watch_end}
+use Rattle.web_call.specs.ResponseTexts.{body_head, check_pieces, crlf, message_chunk, message_frame, watch_head_text, watch_end}
 use Rattle.web_call.proofs.PieceLemmas.{frames_of, length_around, one_frame_whole, one_frame_cut}
 use Rattle.web_call.proofs.ResponseLemmas.{two_all, two_first, two_none, two_length}
 

@@ -10,7 +10,7 @@ use Rattle.desk_core.specs.Watch.{IsBehind, WatchState, answer_of, opened, stepp
 use Rattle.web_call.specs.Answer.{Tells, told_pieces}
 use Rattle.web_call.specs.Answer.Tells.{First, Step}
 use Rattle.web_call.specs.Pieces.{Piece, plain}
-use Rattle.web_call.specs.Texts.{message_chunk, watch_head_text}
+use Rattle.web_call.specs.ResponseTexts.{message_chunk, watch_head_text}
 use Rattle.web_call.specs.Walk.{AsksDoor, InTurn, KeepsUp, told_by, watch_after}
 use Rattle.web_call.proofs.PieceLemmas.{frames_of, frames_of-append}
 

@@ -17,7 +17,7 @@ use Rattle.web_call.specs.Head.{IsHeaded}
 use Rattle.web_call.specs.HeadAnswer.{Refused, Ended, Asked}
 use Rattle.web_call.specs.InputHead.{IsHead}
 use Rattle.web_call.specs.Pieces.{Piece, plain, counted}
-use Rattle.web_call.specs.Texts.{refusal_pieces, status_pieces, check_pieces, message_chunk, watch_head_text, watch_end}
+use Rattle.web_call.specs.ResponseTexts.{refusal_pieces, status_pieces, check_pieces, message_chunk, watch_head_text, watch_end}
 use Rattle.web_call.specs.Walk.{KeepsUp, told_by, watch_after}
 
 -- the status code of a Check

@@ -2,7 +2,7 @@
 use Rattle.std.specs.Prelude.{ℕ, ◌≤◌, List, ⊤}
 use Rattle.grpc_frame.specs.declared.code.Code.{Code}
 use Rattle.grpc_frame.specs.Trailers.{IsStatusText}
-use Rattle.web_call.specs.Texts.{IsRefusal}
+use Rattle.web_call.specs.ResponseTexts.{IsRefusal}
 use Rattle.web_call.specs.declared.head.Headed.{Headed}
 use Rattle.web_call.specs.declared.head.Headed.TheVariants.{Http, Status, Body}
 use Rattle.web_call.specs.declared.method.Method.{Method}

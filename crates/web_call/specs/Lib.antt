@@ -16,9 +16,9 @@ pub mod Pieces
 pub mod Reading
 pub mod Request
 pub mod Response
+pub mod ResponseTexts
 pub mod Stages
 pub mod Tap
 pub mod Text
-pub mod Texts
 pub mod Walk
 pub mod WholeCall

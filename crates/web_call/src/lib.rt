@@ -1,4 +1,35 @@
 //! One HTTP exchange: a request in, its response out, over any reader and writer.
+//!
+//! # A caller
+//!
+//! ```rust
+//! #![tactic(auto)]
+//!
+//! ghost use Rattle.std.specs.Prelude.{◌≡◌, ◌≤◌, ◌+◌, IsTrue};
+//! ghost use Rattle.web_call.specs.Tap.{tap_failed};
+//!
+//! use std::alloc::Global;
+//! use std::io::{Read, Write};
+//! use web_call::{Bell, Door, Limits, Tap, exchange};
+//!
+//! /// Serves one call, of a Watch at most a hundred looks. It says whether the call was answered whole.
+//! pub fn serve<R: Read, W: Write, D: Door, B: Bell>(
+//!     alloc: Global,
+//!     reader: &mut Tap<R>,
+//!     writer: &mut Tap<W>,
+//!     door: &mut D,
+//!     bell: &mut B,
+//! ) -> bool
+//!     ensures answered { IsTrue result → tap_failed writer.new ≡ tap_failed writer.old }
+//!     ensures looks { B.given bell.new ≤ B.given bell.old + 100 }
+//!     ensures names { D.names door.new ≡ D.names door.old }
+//! {
+//!     match exchange(alloc, reader, writer, door, bell, Limits { looks: 100 }) {
+//!         Ok(_) => true,
+//!         Err(_) => false,
+//!     }
+//! }
+//! ```
 #![tactic(auto)]
 
 mod ask;
@@ -18,10 +49,10 @@ mod method;
 mod outcome;
 mod outgoing;
 mod response;
+mod response_texts;
 pub mod staged;
 mod tap;
 mod text;
-mod texts;
 
 pub use ask::{Ask, ask_of, one_ask};
 pub use bell::{Bell, Turn};
@@ -37,8 +68,8 @@ pub use lines::{count_named, first_named, is_named};
 pub use method::Method;
 pub use outcome::Outcome;
 pub use response::{check_body, status_body};
+pub use response_texts::{refuse_text, status_text};
 pub use tap::Tap;
-pub use texts::{refuse_text, status_text};
 
 #[cfg(test)]
 mod tests;

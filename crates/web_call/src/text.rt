@@ -3,10 +3,12 @@ ghost use Rattle.desk_core.specs.Watch.{told};
 ghost use Rattle.grpc_frame.specs.Trailers.{IsStatusText};
 ghost use Rattle.web_call.specs.Pieces.{plain, text_of};
 ghost use Rattle.web_call.specs.Text.{bytes_of, text_bytes, ends_by, frames_by, IsTextOf};
-ghost use Rattle.web_call.specs.Texts.{IsRefusal, refusal_pieces, status_pieces, check_pieces, message_frame, message_chunk, watch_head_text, watch_end};
+ghost use Rattle.web_call.specs.ResponseTexts.{IsRefusal, refusal_pieces, status_pieces, check_pieces, message_frame, message_chunk, watch_head_text, watch_end};
 
 use crate::response::check_body;
-use crate::texts::{end_chunk, first_chunk, message_chunk, refuse_text, status_text, with_head};
+use crate::response_texts::{
+    end_chunk, first_chunk, message_chunk, refuse_text, status_text, with_head,
+};
 use grpc_frame::Code;
 use health_wire::{Serving, write_response};
 use std::alloc::{AllocError, Global};

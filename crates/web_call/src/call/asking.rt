@@ -12,7 +12,7 @@ ghost use Rattle.web_call.specs.Request.{IsRequested};
 ghost use Rattle.web_call.specs.Stages.{IsLeftBehind, IsPast, is_whole, is_watching, is_answered, is_starved, ends_watch, ending_of, to_send};
 ghost use Rattle.web_call.specs.Answer.{check_code};
 ghost use Rattle.web_call.specs.Text.{IsTextOf};
-ghost use Rattle.web_call.specs.Texts.{watch_end};
+ghost use Rattle.web_call.specs.ResponseTexts.{watch_end};
 ghost use Rattle.web_call.specs.Walk.{AsksDoor};
 
 use super::{Call, Stage};

@@ -78,7 +78,8 @@ returns-in-Some-clause-ok g c =
       w.1.pieces,
       w.1.requested.is_head,
       subst (Consumes (g.R.Read.remaining (tap_inner c.args.reader.now)) (g.R.Read.remaining (tap_inner c.receive.new.reader))) w.1.requested.is s.has_read,
-      subst (λ ending. Meets g.D.Door.seen g.D.Door.follows g.B.Bell.given g.B.Bell.is_over c.args.limits.looks c.args.door.now c.loop-is_sent.door c.args.bell.now c.loop-is_sent.bell s.past.asked ending) w.0 s.meets,
+      subst (λ ending. Meets g.D.Door.seen g.D.Door.follows g.B.Bell.given g.B.Bell.is_over c.args.limits.looks c.args.door.now c.loop-is_sent.door
+          c.args.bell.now c.loop-is_sent.bell s.past.asked ending) w.0 s.meets,
       w.1.answered,
       subst (Appends (g.W.Write.contents (tap_inner c.args.writer.now)) (g.W.Write.contents (tap_inner c.loop-is_sent.writer))) w.1.all_sent s.wrote,
     )

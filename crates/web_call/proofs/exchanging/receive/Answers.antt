@@ -10,7 +10,11 @@ loop-alloc-preserved g c =
     let bytes = take c.in-Ok.count c.read.new.buf in
     let same = given_all c.read.new.buf (drop c.min-room.result c.loop-alloc.buffer) c.in-Ok.count c.wanted-in-loop-alloc.result c.give.result (search rules) (search rules) (search rules) in
     let given = subst (λ l. Carries c.loop-alloc.call c.give.new.self (with_received l)) same c.give.ensures.carries in record {
-      received = (before.0 ++ bytes, Consumes-trans _ _ _ before.0 bytes before.1 c.in-Ok.ensures.bytes.0, received_more c.args.call.now c.loop-alloc.call c.give.new.self before.0 bytes before.2 given);
+      received = (
+        before.0 ++ bytes,
+        Consumes-trans _ _ _ before.0 bytes before.1 c.in-Ok.ensures.bytes.0,
+        received_more c.args.call.now c.loop-alloc.call c.give.new.self before.0 bytes before.2 given,
+      );
       kept = search rules;
       unanswered = search rules;
       len = search rules;

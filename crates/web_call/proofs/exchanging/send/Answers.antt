@@ -16,7 +16,8 @@ pub loop-writer-preserved : goal.loop-writer-preserved
 loop-writer-preserved g c =
     let before = c.loop-writer.invariant.sent in
     let bytes = take c.in-Ok.count (to_send c.loop-writer.call) in
-    let wrote = subst (λ l. Appends (g.W.Write.contents (tap_inner c.loop-writer.writer)) (g.W.Write.contents (tap_inner c.write.new.self)) (take c.in-Ok.count l)) c.to_send-in-loop-writer-2.ensures c.in-Ok.ensures.bytes in record {
+    let wrote = subst (λ l. Appends (g.W.Write.contents (tap_inner c.loop-writer.writer)) (g.W.Write.contents (tap_inner c.write.new.self))
+    (take c.in-Ok.count l)) c.to_send-in-loop-writer-2.ensures c.in-Ok.ensures.bytes in record {
       sent = (before.0 ++ bytes, Appends-trans _ _ _ before.0 bytes before.1 wrote, sent_more c.args.call.now c.loop-writer.call c.sent.new.self before.0 bytes before.2 c.sent.ensures.carries);
       kept = search rules;
       watching = c.sent.ensures.watching ∙ c.loop-writer.invariant.watching;

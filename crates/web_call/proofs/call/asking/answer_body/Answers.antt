@@ -1,7 +1,7 @@
 use Rattle.std.proofs.Common.{refl, arith, [], ◌∷◌}
 use Rattle.web_call.specs.Answer.IsStarvedAt.{Refusal as StarvedRefusal, Check as StarvedCheck}
 use Rattle.web_call.specs.Answer.Sends.{RefusedByBody}
-use Rattle.web_call.specs.Texts.{status_pieces, check_pieces}
+use Rattle.web_call.specs.ResponseTexts.{status_pieces, check_pieces}
 use Rattle.web_call.proofs.CallLemmas.{ends, checks, opens}
 use Rattle.web_call.proofs.WalkLemmas.{AsksDoor-none, AsksDoor-once}
 use Rattle.web_call.proofs.call.asking.answer_body.Goals as goal
@@ -26,7 +26,9 @@ returns-in-Check-clause-asked g c =
       AsksDoor-once c.check-status.ensures.follows c.check-status.ensures.legal,
       λ head received requested headed.
           ends _ received head c.args.body.now (seen ∷ []) (check_pieces c.check-status.result) _ c.last-in-Check.result requested
-          (checks c.in-Check.name.now seen c.check-status.result c.check_code.result (record { method = c.args.method; is_headed = headed; is_asked = c.in-Check.ensures.asked }) refl c.check-status.ensures.status c.check_code.ensures)
+          (checks c.in-Check.name.now seen c.check-status.result c.check_code.result
+          (record { method = c.args.method; is_headed = headed; is_asked = c.in-Check.ensures.asked }) refl c.check-status.ensures.status
+          c.check_code.ensures)
           (StarvedCheck head c.args.body.now c.args.method c.in-Check.name.now seen requested.is requested.is_head headed c.in-Check.ensures.asked refl)
           (c.last-in-Check.ensures.told (check_pieces c.check-status.result) c.check.ensures),
     )

@@ -4,7 +4,7 @@ use Rattle.web_call.specs.Answer.Sends.{RefusedByHttp, EndedByHead}
 use Rattle.web_call.specs.Head.{IsHeaded}
 use Rattle.web_call.specs.HeadAnswer.{Refused, Ended, Asked}
 use Rattle.web_call.specs.Request.{IsRequested}
-use Rattle.web_call.specs.Texts.{refusal_pieces, status_pieces}
+use Rattle.web_call.specs.ResponseTexts.{refusal_pieces, status_pieces}
 use Rattle.web_call.proofs.CallLemmas.{answers_first, body_is, ends, no_body, requested}
 use Rattle.web_call.proofs.WalkLemmas.{AsksDoor-none}
 use Rattle.web_call.proofs.call.asking.answer_request.Goals as goal

@@ -9,7 +9,9 @@ returns-in-Http-clause-read c = λ read none.
 
 pub returns-in-Status-clause-read : goal.returns-in-Status-clause-read
 returns-in-Status-clause-read c = λ read none.
-    without_body _ _ (Ended c.in-Status.field-0 c.in-Status.field-1.now) (head_of_open _ c.requires.some c.requires.within (c.ends_head.ensures.ends c.if-not-ends_head.false) read) c.in-Status.ensures.headed refl none
+    without_body _ _ (Ended c.in-Status.field-0 c.in-Status.field-1.now)
+    (head_of_open _ c.requires.some c.requires.within (c.ends_head.ensures.ends c.if-not-ends_head.false) read)
+    c.in-Status.ensures.headed refl none
 
 pub returns-in-Body-clause-read : goal.returns-in-Body-clause-read
 returns-in-Body-clause-read c = λ read none.

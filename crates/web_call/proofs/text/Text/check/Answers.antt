@@ -1,5 +1,5 @@
 use Rattle.std.proofs.Common.{refl, ap, ◌∙◌, length, ◌++◌, ◌+◌, ◌-◌, arith}
-use Rattle.web_call.specs.Texts.{body_head}
+use Rattle.web_call.specs.ResponseTexts.{body_head}
 use Rattle.web_call.proofs.TextLemmas.{text_of_check}
 use Rattle.web_call.proofs.text.Text.check.Goals as goal
 

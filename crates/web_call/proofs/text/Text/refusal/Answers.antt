@@ -1,5 +1,5 @@
 use Rattle.std.proofs.Common.{sym, arith}
-use Rattle.web_call.specs.Texts.{refusal_pieces}
+use Rattle.web_call.specs.ResponseTexts.{refusal_pieces}
 use Rattle.web_call.proofs.PieceLemmas.{frames_none}
 use Rattle.web_call.proofs.text.Text.refusal.Goals as goal
 

@@ -1,7 +1,7 @@
 ghost use Rattle.std.specs.Prelude.{◌≡◌, ◌++◌, length, IfOk};
 ghost use Rattle.grpc_frame.specs.Trailers.{IsStatusText};
 ghost use Rattle.web_call.specs.Pieces.{text_of};
-ghost use Rattle.web_call.specs.Texts.{IsRefusal, refusal_response, status_response, body_head, watch_head_text, message_chunk, watch_end};
+ghost use Rattle.web_call.specs.ResponseTexts.{IsRefusal, refusal_response, status_response, body_head, watch_head_text, message_chunk, watch_end};
 
 use crate::head_limits::HEAD_END;
 use crate::response::status_body;
