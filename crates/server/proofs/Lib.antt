@@ -1,3 +1,3 @@
+pub mod CrewServerLemmas
 pub mod SeatLemmas
-pub mod ServingLemmas
 pub mod SetupLemmas

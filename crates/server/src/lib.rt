@@ -1,13 +1,55 @@
 //! A server of health checks: a hall that a script sets up, and a crew that serves connections over it.
+//!
+//! # A caller
+//!
+//! ```rust
+//! #![tactic(auto)]
+//!
+//! ghost use Rattle.std.specs.Prelude.{◌≡◌, IfOk, vec_len};
+//! ghost use Rattle.probe_core.specs.Made.{MakesAsked};
+//!
+//! use probe_core::{Probe, Rule};
+//! use script::Script;
+//! use server::{Capacity, ServeFault, Served, hall_of, serve};
+//! use std::alloc::{AllocError, Global};
+//! use std::net::TcpListener;
+//! use std::sync::Wait;
+//! use std::thread::Threads;
+//!
+//! /// Serves ten calls by two workers over a hall that a script sets up. The third seat makes the orders of the script.
+//! pub fn serve_ten<R, P: Probe + Send, F: Fn(Rule) -> Result<P, AllocError>>(
+//!     rt: &R,
+//!     alloc: Global,
+//!     script: Script,
+//!     make: &F,
+//!     listener: &TcpListener,
+//! ) -> Result<Served<P>, ServeFault>
+//! where
+//!     R: Wait + Threads + Sync,
+//!     requires callable { F.IsAlwaysCallable make.now }
+//!     requires asked { MakesAsked P.rule P.memory (F.post make.now) }
+//!     ensures calls { IfOk result (λ served. vec_len served.calls ≡ 10) }
+//!     ensures most { IfOk result (λ served. served.desk.max_entries ≡ script.max) }
+//! {
+//!     let Ok(made) = hall_of(rt, alloc, script, make, 3) else {
+//!         return Err(ServeFault::NoMemory);
+//!     };
+//!     let capacity = Capacity {
+//!         workers: 2,
+//!         calls: 10,
+//!     };
+//!     serve(rt, alloc, made, listener, capacity)
+//! }
+//! ```
 #![tactic(auto)]
 
+mod crew_server;
 mod serve_fault;
 mod served;
-mod serving;
 mod setup;
 mod socket;
 
+pub use crew_server::{Capacity, serve};
 pub use serve_fault::ServeFault;
 pub use served::Served;
-pub use serving::{Capacity, serve};
 pub use setup::{SetUpHall, hall_of, run_setup};

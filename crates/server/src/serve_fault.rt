@@ -1,5 +1,5 @@
 ghost use Rattle.std.specs.Prelude.{◌≡◌};
-ghost use Rattle.server.specs.Serving.{fault_of};
+ghost use Rattle.server.specs.CrewServer.{fault_of};
 
 use crew::CrewWhy;
 

@@ -13,7 +13,9 @@ run_setup-requires-clause-seat g c =
 
 pub returns-clause-seats : goal.returns-clause-seats
 returns-clause-seats g c =
-    set_up_by_first c.in-Ok.hall _ _ c.in-Ok.dealt.items c.index_mut.result.now c.run_setup.new.seat _ _ _ (c.in-Ok.ensures.seats ∙ ap (λ most. new_seats c.in-Ok.hall.table most c.args.seats) c.into_parts-catalogue.ensures.max) c.requires.some c.index_mut.ensures.value
+    set_up_by_first c.in-Ok.hall _ _ c.in-Ok.dealt.items c.index_mut.result.now c.run_setup.new.seat _ _ _
+    (c.in-Ok.ensures.seats ∙ ap (λ most. new_seats c.in-Ok.hall.table most c.args.seats) c.into_parts-catalogue.ensures.max) c.requires.some
+    c.index_mut.ensures.value
     (ap (line_changes c.in-Ok.hall.names) (c.deref.ensures.value ∙ c.into_parts-catalogue.ensures.lines)
     ∙ ap (λ names. line_changes names c.args.script.lines) (c.in-Ok.ensures.hall.2 ∙ c.into_parts-catalogue.ensures.catalogue))
     c.in_ok-results.ensures.met

@@ -5,7 +5,7 @@ ghost use Rattle.hall.specs.Seats.{own_calls};
 ghost use Rattle.crew.specs.declared.crew_why.CrewWhy.{CrewWhy};
 ghost use Rattle.crew.specs.CrewWhy.{crew_fault, IsOtherReason};
 ghost use Rattle.crew.specs.Serve.{lists_in};
-ghost use Rattle.server.specs.Serving.{HasServedOrders};
+ghost use Rattle.server.specs.CrewServer.{HasServedOrders};
 
 use crate::serve_fault::ServeFault;
 use crate::served::Served;

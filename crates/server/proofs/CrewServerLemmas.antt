@@ -4,7 +4,7 @@ use Rattle.crew.specs.declared.crew_why.CrewWhy.{CrewWhy}
 use Rattle.crew.specs.declared.crew_why.CrewWhy.TheVariants as whys
 use Rattle.server.specs.declared.serve_fault.ServeFault.{ServeFault}
 use Rattle.server.specs.declared.serve_fault.ServeFault.TheVariants.{SeatsMissing}
-use Rattle.server.specs.Serving.{fault_of}
+use Rattle.server.specs.CrewServer.{fault_of}
 
 -- a crew without a report is no want of seats
 pub not_missing : (why : CrewWhy) (fault : ServeFault) → fault ≡ fault_of why → fault ≢ SeatsMissing
