@@ -1,4 +1,5 @@
 pub mod LineLemmas
 pub mod MeetingLemmas
 pub mod RequestLemmas
+pub mod TalkLemmas
 pub mod TextLemmas

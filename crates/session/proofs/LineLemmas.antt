@@ -1,5 +1,5 @@
 -- The first line of what was given.
-use Rattle.std.proofs.Common.{ℕ, zero, suc, ◌≡◌, ◌≢◌, ◌+◌, ◌≤◌, ◌<◌, ◌==◌, Bool, true, false, List, [], ◌∷◌, length, drop, take, get_or, sym, refl, ap, ◌∙◌, arith, ⊎_elim}
+use Rattle.std.proofs.Common.{ℕ, zero, suc, ◌≡◌, ◌≢◌, ◌+◌, ◌<◌, ◌==◌, Bool, true, false, List, [], ◌∷◌, length, drop, take, get_or, sym, refl, ap, ◌∙◌, arith, ⊎_elim}
 use Rattle.std.specs.Prelude.{if◌then◌else◌, min, not}
 use Rattle.std.proofs.lemmas.Bool.{cases_lt, eq-eqb, eqb-true}
 use Rattle.std.proofs.lemmas.List.{drop_all}
@@ -25,23 +25,6 @@ line_ends bytes place within so_far is =
     ap (λ rest. length (first_line rest)) (drop-cons bytes place 0 within) ∙ ends_here (get_or bytes place 0) (drop (suc place) bytes) is in
     omega (arith, so_far, none)
 
--- any other byte is one of it
-pub line_goes_on : (bytes : List ℕ) (place : ℕ) → place < length bytes → length (first_line bytes) ≡ place + length (first_line (drop place bytes)) → get_or bytes place 0 ≢ 10
-    → length (first_line bytes) ≡ (place + 1) + length (first_line (drop (place + 1) bytes))
-line_goes_on bytes place within so_far not =
-    let more : length (first_line (drop place bytes)) ≡ 1 + length (first_line (drop (suc place) bytes)) =
-    ap (λ rest. length (first_line rest)) (drop-cons bytes place 0 within) ∙ goes_on (get_or bytes place 0) (drop (suc place) bytes) not in
-    let step : suc place ≡ place + 1 = omega arith in
-    let next : length (first_line (drop (suc place) bytes)) ≡ length (first_line (drop (place + 1) bytes)) = ap (λ n. length (first_line (drop n bytes))) step in
-    omega (arith, so_far, more, next)
-
--- without LF it is all
-pub line_is_all : (bytes : List ℕ) (place : ℕ) → length bytes ≤ place → length (first_line bytes) ≡ place + length (first_line (drop place bytes))
-    → place ≡ length (first_line bytes)
-line_is_all bytes place all so_far =
-    let none : length (first_line (drop place bytes)) ≡ 0 = ap (λ rest. length (first_line rest)) (drop_all place bytes all) in
-    omega (arith, so_far, none)
-
 -- the front of that length is the first line
 take_by : (b : Bool) (c : ℕ) (line rest : List ℕ) → take (length line) rest ≡ line → take (length (if b then [] else c ∷ line)) (c ∷ rest) ≡ (if b then [] else c ∷ line)
 take_by true c line rest same = refl
@@ -64,7 +47,8 @@ drop_whole (c ∷ rest) = drop_by (c == 10) c (first_line rest) (behind_line res
 pub drop_line : (bytes : List ℕ) (len end : ℕ) → len ≡ length bytes → end ≡ min len (length (first_line bytes) + 1) → drop end bytes ≡ behind_line bytes
 drop_line bytes len end all is =
     ⊎_elim
-    (λ (less : len < suc (length (first_line bytes))). drop_all end bytes (omega (arith, is, less, all)) ∙ (sym (drop_all (suc (length (first_line bytes))) bytes (omega (arith, less, all))) ∙ drop_whole bytes))
+    (λ (less : len < suc (length (first_line bytes))). drop_all end bytes (omega (arith, is, less, all))
+    ∙ (sym (drop_all (suc (length (first_line bytes))) bytes (omega (arith, less, all))) ∙ drop_whole bytes))
     (λ more. let same : end ≡ suc (length (first_line bytes)) = omega (arith, is, more) in ap (λ n. drop n bytes) same ∙ drop_whole bytes)
     (cases_lt len (suc (length (first_line bytes))))
 

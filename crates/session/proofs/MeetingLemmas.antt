@@ -53,7 +53,8 @@ pub listed : {S : Type 0} (names : List (List ℕ)) (seen : S → List Entry) (l
     (changes : S → S → Option Call → Result Reply Refusal → Type 0) (old new : S) (request : Request) (word : ℕ)
     → request ≡ requests.List → looks old new → word ≡ board_of (seen new) → IsMet names seen looks changes old new request (answers.Listed word)
 listed names seen looks changes old new request word is looked told =
-    subst (λ r. IsMet names seen looks changes old new r (answers.Listed word)) (sym is) (subst (λ w. IsMet names seen looks changes old new requests.List (answers.Listed w)) (sym told) (Lists looked))
+    subst (λ r. IsMet names seen looks changes old new r (answers.Listed word)) (sym is)
+    (subst (λ w. IsMet names seen looks changes old new requests.List (answers.Listed w)) (sym told) (Lists looked))
 
 pub told : {S : Type 0} (names : List (List ℕ)) (seen : S → List Entry) (looks : S → S → Type 0)
     (changes : S → S → Option Call → Result Reply Refusal → Type 0) (old new : S) (request : Request) (stats : Stats)
@@ -61,7 +62,8 @@ pub told : {S : Type 0} (names : List (List ℕ)) (seen : S → List Entry) (loo
 told names seen looks changes old new request stats is looked entries = subst (λ r. IsMet names seen looks changes old new r (answers.Told stats)) (sym is) (Tells stats looked entries)
 
 pub stopped : {S : Type 0} (names : List (List ℕ)) (seen : S → List Entry) (looks : S → S → Type 0)
-    (changes : S → S → Option Call → Result Reply Refusal → Type 0) (old new : S) (request : Request) → request ≡ requests.Stop → new ≡ old → IsMet names seen looks changes old new request answers.Stopping
+    (changes : S → S → Option Call → Result Reply Refusal → Type 0) (old new : S) (request : Request) → request ≡ requests.Stop → new ≡ old
+    → IsMet names seen looks changes old new request answers.Stopping
 stopped names seen looks changes old new request is same = subst (λ r. IsMet names seen looks changes old new r answers.Stopping) (sym is) (Stops same)
 
 -- a line of a session that is no Check and not the board asks for a change
@@ -91,11 +93,12 @@ cut_short : {S : Type 0} (names : List (List ℕ)) (seen : S → List Entry) (lo
     (changes : S → S → Option Call → Result Reply Refusal → Type 0) (old new : S) (line : List ℕ) (answer : Answer)
     → IsLineMet names seen looks changes old new line answer → short_text answer ≡ None → answer ≢ answers.Skipped → IsLineMet names seen looks changes old new line answers.OutOfMemory
 cut_short names seen looks changes old new line answer (IsTooLong long same) none skipped = absurd (none-some _ (sym none))
-cut_short names seen looks changes old new line answer (IsSkipped blank same) none skipped = absurd (skipped refl)
-cut_short names seen looks changes old new line answer (IsNoText wrong same) none skipped = absurd (none-some _ (sym none))
-cut_short names seen looks changes old new line answer (IsNoRequest wrong same) none skipped = absurd (none-some _ (sym none))
-cut_short names seen looks changes old new line answer (IsUnread same) none skipped = absurd (none-some _ (sym none))
-cut_short names seen looks changes old new line answer (IsAsked request _ asks met) none skipped = IsAsked request answers.OutOfMemory asks (long_met names seen looks changes old new request answer met none)
+cut_short names seen looks changes old new line answer (IsSkipped short blank same) none skipped = absurd (skipped refl)
+cut_short names seen looks changes old new line answer (IsNoText short wrong same) none skipped = absurd (none-some _ (sym none))
+cut_short names seen looks changes old new line answer (IsNoRequest said wrong same) none skipped = absurd (none-some _ (sym none))
+cut_short names seen looks changes old new line answer (IsUnread said same) none skipped = absurd (none-some _ (sym none))
+cut_short names seen looks changes old new line answer (IsAsked said request _ asks met) none skipped =
+    IsAsked said request answers.OutOfMemory asks (long_met names seen looks changes old new request answer met none)
 
 -- what is told of an answer meets its line
 pub still_met : {S : Type 0} (names : List (List ℕ)) (seen : S → List Entry) (looks : S → S → Type 0)

@@ -1,8 +1,8 @@
 -- The list of names with their statuses.
-use Rattle.std.proofs.Common.{ℕ, suc, ◌≡◌, ◌+◌, ◌≤◌, ◌<◌, List, [], ◌∷◌, ◌++◌, map, length, drop, get_or, sym, refl, ap, ◌∙◌, arith, ◌==◌, Bool, true, false, true≢false}
+use Rattle.std.proofs.Common.{ℕ, suc, ◌≡◌, ◌+◌, ◌≤◌, List, [], ◌∷◌, ◌++◌, map, length, drop, sym, refl, ap, ◌∙◌, arith, ◌==◌, Bool, true, false, true≢false}
 use Rattle.std.proofs.lemmas.Bool.{eqb-true}
 use Rattle.std.specs.Prelude.{Option, Some, None, slice_get, Result, Ok, Err, IfOk, OnErr, is_ok, ◌≢◌}
-use Rattle.std.specs.List.{flat_map, join_by}
+use Rattle.std.specs.List.{join_by}
 use Rattle.std.proofs.lemmas.List.{append-nil, append_assoc, drop_all, map-append}
 use Rattle.std.proofs.lemmas.List.Folds.{flat_map-map}
 use Rattle.std.proofs.lemmas.Option.{slice_get_within, get_or_from_slice_get}
@@ -57,6 +57,11 @@ whole_text f bytes words listed separator (Err error) is all = is
 pub found_empty : (text : List ℕ) (is_empty : Bool) → is_empty ≡ (length text == 0) → is_empty ≡ true → text ≡ []
 found_empty [] is_empty tells found = refl
 found_empty (c ∷ text) is_empty tells found = absurd (omega (arith, eqb-true (length (c ∷ text)) 0 (sym tells ∙ found)))
+
+-- a text that was found to have a byte
+pub found_some : (text line : List ℕ) (is_empty : Bool) → line ≡ text → is_empty ≡ (length text == 0) → is_empty ≡ false → line ≢ []
+found_some [] line is_empty same tells found none = absurd (true≢false (sym tells ∙ found))
+found_some (c ∷ text) line is_empty same tells found none = let no : ⊥ = cc in absurd no
 
 -- an answer that could not be written where there was room for 32 bytes
 pub was_long : {T E : Type 0} (answer : Answer) (written : Result T E) (is_written : Bool) (room : Type 0) → is_written ≡ is_ok written → is_written ≡ false

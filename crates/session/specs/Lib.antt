@@ -1,4 +1,5 @@
 pub mod Meeting
 pub mod Request
 pub mod Session
+pub mod Talk
 pub mod Text

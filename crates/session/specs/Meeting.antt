@@ -1,5 +1,5 @@
 -- How a request is met over a registry, which somebody sees and changes.
-use Rattle.std.specs.Prelude.{ℕ, ◌≡◌, ◌<◌, List, [], length, Option, Some, Result}
+use Rattle.std.specs.Prelude.{ℕ, ◌≡◌, ◌≢◌, ◌<◌, ◌≤◌, List, [], length, Option, Some, Result}
 use Rattle.std.specs.Str.{IsUtf8}
 use Rattle.desk_core.specs.declared.call.Call.{Call}
 use Rattle.desk_core.specs.declared.entry.Entry.{Entry}
@@ -10,7 +10,7 @@ use Rattle.desk_core.specs.Status.{status_map}
 use Rattle.script.specs.declared.line.Line.{Line}
 use Rattle.script.specs.declared.line.Line.TheVariants.{Check, Board}
 use Rattle.script.specs.Change.{line_change}
-use Rattle.script.specs.Lines.{without_cr}
+use Rattle.script.specs.TextLines.{without_cr}
 use Rattle.session.specs.declared.answer.Answer.{Answer}
 use Rattle.session.specs.declared.answer.Answer.TheVariants as answers
 use Rattle.session.specs.declared.request.Request.{Request}
@@ -34,13 +34,19 @@ pub data IsMet {S : Type 0} (names : List (List ℕ)) (seen : S → List Entry) 
   Starves : (request : Request) → new ≡ old → IsMet names seen looks changes old new request answers.OutOfMemory
   StarvesTold : (request : Request) → looks old new → IsMet names seen looks changes old new request answers.OutOfMemory
 
--- The line, which stands before LF, is met with this answer. Its CR at the end is no part of what it says
+-- The line, which stands before LF, says something: it is text of at most 1,024 bytes, and of one byte or more without a CR at its end
+pub record IsSaid (line : List ℕ) : Type 0 where
+  pub short : length line ≤ 1024
+  pub text : IsUtf8 line
+  pub some : without_cr line ≢ []
+
+-- The line is met with this answer. Its CR at the end is no part of what it says
 pub data IsLineMet {S : Type 0} (names : List (List ℕ)) (seen : S → List Entry) (looks : S → S → Type 0)
     (changes : S → S → Option Call → Result Reply Refusal → Type 0) (old new : S) (line : List ℕ) : Answer → Type 0 where
   IsTooLong : 1024 < length line → new ≡ old → IsLineMet names seen looks changes old new line answers.TooLong
-  IsSkipped : without_cr line ≡ [] → new ≡ old → IsLineMet names seen looks changes old new line answers.Skipped
-  IsNoText : ¬ IsUtf8 line → new ≡ old → IsLineMet names seen looks changes old new line answers.BadLine
-  IsNoRequest : ((request : Request) → ¬ IsRequest names (without_cr line) request) → new ≡ old → IsLineMet names seen looks changes old new line answers.BadLine
-  IsUnread : new ≡ old → IsLineMet names seen looks changes old new line answers.OutOfMemory
-  IsAsked : (request : Request) (answer : Answer) → IsRequest names (without_cr line) request → IsMet names seen looks changes old new request answer
+  IsNoText : length line ≤ 1024 → ¬ IsUtf8 line → new ≡ old → IsLineMet names seen looks changes old new line answers.BadLine
+  IsSkipped : length line ≤ 1024 → without_cr line ≡ [] → new ≡ old → IsLineMet names seen looks changes old new line answers.Skipped
+  IsNoRequest : IsSaid line → ((request : Request) → ¬ IsRequest names (without_cr line) request) → new ≡ old → IsLineMet names seen looks changes old new line answers.BadLine
+  IsUnread : IsSaid line → new ≡ old → IsLineMet names seen looks changes old new line answers.OutOfMemory
+  IsAsked : IsSaid line → (request : Request) (answer : Answer) → IsRequest names (without_cr line) request → IsMet names seen looks changes old new request answer
       → IsLineMet names seen looks changes old new line answer

@@ -1,21 +1,23 @@
 -- A session, as whoever holds it sees it.
 use Rattle.std.specs.Prelude.{ℕ, ◌≡◌, ◌≤◌, ◌⊎◌, ◌==◌, ◌&&◌, not, nat_lt, codes, Bool, true, false, if◌then◌else◌, List, [], ◌∷◌, ◌++◌, length, Contains}
 
--- the bytes that were given and not read, those of its answers that wait to be sent, and whether its last line was answered
+-- the bytes that were given and not read, those of its answers that wait to be sent, whether its last line was answered (one that is too
+-- long, or `stop`), and whether it was told that no more bytes come
 pub record SessionState : Type 0 where
   pub unread : List ℕ
   pub waiting : List ℕ
   pub is_over : Bool
+  pub has_ended : Bool
 
 -- a session that was given nothing
 abbrev pub begun : SessionState
-begun = record { unread = []; waiting = []; is_over = false }
+begun = record { unread = []; waiting = []; is_over = false; has_ended = false }
 
 abbrev pub with_unread : List ℕ → SessionState → SessionState
-with_unread bytes session = record { unread = bytes; waiting = session.waiting; is_over = session.is_over }
+with_unread bytes session = record { unread = bytes; waiting = session.waiting; is_over = session.is_over; has_ended = session.has_ended }
 
 abbrev pub with_waiting : List ℕ → SessionState → SessionState
-with_waiting bytes session = record { unread = session.unread; waiting = bytes; is_over = session.is_over }
+with_waiting bytes session = record { unread = session.unread; waiting = bytes; is_over = session.is_over; has_ended = session.has_ended }
 
 -- the bytes before the first LF, or all of them
 abbrev pub first_line : List ℕ → List ℕ
@@ -36,6 +38,10 @@ ends_open (c ∷ d ∷ rest) = ends_open (d ∷ rest)
 -- the same bytes with LF behind a line that stands without it, if the line is not too long
 abbrev pub ended : List ℕ → List ℕ
 ended bytes = if ends_open bytes && nat_lt (length bytes) 1025 then bytes ++ codes "\n" else bytes
+
+-- a session to which no more bytes come
+abbrev pub at_end : SessionState → SessionState
+at_end session = record { unread = ended session.unread; waiting = session.waiting; is_over = session.is_over; has_ended = true }
 
 -- there is a line to answer: one that ends in LF, or one that is too long
 abbrev pub HasLine : SessionState → Type 0

@@ -93,18 +93,18 @@ answer_text names TooLong = codes "line too long\n"
 answer_text names OutOfMemory = codes "refused no memory\n"
 answer_text names Skipped = []
 
--- the answer ends the session
-abbrev pub is_too_long : Answer → Bool
-is_too_long (Changed result) = false
-is_too_long (Checked status) = false
-is_too_long (Board word) = false
-is_too_long (Listed word) = false
-is_too_long (Told stats) = false
-is_too_long Stopping = false
-is_too_long BadLine = false
-is_too_long TooLong = true
-is_too_long OutOfMemory = false
-is_too_long Skipped = false
+-- no line behind the one that has this answer is answered: the server ends, or the line was too long
+abbrev pub ends_session : Answer → Bool
+ends_session (Changed result) = false
+ends_session (Checked status) = false
+ends_session (Board word) = false
+ends_session (Listed word) = false
+ends_session (Told stats) = false
+ends_session Stopping = true
+ends_session BadLine = false
+ends_session TooLong = true
+ends_session OutOfMemory = false
+ends_session Skipped = false
 
 -- what is told of an answer: itself, or that there is no memory for its text, where it is not one of a few
 pub data IsTold (answer : Answer) : Answer → Type 0 where

@@ -27,7 +27,7 @@ pub enum Answer {
 
 impl Answer {
     ghost use Rattle.std.specs.Prelude.{◌≡◌, ◌≤◌, Some, IfSome, IfNone, None, length};
-    ghost use Rattle.session.specs.Text.{is_too_long, short_text};
+    ghost use Rattle.session.specs.Text.{ends_session, short_text};
 
     /// The text of an answer that has one of a few. All others are told where nothing was changed.
     pub(crate) fn short_text(self) -> Option<&'static str>
@@ -46,10 +46,10 @@ impl Answer {
         }
     }
 
-    /// Whether it ends the session.
-    pub(crate) fn is_too_long(self) -> bool
-        ensures { result ≡ is_too_long self }
+    /// Whether no line behind it is answered.
+    pub(crate) fn ends_session(self) -> bool
+        ensures { result ≡ ends_session self }
     {
-        self == Answer::TooLong
+        matches!(self, Answer::Stopping | Answer::TooLong)
     }
 }

@@ -1,22 +1,22 @@
 use crate::stats::Stats;
-use desk_core::{Catalogue, Refusal, Reply};
+use desk_core::{Call, Catalogue, Refusal, Reply};
 use health_wire::Serving;
-use script::Line;
-use std::alloc::AllocError;
+use probe_core::Probe;
 
 /// What a session is held over: a registry whose catalogue stays, which it sees and changes, and the server that runs over it.
 ///
 /// `names` are those of the catalogue, and `seen` is the history that the console has seen, the newest entry first. `changes` says how
 /// it comes out of a change that was asked for, and `looks` that it has at most seen more. Each call may wait.
-pub trait Console {
-    ghost use Rattle.std.specs.Prelude.{◌≡◌, ℕ, List, Option, Result, length, IsSome, IfSome, IfOk, OnErr};
+pub trait Console<P: Probe> {
+    ghost use Rattle.std.specs.Prelude.{◌≡◌, ℕ, List, Option, Result, length, IfSome};
+    ghost use Rattle.std.specs.Option.{option_map};
     ghost use Rattle.desk_core.specs.declared.call.Call.{Call};
     ghost use Rattle.desk_core.specs.declared.entry.Entry.{Entry};
     ghost use Rattle.desk_core.specs.declared.refusal.Refusal.{Refusal};
     ghost use Rattle.desk_core.specs.declared.reply.Reply.{Reply};
     ghost use Rattle.desk_core.specs.Board.{board_of};
+    ghost use Rattle.desk_core.specs.Mutation.{rule_of};
     ghost use Rattle.desk_core.specs.Status.{status_map};
-    ghost use Rattle.script.specs.Change.{line_change};
 
     ghost names: { Self → List (List ℕ) };
 
@@ -29,12 +29,11 @@ pub trait Console {
     fn catalogue(&self) -> &Catalogue
         ensures { result.now ≡ names self.now };
 
-    /// Makes the change that a line asks for. It fails where memory runs out before the change is asked for.
-    fn change(&mut self, line: &Line) -> Result<Result<Reply, Refusal>, AllocError>
-        requires change { IsSome (line_change (names self.old) line.now) }
+    /// Makes the change, with the probe that it registers if it registers one. There is no call where its name is not listed.
+    fn change(&mut self, call: Option<Call>, probe: Option<P>) -> Result<Reply, Refusal>
+        requires ruled { IfSome call (λ c. option_map P.rule probe ≡ rule_of c) }
         ensures names { names self.new ≡ names self.old }
-        ensures changed { IfOk result (λ reply. IfSome (line_change (names self.old) line.now) (λ call. changes self.old self.new call reply)) }
-        ensures failed { OnErr result (self.new ≡ self.old) };
+        ensures changed { changes self.old self.new call result };
 
     /// What a Check of the name answers; none for a name that is not registered.
     fn check(&mut self, name: &str) -> Option<Serving>

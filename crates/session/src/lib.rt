@@ -1,4 +1,39 @@
 //! A session: lines of text that change a registry and ask it while it serves, and their answers.
+//!
+//! # A caller
+//!
+//! ```rust
+//! #![tactic(auto)]
+//!
+//! ghost use Rattle.std.specs.Prelude.{◌≡◌, [], IsTrue, IsFalse};
+//! ghost use Rattle.probe_core.specs.Made.{MakesAsked};
+//! ghost use Rattle.session.specs.Session.{behind_line};
+//!
+//! use probe_core::{Probe, Rule};
+//! use session::{Console, Session};
+//! use std::alloc::{AllocError, Global};
+//!
+//! /// Answers the next line of a session, if a whole one has come. Its answer then waits to be sent.
+//! pub fn answer_next<P: Probe, C: Console<P>, F: Fn(Rule) -> Result<P, AllocError>>(
+//!     alloc: Global,
+//!     session: &mut Session,
+//!     console: &mut C,
+//!     make: &F,
+//! ) -> bool
+//!     requires callable { F.IsAlwaysCallable make.now }
+//!     requires asked { MakesAsked P.rule P.memory (F.post make.now) }
+//!     requires sent { session.old.waiting ≡ [] }
+//!     ensures answered { IsTrue result → session.new.unread ≡ behind_line session.old.unread }
+//!     ensures none { IsFalse result → session.new ≡ session.old }
+//!     ensures names { C.names console.new ≡ C.names console.old }
+//! {
+//!     if !session.has_line() {
+//!         return false;
+//!     }
+//!     session.answer(alloc, console, make);
+//!     true
+//! }
+//! ```
 #![tactic(auto)]
 
 mod answer;

@@ -6,6 +6,7 @@ use crate::console::Console;
 use crate::meeting::meet_text;
 use crate::writing::write_answer;
 use desk_core::Catalogue;
+use probe_core::{Probe, Rule};
 use std::alloc::{AllocError, Global};
 use std::marker::Model;
 
@@ -25,6 +26,7 @@ pub struct Session {
     waiting: Vec<u8>,
     gone: usize,
     is_over: bool,
+    has_ended: bool,
 }
 
 impl Model for Session {
@@ -33,16 +35,18 @@ impl Model for Session {
 
     ghost Value = { SessionState };
 
-    ghost view = { λ session. record { unread = session.unread.items; waiting = drop session.gone session.waiting.items; is_over = session.is_over } };
+    ghost view = { λ session. record { unread = session.unread.items; waiting = drop session.gone session.waiting.items; is_over = session.is_over; has_ended = session.has_ended } };
 
     ghost invariant = { λ session. (vec_len session.unread ≤ 1025) × (1025 ≤ vec_capacity session.unread) × (session.gone ≤ vec_len session.waiting) × (32 ≤ vec_capacity session.waiting) };
 }
 
 impl Session {
     ghost use Rattle.std.specs.Prelude.{◌≡◌, ◌-◌, ◌≤◌, ◌++◌, ◌↔◌, [], drop, min, take, length, IfOk, IsTrue, if◌then◌else◌};
+    ghost use Rattle.probe_core.specs.Made.{MakesAsked};
     ghost use Rattle.session.specs.Meeting.{IsLineMet};
-    ghost use Rattle.session.specs.Text.{IsTold, answer_text, is_too_long};
-    ghost use Rattle.session.specs.Session.{HasLine, behind_line, begun, ended, first_line, with_unread, with_waiting};
+    ghost use Rattle.session.specs.Talk.{IsCut};
+    ghost use Rattle.session.specs.Text.{IsTold, answer_text, ends_session};
+    ghost use Rattle.session.specs.Session.{HasLine, at_end, begun, first_line, behind_line, with_unread, with_waiting};
 
     /// A session that was given nothing yet. It takes the memory of its lines.
     pub fn new(alloc: Global) -> Result<Session, AllocError>
@@ -53,6 +57,7 @@ impl Session {
             waiting: Vec::with_capacity(alloc, LEAST_ROOM)?,
             gone: 0,
             is_over: false,
+            has_ended: false,
         })
     }
 
@@ -75,11 +80,19 @@ impl Session {
 
     /// No more bytes come: what stands behind the last LF is a line too.
     pub fn end(&mut self)
-        ensures { self.new ≡ with_unread (ended self.old.unread) self.old }
+        ensures { self.new ≡ at_end self.old }
     {
         if ends_open(&self.unread) && self.unread.len() < MOST_UNREAD {
             self.unread.push(b'\n').unwrap();
         }
+        self.has_ended = true;
+    }
+
+    /// Whether it was told that no more bytes come.
+    pub fn has_ended(&self) -> bool
+        ensures { result ≡ self.now.has_ended }
+    {
+        self.has_ended
     }
 
     /// Whether there is a line to answer.
@@ -104,32 +117,42 @@ impl Session {
         self.gone += count;
     }
 
-    /// Whether its last line was answered.
+    /// Whether its last line was answered: one that is too long, or `stop`.
     pub fn is_over(&self) -> bool
         ensures { result ≡ self.now.is_over }
     {
         self.is_over
     }
 
-    /// Answers the first line, and takes it away.
-    pub fn answer<C: Console>(&mut self, alloc: Global, console: &mut C) -> Answer
+    /// Answers the first line, and takes it away. The probe of a line that registers a service is made before the change is asked for.
+    pub fn answer<P: Probe, C: Console<P>, F: Fn(Rule) -> Result<P, AllocError>>(
+        &mut self,
+        alloc: Global,
+        console: &mut C,
+        make: &F,
+    ) -> Answer
+        requires callable { F.IsAlwaysCallable make.now }
+        requires asked { MakesAsked P.rule P.memory (F.post make.now) }
         requires line { HasLine self.old }
         requires sent { self.old.waiting ≡ [] }
         ensures names { C.names console.new ≡ C.names console.old }
         ensures met { IsLineMet (C.names console.old) C.seen C.looks C.changes console.old console.new (first_line self.old.unread) result }
+        ensures cut { IsCut self.old.unread (first_line self.old.unread) (behind_line self.old.unread) }
         ensures unread { self.new.unread ≡ behind_line self.old.unread }
+        ensures ended { self.new.has_ended ≡ self.old.has_ended }
         ensures waiting { self.new.waiting ≡ answer_text (C.names console.old) result }
-        ensures over { self.new.is_over ≡ is_too_long result }
+        ensures over { self.new.is_over ≡ ends_session result }
     {
-        let answer = meet_text(alloc, console, self.first_line());
+        let answer = meet_text(alloc, console, make, self.first_line());
         self.drop_line();
         let told = self.say(alloc, console.catalogue(), answer);
-        self.is_over = told.is_too_long();
+        self.is_over = told.ends_session();
         told
     }
 
     fn first_line(&self) -> &[u8]
-        ensures { result.now ≡ first_line self.now.unread }
+        ensures value { result.now ≡ first_line self.now.unread }
+        ensures most { length self.now.unread ≤ 1025 }
     {
         let len = line_len(&self.unread);
         &self.unread[..len]

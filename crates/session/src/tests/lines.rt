@@ -1,11 +1,12 @@
-use crate::tests::one_thread::OneThread;
-use crate::{Answer, Console, Session};
+use crate::tests::one_thread::{OneThread, make_manual};
+use crate::{Answer, Session};
+use probe_core::Manual;
 use std::alloc::Global;
 use std::test::Fail;
 use test_support::same;
 
 /// Lines one after the other, and what is answered.
-const LINES: [(&[u8], &[u8]); 18] = [
+const LINES: [(&[u8], &[u8]); 19] = [
     (b"list\n", b"a=absent -=absent\n"),
     (b"check a\n", b"not found\n"),
     (b"register a manual\n", b"done\n"),
@@ -27,16 +28,17 @@ const LINES: [(&[u8], &[u8]); 18] = [
     (b"open a\n", b"bad line\n"),
     (b"check \xff\n", b"bad line\n"),
     (b"stop\n", b"stopping\n"),
+    (b"list\n", b""),
 ];
 
 /// More steps than any test needs.
 const MOST_STEPS: u32 = 4_096;
 
 /// Lets the session answer all lines that it has, and puts the answers behind those that came before.
-fn answer_all<C: Console>(
+fn answer_all(
     alloc: Global,
     session: &mut Session,
-    console: &mut C,
+    console: &mut OneThread<Manual>,
     answers: &mut Vec<u8>,
 ) -> Result<(), Fail> {
     for _ in 0..MOST_STEPS {
@@ -44,7 +46,7 @@ fn answer_all<C: Console>(
             return Ok(());
         }
         if session.to_send().is_empty() {
-            session.answer(alloc, console);
+            session.answer(alloc, console, &|rule| make_manual(rule));
         }
         let waiting = session.to_send();
         let count = waiting.len();
@@ -56,7 +58,7 @@ fn answer_all<C: Console>(
 
 /// The answers to bytes that come in pieces of at most so many.
 fn answers_to(alloc: Global, bytes: &[u8], most: usize) -> Result<Vec<u8>, Fail> {
-    let mut console = OneThread::new(alloc)?;
+    let mut console: OneThread<Manual> = OneThread::new(alloc)?;
     let mut session = Session::new(alloc)?;
     let mut answers = Vec::new(alloc);
     let mut rest = bytes;
@@ -90,13 +92,13 @@ fn answers_lines_in_their_order_in_any_pieces(rt: HostRuntime) -> Result<(), Fai
 #[test]
 fn ends_at_a_line_that_is_too_long(rt: HostRuntime) -> Result<(), Fail> {
     let alloc = rt.alloc();
-    let mut console = OneThread::new(alloc)?;
+    let mut console: OneThread<Manual> = OneThread::new(alloc)?;
     let mut session = Session::new(alloc)?;
     same(&session.give(&[b'a'; 2_000]), &1_025, &"taken")?;
     same(&session.has_line(), &true, &"a line")?;
     if session.has_line() && session.to_send().is_empty() {
         same(
-            &session.answer(alloc, &mut console),
+            &session.answer(alloc, &mut console, &|rule| make_manual(rule)),
             &Answer::TooLong,
             &"answer",
         )?;
@@ -118,7 +120,7 @@ const LAST: [(&[u8], &[u8]); 4] = [
 fn takes_a_last_line_that_has_no_lf(rt: HostRuntime) -> Result<(), Fail> {
     let alloc = rt.alloc();
     for (bytes, expected) in &LAST {
-        let mut console = OneThread::new(alloc)?;
+        let mut console: OneThread<Manual> = OneThread::new(alloc)?;
         let mut session = Session::new(alloc)?;
         let mut answers = Vec::new(alloc);
         session.give(bytes);

@@ -1,23 +1,34 @@
 //! A registry of one thread, over which sessions are held. Its ghosts say little: the tests look at what it answers.
 
+ghost use Rattle.probe_core.specs.Made.{IsAsked};
+
 use crate::{Console, Counts, Ended, OpenNow, Stats};
 use desk_core::{Call, Catalogue, Desk, Refusal, Reply, board_entries};
 use health_wire::Serving;
-use probe_core::{Manual, Rule};
-use script::Line;
+use probe_core::{Manual, Probe, Rule};
 use std::alloc::{AllocError, Global};
 use std::test::Fail;
 
-/// Services that are set by hand, and others that there is no memory for.
-#[derive(Drop)]
-pub(super) struct OneThread {
-    catalogue: Catalogue,
-    desk: Desk<Manual>,
+/// A service that is set by hand. There is no memory for one of another rule.
+pub(super) fn make_manual(rule: Rule) -> Result<Manual, AllocError>
+    ensures { IsAsked ⟦<Manual as Probe>⟧.rule ⟦<Manual as Probe>⟧.memory rule result }
+{
+    match rule {
+        Rule::Manual => Ok(Manual::new()),
+        _ => Err(AllocError),
+    }
 }
 
-impl OneThread {
+/// A registry, which only this thread has.
+#[derive(Drop)]
+pub(super) struct OneThread<P: Probe> {
+    catalogue: Catalogue,
+    desk: Desk<P>,
+}
+
+impl<P: Probe> OneThread<P> {
     /// A registry of `a` and the empty name with room for four entries.
-    pub(super) fn new(alloc: Global) -> Result<OneThread, Fail> {
+    pub(super) fn new(alloc: Global) -> Result<OneThread<P>, Fail> {
         let mut names = Vec::new(alloc);
         for text in ["a", ""] {
             names.push(String::from_str(alloc, text)?)?;
@@ -29,10 +40,11 @@ impl OneThread {
     }
 }
 
-impl Console for OneThread {
-    ghost use Rattle.std.specs.Prelude.{◌≡◌, ℕ, List, Option, Result, IsSome, IfSome, IfOk, OnErr, length};
+impl<P: Probe> Console<P> for OneThread<P> {
+    ghost use Rattle.std.specs.Prelude.{◌≡◌, ℕ, List, Option, Result, IfSome, length};
+    ghost use Rattle.std.specs.Option.{option_map};
     ghost use Rattle.desk_core.specs.Past.{past};
-    ghost use Rattle.script.specs.Change.{line_change};
+    ghost use Rattle.desk_core.specs.Mutation.{rule_of};
 
     ghost names = { λ console. console.catalogue };
 
@@ -46,18 +58,16 @@ impl Console for OneThread {
         &self.catalogue
     }
 
-    fn change(&mut self, line: &Line) -> Result<Result<Reply, Refusal>, AllocError> {
-        let Some(call) = line.call(&self.catalogue).unwrap() else {
-            return Ok(Err(Refusal::NotListed));
-        };
-        let probe = match call {
-            Call::Register(_, Rule::Manual) => Some(Manual::new()),
-            Call::Register(..) => return Err(AllocError),
-            _ => None,
+    fn change(&mut self, call: Option<Call>, probe: Option<P>) -> Result<Reply, Refusal>
+        requires ruled { IfSome call (λ c. option_map P.rule probe ≡ rule_of c) }
+        ensures names { self.new.catalogue ≡ self.old.catalogue }
+    {
+        let Some(call) = call else {
+            return Err(Refusal::NotListed);
         };
         match self.desk.change(0, call, probe) {
-            Ok((reply, _)) => Ok(Ok(reply)),
-            Err((refusal, _)) => Ok(Err(refusal)),
+            Ok((reply, _)) => Ok(reply),
+            Err((refusal, _)) => Err(refusal),
         }
     }
 

@@ -10,11 +10,11 @@ returns-in-Check-clause-met g c =
 pub returns-in-Board-clause-met : goal.returns-in-Board-clause-met
 returns-in-Board-clause-met g c = packed _ _ _ _ _ _ _ _ c.in-Board.is c.board.ensures.looks c.board.ensures.board
 
-pub returns-in-Ok : goal.returns-in-Ok
-returns-in-Ok g c = record {
+pub returns-in-Some : goal.returns-in-Some
+returns-in-Some g c = record {
   names = c.change.ensures.names;
-  met = changed _ _ _ _ _ _ _ _ (asks_change _ _ c.requires.offered c.in_default.not-Check c.in_default.not-Board) c.in-Ok.ensures.changed;
+  met = changed _ _ _ _ _ _ _ _ (asks_change _ _ c.requires.offered c.in_default.not-Check c.in_default.not-Board) c.in-Some.ensures.changed;
 }
 
-pub returns-in-Err : goal.returns-in-Err
-returns-in-Err g c = record { names = c.change.ensures.names; met = Starves _ c.in-Err.ensures.failed }
+pub returns-in-None : goal.returns-in-None
+returns-in-None g c = record { names = c.change.ensures.names; met = Starves _ c.in-None.ensures.failed }

@@ -7,4 +7,5 @@ pub returns-then-is_ok-clause-told : goal.returns-then-is_ok-clause-told
 returns-then-is_ok-clause-told c = AsItIs
 
 pub returns-clause-told : goal.returns-clause-told
-returns-clause-told c = was_long _ c.write_answer.result c.is_ok.result _ c.is_ok.ensures.value c.if-is_ok.false c.write_answer.ensures.long (omega (arith, c.clear.ensures.len, c.clear.ensures.capacity, c.self.invariant.3))
+returns-clause-told c = was_long _ c.write_answer.result c.is_ok.result _ c.is_ok.ensures.value c.if-is_ok.false c.write_answer.ensures.long
+    (omega (arith, c.clear.ensures.len, c.clear.ensures.capacity, c.self.invariant.3))
