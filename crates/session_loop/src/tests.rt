@@ -1,0 +1,4 @@
+mod memory;
+mod one_thread;
+mod streams;
+mod talks;
