@@ -142,8 +142,36 @@ impl Calls {
         Some(left)
     }
 
-    /// A turn of a registered connection, for what was reported of its socket, or for a change.
+    /// A turn of a registered connection, for what was reported of its socket, or for a change. An open Watch is ended only where it
+    /// has been told all changes.
     pub(crate) fn turn<D: Door>(
+        &mut self,
+        registry: &Registry,
+        door: &mut D,
+        key: usize,
+        round: Round,
+        ready: Option<Ready>,
+    )
+        ensures account { KeepsAccount (table_of self.old) (table_of self.new) }
+        ensures names { D.names door.new ≡ D.names door.old }
+        ensures stays { D.stays door.old door.new }
+    {
+        if !round.ends || !self.is_watching(key) {
+            return self.turn_once(registry, door, key, round, ready);
+        }
+        let waited_for = if self.may_look(key) { None } else { ready };
+        let still = Round {
+            ends: false,
+            ..round
+        };
+        self.turn_once(registry, door, key, still, waited_for);
+        if !self.is_told(key) {
+            return;
+        }
+        self.turn_once(registry, door, key, round, ready);
+    }
+
+    fn turn_once<D: Door>(
         &mut self,
         registry: &Registry,
         door: &mut D,
@@ -230,6 +258,22 @@ impl Calls {
     fn may_look(&self, key: usize) -> bool {
         match self.table.get(key) {
             Some(connection) => connection.may_look(),
+            None => false,
+        }
+    }
+
+    /// Whether a key holds an open Watch.
+    fn is_watching(&self, key: usize) -> bool {
+        match self.table.get(key) {
+            Some(connection) => connection.is_watching(),
+            None => false,
+        }
+    }
+
+    /// Whether a key holds an open Watch that has been told all changes.
+    fn is_told(&self, key: usize) -> bool {
+        match self.table.get(key) {
+            Some(connection) => connection.may_look() && !connection.gave_way(),
             None => false,
         }
     }

@@ -213,6 +213,11 @@ impl Connection {
         }
     }
 
+    /// Whether its last turn could have gone on.
+    pub fn gave_way(&self) -> bool {
+        self.gave_way
+    }
+
     /// Whether its time is up.
     pub fn is_late(&self, now: Instant) -> bool {
         self.until.is_some_and(|until| until <= now)

@@ -5,12 +5,13 @@ ghost use Rattle.live_server.specs.Settled.{KeepsAccount};
 use crate::calls::{Calls, Counts, FIRST_TOKEN, Limits, Round};
 use crate::connection::Ready;
 use crate::news::News;
+use crate::queue::Queue;
+use crate::tally::{Tallied, Tally};
 use mio::net::TcpListener;
 use mio::{Events, Interest, Poll, Registry, Token, Waker};
-use std::alloc::Global;
-use std::io::ErrorKind;
+use std::alloc::{AllocError, Global};
 use std::net::Net;
-use std::sync::Wait;
+use std::sync::{Arc, Wait};
 use std::time::{Clock, Duration, Instant};
 use std::{io, thread};
 use web_call::Door;
@@ -25,51 +26,13 @@ const WAKER: Token = Token(1);
 /// are short.
 const TICK_MILLIS: u64 = 100;
 
-/// How many milliseconds pass until it is tried again to accept, where that failed.
+/// How many milliseconds a loop waits until it tries again what failed.
 const RETRY_MILLIS: u64 = 100;
 
 /// The most connections that are accepted in a round.
 const MOST_ACCEPTED: usize = 256;
 
 const MOST_EVENTS: usize = 256;
-
-/// Whether connections may wait.
-#[derive(Clone, Copy, Debug, PartialEq, Eq)]
-enum Queue {
-    /// None does, until the socket reports one.
-    Empty,
-    /// Some may.
-    Waiting,
-    /// Accepting failed, and is tried again then.
-    Failed(Instant),
-}
-
-impl Queue {
-    /// It is tried again after a while.
-    fn failed(now: Instant) -> Queue {
-        match now.checked_add(Duration::from_millis(RETRY_MILLIS)) {
-            Some(until) => Queue::Failed(until),
-            None => Queue::Waiting,
-        }
-    }
-
-    /// Whether connections may wait behind an accept that failed so.
-    fn behind(kind: ErrorKind, now: Instant) -> Queue {
-        match kind {
-            ErrorKind::WouldBlock => Queue::Empty,
-            ErrorKind::Interrupted | ErrorKind::ConnectionAborted => Queue::Waiting,
-            _ => Queue::failed(now),
-        }
-    }
-
-    /// The socket has reported a connection. That ends no waiting for another try.
-    fn reported(self) -> Queue {
-        match self {
-            Queue::Empty => Queue::Waiting,
-            _ => self,
-        }
-    }
-}
 
 /// One loop of a server: a thread's share of the connections that come to a socket.
 #[derive(Drop)]
@@ -81,6 +44,7 @@ pub struct EventServer {
     queue: Queue,
     swept: Instant,
     calls: Calls,
+    tally: Arc<Tally>,
 }
 
 impl EventServer {
@@ -109,12 +73,18 @@ impl EventServer {
             queue: Queue::Waiting,
             swept: Instant::now(rt)?,
             calls: Calls::new(alloc, limits),
+            tally: Arc::new(alloc, Tally::new())?,
         })
     }
 
     /// What wakes the loop while it waits.
     pub fn waker(&self) -> io::Result<Waker> {
         Waker::new(self.poll.registry(), WAKER)
+    }
+
+    /// What the loop counts, for others to read while it serves.
+    pub fn tally(&self) -> Result<Arc<Tally>, AllocError> {
+        self.tally.clone()
     }
 
     /// How many connections are held.
@@ -156,10 +126,24 @@ impl EventServer {
             if self.round(rt, door, news).is_err() {
                 thread::sleep(rt, Duration::from_millis(RETRY_MILLIS));
             }
+            self.publish();
             if news.has_ended() && self.connections() == 0 {
                 return;
             }
         }
+    }
+
+    /// Tells what it counts to those who have its tally.
+    fn publish(&self) {
+        let table = self.calls.table();
+        let counts = self.calls.counts();
+        self.tally.store(Tallied {
+            connections: table.len() as u64,
+            watches: table.watches() as u64,
+            ended: table.ended(),
+            given_up: counts.given_up,
+            behind: counts.behind,
+        });
     }
 
     /// Waits for events, and does what they ask for. It accepts last, so that no key is used again among the events of one round. Where
@@ -226,12 +210,7 @@ impl EventServer {
         ensures names { D.names door.new ≡ D.names door.old }
         ensures stays { D.stays door.old door.new }
     {
-        if let Queue::Failed(until) = self.queue {
-            if round.now < until {
-                return;
-            }
-            self.queue = Queue::Waiting;
-        }
+        self.queue = self.queue.retried(round.now);
         for _ in 0..MOST_ACCEPTED {
             if self.queue != Queue::Waiting || self.calls.table().is_full() {
                 return;
