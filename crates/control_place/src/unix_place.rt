@@ -1,0 +1,133 @@
+ghost use Rattle.std.specs.Prelude.{◌≡◌, IfOk, string_bytes, is_err, int_lt, pos};
+
+use mio::net::{UnixListener, UnixStream};
+use std::alloc::Global;
+use std::fs::{Files, symlink_metadata};
+use std::io::ErrorKind;
+use std::net::Net;
+use std::os::fd::{AsFd, AsRawFd};
+use std::os::unix::fs::{FileTypeExt, MetadataExt};
+use std::os::unix::net;
+use std::os::unix::net::SocketAddr;
+use std::{fs, io};
+
+/// Its owner may connect, which asks for the right to write, and nobody else.
+const OWNER_ONLY: u32 = 0o600;
+
+/// As many connections may wait as the system allows.
+const BACKLOG: i32 = -1;
+
+/// Which file stands at a path.
+#[derive(Clone, Copy, Debug, PartialEq, Eq)]
+struct Identity {
+    device: u64,
+    number: u64,
+}
+
+/// A listening Unix socket with its file, which is made with mode 0600 and never has a wider one.
+///
+/// The file stays when this is dropped: `remove` takes it away. A file that is left is taken over by the next server.
+#[derive(Debug, Drop)]
+pub struct UnixPlace {
+    listener: UnixListener,
+    path: String,
+    identity: Identity,
+}
+
+impl UnixPlace {
+    /// Listens at the path. Where a file stands it is `AddrInUse`, and the file is left alone, unless it is a socket that refuses
+    /// connections: that file is taken away first. A symbolic link is not followed.
+    ///
+    /// Two servers that find the same left file at the same moment are not kept apart: the first may lose its file to the second.
+    pub fn bind<R: Files + Net>(rt: &R, alloc: Global, path: &str) -> io::Result<UnixPlace>
+        ensures path { IfOk result (λ place. string_bytes place.path ≡ path.now) }
+    {
+        let addr = SocketAddr::from_pathname(path)?;
+        let path = String::from_str(alloc, path)?;
+        let listener = match listen(rt, &addr) {
+            Err(error) if error.kind() == ErrorKind::AddrInUse => {
+                if !is_left(rt, &path, &addr) {
+                    return Err(error);
+                }
+                fs::remove_file(rt, path.as_str())?;
+                listen(rt, &addr)?
+            }
+            listened => listened?,
+        };
+        let identity = identity_of(rt, &path)?;
+        Ok(UnixPlace {
+            listener,
+            path,
+            identity,
+        })
+    }
+
+    /// The path, as it was given.
+    pub fn path(&self) -> &str
+        ensures { result.now ≡ string_bytes self.now.path }
+    {
+        &self.path
+    }
+
+    /// What accepts its connections.
+    pub fn listener(&self) -> &UnixListener {
+        &self.listener
+    }
+
+    pub(crate) fn listener_mut(&mut self) -> &mut UnixListener {
+        &mut self.listener
+    }
+
+    /// Takes its file away. A file that another has put in its place since is left alone.
+    pub fn remove<R: Files>(&self, rt: &R) -> io::Result<()> {
+        if identity_of(rt, &self.path)? == self.identity {
+            fs::remove_file(rt, self.path.as_str())
+        } else {
+            Ok(())
+        }
+    }
+}
+
+/// A socket that listens at this address and does not wait. Its mode is set before it has a file, so that the file is made with it.
+fn listen<R: Files + Net>(rt: &R, addr: &SocketAddr) -> io::Result<UnixListener> {
+    let socket = rt.unix_socket()?;
+    check(libc::fchmod(socket.as_raw_fd(), OWNER_ONLY))?;
+    rt.bind_unix(socket.as_fd(), addr)?;
+    check(libc::net::listen(socket.as_raw_fd(), BACKLOG))?;
+    let listener = net::UnixListener::from(socket);
+    listener.set_nonblocking(true)?;
+    Ok(UnixListener::from_std(listener))
+}
+
+/// The error of a call of the system that answered -1.
+fn check(status: i32) -> io::Result<()>
+    ensures { is_err result ≡ int_lt status (pos 0) }
+{
+    if status < 0 {
+        Err(io::Error::from_raw_os_error(os::errno()))
+    } else {
+        Ok(())
+    }
+}
+
+/// Whether the file there is a socket at which nobody listens any more.
+fn is_left<R: Files + Net>(rt: &R, path: &str, addr: &SocketAddr) -> bool {
+    let Ok(found) = symlink_metadata(rt, path) else {
+        return false;
+    };
+    if !found.file_type().is_socket() {
+        return false;
+    }
+    match UnixStream::connect_addr(rt, addr) {
+        Ok(_) => false,
+        Err(error) => error.kind() == ErrorKind::ConnectionRefused,
+    }
+}
+
+fn identity_of<R: Files>(rt: &R, path: &str) -> io::Result<Identity> {
+    let found = symlink_metadata(rt, path)?;
+    Ok(Identity {
+        device: found.dev(),
+        number: found.ino(),
+    })
+}
