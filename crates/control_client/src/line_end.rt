@@ -1,0 +1,10 @@
+/// What stands behind the bytes that were read of a line.
+#[derive(Clone, Copy, Debug, PartialEq, Eq)]
+pub enum LineEnd {
+    /// A line feed, which was read too.
+    LineFeed,
+    /// The end of the input.
+    Input,
+    /// More of the line than is read.
+    TooLong,
+}
