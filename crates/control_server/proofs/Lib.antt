@@ -1,0 +1,3 @@
+pub mod ConsoleLemmas
+pub mod MadeLemmas
+pub mod SeatLemmas

@@ -1,0 +1,129 @@
+-- What lines that a seat met have made of its history.
+use Rattle.std.proofs.Common.{◌≡◌, ℕ, List, [], ◌∷◌, ◌++◌, ap, sym, refl, ◌∙◌, subst}
+use Rattle.std.specs.Prelude.{Option, None, Some, Result, Ok, Err}
+use Rattle.std.proofs.lemmas.List.{append_assoc, reverse-append}
+use Rattle.desk_core.specs.declared.call.Call.{Call}
+use Rattle.desk_core.specs.declared.entry.Entry.{Entry}
+use Rattle.desk_core.specs.declared.refusal.Refusal.{Refusal}
+use Rattle.desk_core.specs.declared.reply.Reply.{Reply}
+use Rattle.desk_core.specs.Mutation.{Ends as Done, Then as Next}
+use Rattle.desk_core.specs.Past.{past}
+use Rattle.hall.specs.Seats.{HallState, SeatState, IsOf, IsCarriedOut, own_calls, with_seen}
+use Rattle.crew.specs.CarriedOut.{replied}
+use Rattle.crew.specs.Looking.{HasLooked}
+use Rattle.crew.proofs.CarryingOut.{has_met}
+use Rattle.crew.proofs.LookingLemmas.{older_on}
+use Rattle.session.specs.declared.answer.Answer.{Answer}
+use Rattle.script.specs.TextLines.{without_cr}
+use Rattle.session.specs.declared.request.Request.{Request}
+use Rattle.session.specs.Meeting.{IsMet, IsLineMet}
+use Rattle.session.specs.Meeting.IsMet.{Changes, Checks, Packs, Lists, Tells, Stops, Starves, StarvesTold}
+use Rattle.session.specs.Meeting.IsLineMet.{IsTooLong, IsSkipped, IsNoText, IsNoRequest, IsUnread, IsAsked}
+use Rattle.session.specs.Request.{IsRequest}
+use Rattle.session.specs.Talk.AreMet.{Ends, Then, Moves}
+use Rattle.control_server.specs.SeatLines.{AreAskedBy, HasMade, HasMet, results_of}
+use Rattle.control_server.specs.SeatLines.AreAskedBy.{NoLines, Change, NoChange}
+
+-- the first change's entry stands before those of the others
+replied_first : (seat : ℕ) (call : Option Call) (result : Result Reply Refusal) (calls : List (Option Call)) (results : List (Result Reply Refusal))
+    → replied seat (call ∷ calls) (result ∷ results) ≡ replied seat (call ∷ []) (result ∷ []) ++ replied seat calls results
+replied_first seat (Some call) (Ok reply) calls results = refl
+replied_first seat None (Ok reply) calls results = refl
+replied_first seat (Some call) (Err refusal) calls results = refl
+replied_first seat None (Err refusal) calls results = refl
+
+made_none : (seat : SeatState) → HasMade seat seat [] []
+made_none seat = record { same = refl; begins = record { newer = []; is = refl }; own = refl }
+
+-- a seat that looks, and then makes changes
+looks_first : (a b c : SeatState) (calls : List (Option Call)) (results : List (Result Reply Refusal)) → HasLooked a b → HasMade b c calls results → HasMade a c calls results
+looks_first a b c calls results looked made =
+    let number : b.number ≡ a.number = ap (λ (seat : SeatState). seat.number) looked.same in
+    record {
+      same = made.same ∙ ap (λ (seat : SeatState). with_seen seat c.seen) looked.same;
+      begins = older_on a.seen b.seen c.seen looked.begins made.begins;
+      own = made.own ∙ (ap (λ (n : ℕ). past (replied n calls results) ++ own_calls b) number ∙ ap (λ (own : List Entry). past (replied a.number calls results) ++ own) looked.own);
+    }
+
+-- a seat that makes one change, and then others
+changes_first : (a b c : SeatState) (call : Option Call) (result : Result Reply Refusal) (calls : List (Option Call)) (results : List (Result Reply Refusal))
+    → IsCarriedOut a b call result → HasMade b c calls results → HasMade a c (call ∷ calls) (result ∷ results)
+changes_first a b c call result calls results carried made =
+    let one = has_met a b (call ∷ []) (result ∷ []) (Next a b b call result [] [] carried (Done b)) in
+    let same : b ≡ with_seen a b.seen = one.same in
+    let number : b.number ≡ a.number = ap (λ (seat : SeatState). seat.number) same in
+    let here : List Entry = replied a.number (call ∷ []) (result ∷ []) in
+    let there : List Entry = replied a.number calls results in
+    record {
+      same = made.same ∙ ap (λ (seat : SeatState). with_seen seat c.seen) same;
+      begins = older_on a.seen b.seen c.seen one.begins made.begins;
+      own = made.own
+          ∙ (ap (λ (n : ℕ). past (replied n calls results) ++ own_calls b) number
+          ∙ (ap (λ (own : List Entry). past there ++ own) one.own
+          ∙ (sym (append_assoc (past there) (past here) (own_calls a))
+          ∙ ap (λ (own : List Entry). own ++ own_calls a) (sym (ap past (replied_first a.number call result calls results) ∙ reverse-append here there)))));
+    }
+
+-- changes that lines asked for, and what they made
+record Makes (names : List (List ℕ)) (old new : SeatState) (lines : List (List ℕ)) (answers : List Answer) : Type 0 where
+  calls : List (Option Call)
+  asked : AreAskedBy names lines answers calls
+  made : HasMade old new calls (results_of answers)
+
+-- a line that the seat met by looking at most
+quiet_first : (names : List (List ℕ)) (a b c : SeatState) (line : List ℕ) (answer : Answer) (lines : List (List ℕ)) (answers : List Answer)
+    → results_of (answer ∷ []) ≡ [] → results_of (answer ∷ answers) ≡ results_of answers → HasLooked a b → Makes names b c lines answers → Makes names a c (line ∷ lines) (answer ∷ answers)
+quiet_first names a b c line answer lines answers none same looked makes = record {
+  calls = makes.calls;
+  asked = NoChange line answer lines answers makes.calls none makes.asked;
+  made = rw same (looks_first a b c makes.calls (results_of answers) looked makes.made);
+}
+
+stays : (old new : SeatState) → new ≡ old → HasLooked old new
+stays old new same = subst (λ (seat : SeatState). HasLooked seat new) same (record { same = refl; begins = record { newer = []; is = refl }; own = refl })
+
+abbrev seen_in : SeatState → List Entry
+seen_in seat = seat.seen
+
+request_first : (names : List (List ℕ)) (a b c : SeatState) (line : List ℕ) (request : Request) (answer : Answer) (lines : List (List ℕ)) (answers : List Answer)
+    → IsRequest names (without_cr line) request → IsMet names seen_in HasLooked IsCarriedOut a b request answer → Makes names b c lines answers → Makes names a c (line ∷ lines) (answer ∷ answers)
+request_first names a b c line _ _ lines answers is (Changes asked call result change carried) makes = record {
+  calls = call ∷ makes.calls;
+  asked = Change line call result lines answers makes.calls (record { request = asked; is = is; change = change }) makes.asked;
+  made = changes_first a b c call result makes.calls (results_of answers) carried makes.made;
+}
+request_first names a b c line _ answer lines answers is (Checks name looked) makes = quiet_first names a b c line _ lines answers refl refl looked makes
+request_first names a b c line _ answer lines answers is (Packs looked) makes = quiet_first names a b c line _ lines answers refl refl looked makes
+request_first names a b c line _ answer lines answers is (Lists looked) makes = quiet_first names a b c line _ lines answers refl refl looked makes
+request_first names a b c line _ answer lines answers is (Tells stats looked entries) makes = quiet_first names a b c line _ lines answers refl refl looked makes
+request_first names a b c line _ answer lines answers is (Stops same) makes = quiet_first names a b c line _ lines answers refl refl (stays a b same) makes
+request_first names a b c line _ answer lines answers is (Starves request same) makes = quiet_first names a b c line _ lines answers refl refl (stays a b same) makes
+request_first names a b c line _ answer lines answers is (StarvesTold request looked) makes = quiet_first names a b c line _ lines answers refl refl looked makes
+
+line_first : (names : List (List ℕ)) (a b c : SeatState) (line : List ℕ) (answer : Answer) (lines : List (List ℕ)) (answers : List Answer)
+    → IsLineMet names seen_in HasLooked IsCarriedOut a b line answer → Makes names b c lines answers → Makes names a c (line ∷ lines) (answer ∷ answers)
+line_first names a b c line _ lines answers (IsTooLong long same) makes = quiet_first names a b c line _ lines answers refl refl (stays a b same) makes
+line_first names a b c line _ lines answers (IsSkipped short empty same) makes = quiet_first names a b c line _ lines answers refl refl (stays a b same) makes
+line_first names a b c line _ lines answers (IsNoText short not_text same) makes = quiet_first names a b c line _ lines answers refl refl (stays a b same) makes
+line_first names a b c line _ lines answers (IsNoRequest said not_request same) makes = quiet_first names a b c line _ lines answers refl refl (stays a b same) makes
+line_first names a b c line _ lines answers (IsUnread said same) makes = quiet_first names a b c line _ lines answers refl refl (stays a b same) makes
+line_first names a b c line _ lines answers (IsAsked said request answer is met) makes = request_first names a b c line request answer lines answers is met makes
+
+makes_all : (names : List (List ℕ)) (old new : SeatState) (lines : List (List ℕ)) (answers : List Answer) → HasMet names old new lines answers → Makes names old new lines answers
+makes_all names _ _ _ _ (Ends seat) = record { calls = []; asked = NoLines; made = made_none seat }
+makes_all names _ _ _ _ (Then old between new line answer lines answers met are) =
+    line_first names old between new line answer lines answers met (makes_all names between new lines answers are)
+makes_all names _ _ _ _ (Moves old between new lines answers looked are) =
+    let makes = makes_all names between new lines answers are in
+    record { calls = makes.calls; asked = makes.asked; made = looks_first old between new makes.calls (results_of answers) looked makes.made }
+
+-- a seat has made the changes that its lines asked for
+pub lines_make : (names : List (List ℕ)) (old new : SeatState) (lines : List (List ℕ)) (answers : List Answer) → HasMet names old new lines answers
+    → (calls : List (Option Call)) × AreAskedBy names lines answers calls × HasMade old new calls (results_of answers)
+lines_make names old new lines answers met = let makes = makes_all names old new lines answers met in (makes.calls, makes.asked, makes.made)
+
+-- and stays the hall's
+pub met_ours : (names : List (List ℕ)) (hall : HallState) (old new : SeatState) (lines : List (List ℕ)) (answers : List Answer) → HasMet names old new lines answers → IsOf hall old → IsOf hall new
+met_ours names hall old new lines answers met ours =
+    let same = (makes_all names old new lines answers met).made.same in
+    record { table = ap (λ (seat : SeatState). seat.table) same ∙ ours.table; most = ap (λ (seat : SeatState). seat.most) same ∙ ours.most }

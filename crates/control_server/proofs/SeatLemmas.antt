@@ -1,0 +1,59 @@
+-- The seats that sessions use, before and after lines were met by them.
+use Rattle.std.proofs.Common.{◌≡◌, ℕ, zero, suc, ◌<◌, List, [], ◌∷◌, ◌++◌, length, get_or, refl, sym, subst, ◌∙◌, arith, ⊎_elim}
+use Rattle.std.specs.Prelude.{slice_set}
+use Rattle.std.specs.List.{All}
+use Rattle.std.proofs.lemmas.Bool.{cases_eq}
+use Rattle.std.proofs.lemmas.List.{get_or-set_other, get_or-set_same, length-set}
+use Rattle.std.proofs.lemmas.List.Elements.{All-get_or}
+use Rattle.hall.specs.Seats.{HallState, SeatState, IsOf}
+use Rattle.session.specs.Talk.AreMet.{Ends}
+use Rattle.session.proofs.TalkLemmas.{met_then}
+use Rattle.control_server.specs.Seats.{MetLines, SeatsHaveMet}
+use Rattle.control_server.proofs.MadeLemmas.{met_ours}
+
+-- a seat that was not used
+pub unused : (names : List (List ℕ)) (seat : SeatState) → MetLines names seat seat
+unused names seat = record { lines = []; answers = []; met = Ends seat }
+
+met_on : (names : List (List ℕ)) (a b c : SeatState) → MetLines names a b → MetLines names b c → MetLines names a c
+met_on names a b c p q = record { lines = p.lines ++ q.lines; answers = p.answers ++ q.answers; met = met_then p.met q.met }
+
+pub seats_unused : (names : List (List ℕ)) (seats : List SeatState) → SeatsHaveMet names seats seats
+seats_unused names seats = record { count = refl; each = λ place other below. unused names (get_or seats place other) }
+
+pub seats_on : (names : List (List ℕ)) (a b c : List SeatState) → SeatsHaveMet names a b → SeatsHaveMet names b c → SeatsHaveMet names a c
+seats_on names a b c p q = record {
+  count = q.count ∙ p.count;
+  each = λ place other below. met_on names (get_or a place other) (get_or b place other) (get_or c place other) (p.each place other below)
+      (q.each place other (omega (arith, below, p.count)));
+}
+
+-- each seat stays the hall's
+pub met_line_ours : (names : List (List ℕ)) (hall : HallState) (old new : SeatState) → MetLines names old new → IsOf hall old → IsOf hall new
+met_line_ours names hall old new met ours = met_ours names hall old new met.lines met.answers met.met ours
+
+pub seats_ours : (names : List (List ℕ)) (hall : HallState) (old new : List SeatState) → SeatsHaveMet names old new → All (IsOf hall) old → All (IsOf hall) new
+seats_ours names hall old new met ours place other below =
+    let within : place < length old = omega (arith, below, met.count) in
+    met_line_ours names hall (get_or old place other) (get_or new place other) (met.each place other within) (All-get_or (IsOf hall) old place other within ours)
+
+-- what stands at a place does not depend on what would be found behind the end
+same_at : (seats : List SeatState) (key : ℕ) (a b : SeatState) → key < length seats → get_or seats key a ≡ get_or seats key b
+same_at [] key a b within = absurd (omega (arith, within))
+same_at (seat ∷ seats) zero a b within = refl
+same_at (seat ∷ seats) (suc key) a b within = same_at seats key a b (omega (arith, within))
+
+-- one seat has met lines
+one_at : (names : List (List ℕ)) (seats : List SeatState) (key : ℕ) (seat seat' : SeatState) → key < length seats → seat ≡ get_or seats key seat → MetLines names seat seat'
+    → (place : ℕ) (other : SeatState) → place < length seats → MetLines names (get_or seats place other) (get_or (slice_set seats key seat') place other)
+one_at names seats key seat seat' within is met place other below =
+    ⊎_elim
+    (λ same. subst (λ (n : ℕ). MetLines names (get_or seats n other) (get_or (slice_set seats key seat') n other)) (sym same)
+    (subst (λ (one : SeatState). MetLines names (get_or seats key other) one) (sym (get_or-set_same seats key seat' other within))
+    (subst (λ (one : SeatState). MetLines names one seat') (is ∙ same_at seats key seat other within) met)))
+    (λ apart. subst (λ (one : SeatState). MetLines names (get_or seats place other) one) (sym (get_or-set_other seats key place seat' other apart)) (unused names (get_or seats place other)))
+    (cases_eq place key)
+
+pub one_met : (names : List (List ℕ)) (seats : List SeatState) (key : ℕ) (seat seat' : SeatState) → key < length seats → seat ≡ get_or seats key seat → MetLines names seat seat'
+    → SeatsHaveMet names seats (slice_set seats key seat')
+one_met names seats key seat seat' within is met = record { count = length-set seats key seat'; each = one_at names seats key seat seat' within is met }

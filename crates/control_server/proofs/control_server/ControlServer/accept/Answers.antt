@@ -1,0 +1,8 @@
+use Rattle.control_server.proofs.SeatLemmas.{seats_on, seats_unused}
+use Rattle.control_server.proofs.control_server.ControlServer.accept.Goals as goal
+
+pub loop-init : goal.loop-init
+loop-init g c = record { met = seats_unused _ _; ours = c.requires.ours }
+
+pub loop-preserved : goal.loop-preserved
+loop-preserved g c = record { met = seats_on _ _ _ _ c.loop.invariant.met c.accept_one.ensures.met; ours = c.accept_one.ensures.ours }

@@ -1,0 +1,11 @@
+use Rattle.control_server.proofs.SeatLemmas.{seats_on, seats_unused}
+use Rattle.control_server.proofs.control_server.ControlServer.run.Goals as goal
+
+pub loop-init : goal.loop-init
+loop-init g c = record { met = seats_unused _ _; ours = c.requires.ours }
+
+pub loop-preserved : goal.loop-preserved
+loop-preserved g c = record { met = seats_on _ _ _ _ c.loop.invariant.met c.round.ensures.met; ours = c.round.ensures.ours }
+
+pub returns-then-not-is_left-clause-met : goal.returns-then-not-is_left-clause-met
+returns-then-not-is_left-clause-met g c = seats_on _ _ _ _ c.loop.invariant.met c.round.ensures.met

@@ -1,0 +1,4 @@
+pub mod Connection
+pub mod HallConsole
+pub mod Seats
+pub mod SeatLines

@@ -1,0 +1,58 @@
+-- What sessions make of the seat that they have, one after the other, and what of it is in the seat's history.
+use Rattle.std.specs.Prelude.{ℕ, ◌≡◌, Option, Some, List, [], ◌∷◌, ◌++◌, Result}
+use Rattle.desk_core.specs.declared.call.Call.{Call}
+use Rattle.desk_core.specs.declared.refusal.Refusal.{Refusal}
+use Rattle.desk_core.specs.declared.reply.Reply.{Reply}
+use Rattle.desk_core.specs.Past.{past}
+use Rattle.desk_core.specs.Watch.{IsOlder}
+use Rattle.hall.specs.Seats.{SeatState, IsCarriedOut, own_calls, with_seen}
+use Rattle.crew.specs.CarriedOut.{replied}
+use Rattle.crew.specs.Looking.{HasLooked}
+use Rattle.script.specs.declared.line.Line.{Line}
+use Rattle.script.specs.Change.{line_change}
+use Rattle.script.specs.TextLines.{without_cr}
+use Rattle.session.specs.declared.answer.Answer.{Answer}
+use Rattle.session.specs.declared.answer.Answer.TheVariants.{Changed, Checked, Board, Listed, Told, Stopping, BadLine, TooLong, OutOfMemory, Skipped}
+use Rattle.session.specs.declared.request.Request.TheVariants as requests
+use Rattle.session.specs.Request.{IsRequest}
+use Rattle.session.specs.Talk.{AreMet}
+
+-- By this seat these lines were met, one after the other, each with its answer at its point of the history: a change by a change of the
+-- seat, anything else by what the seat has seen. In between it has at most looked
+abbrev pub HasMet : List (List ℕ) → SeatState → SeatState → List (List ℕ) → List Answer → Type 0
+HasMet names old new lines answers = AreMet HasLooked names (λ seat. seat.seen) HasLooked IsCarriedOut old new lines answers
+
+-- the results of the changes among answers
+abbrev pub results_of : List Answer → List (Result Reply Refusal)
+results_of [] = []
+results_of (Changed result ∷ answers) = result ∷ results_of answers
+results_of (Checked status ∷ answers) = results_of answers
+results_of (Board word ∷ answers) = results_of answers
+results_of (Listed word ∷ answers) = results_of answers
+results_of (Told stats ∷ answers) = results_of answers
+results_of (Stopping ∷ answers) = results_of answers
+results_of (BadLine ∷ answers) = results_of answers
+results_of (TooLong ∷ answers) = results_of answers
+results_of (OutOfMemory ∷ answers) = results_of answers
+results_of (Skipped ∷ answers) = results_of answers
+
+-- the line asks for this change
+pub record AsksFor (names : List (List ℕ)) (line : List ℕ) (call : Option Call) : Type 0 where
+  pub request : Line
+  pub is : IsRequest names (without_cr line) (requests.Line request)
+  pub change : line_change names request ≡ Some call
+
+-- these are the changes that were asked for by those of the lines that were answered by a change, in their order
+pub data AreAskedBy (names : List (List ℕ)) : List (List ℕ) → List Answer → List (Option Call) → Type 0 where
+  NoLines : AreAskedBy names [] [] []
+  Change : (line : List ℕ) (call : Option Call) (result : Result Reply Refusal) (lines : List (List ℕ)) (answers : List Answer) (calls : List (Option Call))
+      → AsksFor names line call → AreAskedBy names lines answers calls → AreAskedBy names (line ∷ lines) (Changed result ∷ answers) (call ∷ calls)
+  NoChange : (line : List ℕ) (answer : Answer) (lines : List (List ℕ)) (answers : List Answer) (calls : List (Option Call))
+      → results_of (answer ∷ []) ≡ [] → AreAskedBy names lines answers calls → AreAskedBy names (line ∷ lines) (answer ∷ answers) calls
+
+-- A seat that was asked for these changes, with these results, and looked in between: it is the same seat, whose history goes on, and its
+-- own entries are those of the changes that got a reply, in front of those that it had
+pub record HasMade (old new : SeatState) (calls : List (Option Call)) (results : List (Result Reply Refusal)) : Type 0 where
+  pub same : new ≡ with_seen old new.seen
+  pub begins : IsOlder old.seen new.seen
+  pub own : own_calls new ≡ past (replied old.number calls results) ++ own_calls old

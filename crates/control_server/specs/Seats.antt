@@ -1,0 +1,21 @@
+-- The seats that sessions use, and what has become of them.
+use Rattle.std.specs.Prelude.{ℕ, ◌≡◌, ◌≢◌, ◌<◌, List, length}
+use Rattle.std.specs.List.{slice_index_or}
+use Rattle.hall.specs.Seats.{SeatState}
+use Rattle.session.specs.declared.answer.Answer.{Answer}
+use Rattle.control_server.specs.SeatLines.{HasMet}
+
+-- some lines were met by the seat, one after the other
+pub record MetLines (names : List (List ℕ)) (old new : SeatState) : Type 0 where
+  pub lines : List (List ℕ)
+  pub answers : List Answer
+  pub met : HasMet names old new lines answers
+
+-- by each of these seats
+pub record SeatsHaveMet (names : List (List ℕ)) (old new : List SeatState) : Type 0 where
+  pub count : length new ≡ length old
+  pub each : (place : ℕ) (other : SeatState) → place < length old → MetLines names (slice_index_or old place other) (slice_index_or new place other)
+
+-- none of the seats has changed but that of this key
+abbrev pub IsByKey : ℕ → List SeatState → List SeatState → Type 0
+IsByKey key old new = (place : ℕ) (other : SeatState) → place ≢ key → slice_index_or new place other ≡ slice_index_or old place other

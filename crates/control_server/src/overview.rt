@@ -1,0 +1,40 @@
+use live_server::{News, Tally};
+use session::{Counts, Ended, OpenNow};
+use std::sync::Arc;
+use std::sync::atomic::AtomicU64;
+
+/// What a session sees and asks of the server that runs over the registry.
+#[derive(Clone, Copy)]
+pub struct Overview<'a> {
+    /// What the loops are told.
+    pub news: &'a News,
+    /// What the loops count.
+    pub tallies: &'a [Arc<Tally>],
+    /// How many sessions there are.
+    pub sessions: u64,
+    /// Not 0 once a session was told to stop the server.
+    pub stops: &'a AtomicU64,
+}
+
+/// What all loops have counted by now, beside so many sessions. A sum stays at its greatest number once it has come to it.
+pub(crate) fn counts_of(tallies: &[Arc<Tally>], sessions: u64) -> Counts {
+    let mut current = OpenNow {
+        connections: 0,
+        watches: 0,
+        sessions,
+    };
+    let mut ended = Ended {
+        calls: 0,
+        given_up: 0,
+        behind: 0,
+    };
+    for tally in tallies {
+        let loaded = tally.load();
+        current.connections = current.connections.saturating_add(loaded.connections);
+        current.watches = current.watches.saturating_add(loaded.watches);
+        ended.calls = ended.calls.saturating_add(loaded.ended);
+        ended.given_up = ended.given_up.saturating_add(loaded.given_up);
+        ended.behind = ended.behind.saturating_add(loaded.behind);
+    }
+    Counts { current, ended }
+}
