@@ -1,8 +1,8 @@
 -- The seats of a hall before and after loops have served by them.
-use Rattle.std.proofs.Common.{◌≡◌, ℕ, zero, suc, ◌+◌, ◌-◌, ◌<◌, List, [], ◌∷◌, ◌++◌, map, length, get_or, sym, refl, ap, subst, ◌∙◌, arith, length-append, ⊎_elim}
+use Rattle.std.proofs.Common.{◌≡◌, ℕ, zero, suc, ◌+◌, ◌-◌, ◌<◌, List, [], ◌∷◌, ◌++◌, map, take, drop, length, get_or, sym, refl, ap, subst, ◌∙◌, arith, length-append, ⊎_elim}
 use Rattle.std.specs.List.{All, sum_by}
 use Rattle.std.proofs.lemmas.Bool.{cases_lt}
-use Rattle.std.proofs.lemmas.List.{length-map, get_or-map, get_or_append_left, get_or-append_right}
+use Rattle.std.proofs.lemmas.List.{append-nil, drop_all, take_all, length-map, get_or-map, get_or_append_left, get_or-append_right}
 use Rattle.std.proofs.lemmas.List.Elements.{All-get_or}
 use Rattle.std.proofs.lemmas.List.Sums.{sum_by-cons}
 use Rattle.hall.specs.Seats.{HallState, SeatState, IsOf, own_calls}
@@ -10,7 +10,9 @@ use Rattle.crew.specs.Looking.{HasLooked}
 use Rattle.crew.proofs.CarryingOut.{looked_ours}
 use Rattle.live_run.specs.declared.seated_loop.SeatedLoop.{SeatedLoop}
 use Rattle.live_server.specs.declared.event_server.EventServer.{EventServer}
-use Rattle.live_run.specs.Loops.{HasServedAll, HaveServed, HaveServedAll, SeatsHaveLooked}
+use Rattle.control_server.specs.Seats.{MetLines, SeatsHaveMet}
+use Rattle.control_server.proofs.SeatLemmas.{met_line_ours, unused}
+use Rattle.live_run.specs.Loops.{HasServedAll, HaveServed, HaveServedAll, SeatsHaveLooked, SeatsHaveServed}
 
 -- an element of the middle one of three parts
 middle : {X Y : Type 0} (v : X → Y) (first rest : List Y) (xs : List X) (i : ℕ) (d : X) (e : Y) → length first ≡ 1 → i < length xs
@@ -32,13 +34,13 @@ long : {X Y : Type 0} (v : X → Y) (first rest : List Y) (xs : List X) → leng
 long v first rest xs = omega (arith, length-append first (map v xs ++ rest), length-append (map v xs) rest, length-map xs v)
 
 -- the loops' seats have looked
-loops_looked : {P K : Type 0} (first rest : List SeatState) (old new : List (SeatedLoop P K)) → length first ≡ 1 → length new ≡ length old → HaveServed old new
+loops_looked : {P K : Type 0} (first rest rest' : List SeatState) (old new : List (SeatedLoop P K)) → length first ≡ 1 → length new ≡ length old → HaveServed old new
     → (place : ℕ) (other : SeatState) → place < length old
-    → HasLooked (get_or (first ++ (map (λ seated. seated.seat) old ++ rest)) (1 + place) other) (get_or (first ++ (map (λ seated. seated.seat) new ++ rest)) (1 + place) other)
-loops_looked first rest [] new one same served place other below = absurd (omega (arith, below))
-loops_looked {P} {K} first rest (seated ∷ old) new one same served place other below =
+    → HasLooked (get_or (first ++ (map (λ seated. seated.seat) old ++ rest)) (1 + place) other) (get_or (first ++ (map (λ seated. seated.seat) new ++ rest')) (1 + place) other)
+loops_looked first rest rest' [] new one same served place other below = absurd (omega (arith, below))
+loops_looked {P} {K} first rest rest' (seated ∷ old) new one same served place other below =
     let seat : SeatedLoop P K → SeatState = λ one. one.seat in
-    rw (middle seat first rest (seated ∷ old) place seated other one below, middle seat first rest new place seated other one (omega (arith, same, below)))
+    rw (middle seat first rest (seated ∷ old) place seated other one below, middle seat first rest' new place seated other one (omega (arith, same, below)))
     (served place seated below).looked
 
 -- where loops have served, the seats have looked
@@ -51,10 +53,41 @@ seats_looked {P} {K} first rest old new loops one count same served =
       looked = λ place other least most.
           let at : 1 + (place - 1) ≡ place = omega (arith, least) in
           subst (λ (n : ℕ). HasLooked (get_or (first ++ (map seat old ++ rest)) n other) (get_or (first ++ (map seat new ++ rest)) n other)) at
-          (loops_looked first rest old new one same served (place - 1) other (omega (arith, least, most, count)));
+          (loops_looked first rest rest old new one same served (place - 1) other (omega (arith, least, most, count)));
       spare = λ place other past.
           behind seat first rest new place other one (omega (arith, past, count, same))
           ∙ (ap (λ (n : ℕ). get_or rest (place - 1 - n) other) same ∙ sym (behind seat first rest old place other one (omega (arith, past, count))));
+    }
+
+-- where only loops have served, no lines were met
+pub looked_served : (names : List (List ℕ)) (loops : ℕ) (old new : List SeatState) → SeatsHaveLooked loops old new → SeatsHaveServed names loops old new
+looked_served names loops old new looked = record {
+  seats = looked.seats;
+  first = looked.first;
+  looked = looked.looked;
+  sessions = λ place other past below.
+      subst (λ (seat : SeatState). MetLines names (get_or old place other) seat) (sym (looked.spare place other past)) (unused names (get_or old place other));
+}
+
+-- where sessions were held beside loops, the loops' seats have looked, and lines were met by those behind them
+pub seats_served : {P K : Type 0} (names : List (List ℕ)) (first rest rest' : List SeatState) (old new : List (SeatedLoop P K)) (loops : ℕ) → length first ≡ 1 → length old ≡ loops
+    → length new ≡ length old → HaveServed old new → SeatsHaveMet names rest rest'
+    → SeatsHaveServed names loops (first ++ (map (λ seated. seated.seat) old ++ rest)) (first ++ (map (λ seated. seated.seat) new ++ rest'))
+seats_served {P} {K} names first rest rest' old new loops one count same served met =
+    let seat : SeatedLoop P K → SeatState = λ one. one.seat in record {
+      seats = omega (arith, long seat first rest old, long seat first rest' new, same, met.count);
+      first = λ other. get_or_append_left first (map seat new ++ rest') other 0 (omega (arith, one)) ∙ sym (get_or_append_left first (map seat old ++ rest) other 0 (omega (arith, one)));
+      looked = λ place other least most.
+          let at : 1 + (place - 1) ≡ place = omega (arith, least) in
+          subst (λ (n : ℕ). HasLooked (get_or (first ++ (map seat old ++ rest)) n other) (get_or (first ++ (map seat new ++ rest')) n other)) at
+          (loops_looked first rest rest' old new one same served (place - 1) other (omega (arith, least, most, count)));
+      sessions = λ place other past below.
+          let k : ℕ = place - 1 - loops in
+          let at : get_or (first ++ (map seat old ++ rest)) place other ≡ get_or rest k other =
+          behind seat first rest old place other one (omega (arith, past, count)) ∙ ap (λ (n : ℕ). get_or rest (place - 1 - n) other) count in
+          let at' : get_or (first ++ (map seat new ++ rest')) place other ≡ get_or rest' k other =
+          behind seat first rest' new place other one (omega (arith, past, count, same)) ∙ ap (λ (n : ℕ). get_or rest' (place - 1 - n) other) (same ∙ count) in
+          rw (at, at') (met.each k other (omega (arith, below, long seat first rest old, one, count, past)));
     }
 
 -- the server of a loop that has served
@@ -111,13 +144,6 @@ served_ours hall loops old new served ours place other below =
     each_place (λ a b. IsOf hall a → IsOf hall b) (λ seat is. is) (λ a b looked is. looked_ours hall a b is looked) loops old new served place other
     (All-get_or (IsOf hall) old place other (omega (arith, served.seats, below)) ours)
 
--- so do the loops' alone
-pub served_loops_ours : {P K : Type 0} (hall : HallState) (old new : List (SeatedLoop P K)) → length new ≡ length old → HaveServed old new
-    → All (λ seated. IsOf hall seated.seat) old → All (λ seated. IsOf hall seated.seat) new
-served_loops_ours {P} {K} hall old new same served ours place other below =
-    let within : place < length old = omega (arith, same, below) in
-    looked_ours hall _ _ (All-get_or (λ (seated : SeatedLoop P K). IsOf hall seated.seat) old place other within ours) (served place other within).looked
-
 -- the loops' seats are among the hall's
 pub loops_ours : {P K : Type 0} (hall : HallState) (first rest : List SeatState) (loops : List (SeatedLoop P K)) → length first ≡ 1
     → All (IsOf hall) (first ++ (map (λ seated. seated.seat) loops ++ rest)) → All (λ seated. IsOf hall seated.seat) loops
@@ -125,3 +151,32 @@ loops_ours {P} {K} hall first rest loops one ours place other below =
     let seat : SeatedLoop P K → SeatState = λ one. one.seat in
     subst (IsOf hall) (middle seat first rest loops place other other.seat one below)
     (All-get_or (IsOf hall) (first ++ (map seat loops ++ rest)) (1 + place) other.seat (omega (arith, long seat first rest loops, one, below)) ours)
+
+-- all seats stay the hall's beside sessions too
+ours_at : (names : List (List ℕ)) (hall : HallState) (loops : ℕ) (old new : List SeatState) → SeatsHaveServed names loops old new → (place : ℕ) (other : SeatState) → place < length old
+    → IsOf hall (get_or old place other) → IsOf hall (get_or new place other)
+ours_at names hall loops old new served zero other below was = subst (IsOf hall) (sym (served.first other)) was
+ours_at names hall loops old new served (suc place) other below was =
+    ⊎_elim
+    (λ past. met_line_ours names hall (get_or old (suc place) other) (get_or new (suc place) other) (served.sessions (suc place) other past below) was)
+    (λ most. looked_ours hall (get_or old (suc place) other) (get_or new (suc place) other) was (served.looked (suc place) other (omega arith) most))
+    (cases_lt loops (suc place))
+
+pub all_ours : (names : List (List ℕ)) (hall : HallState) (loops : ℕ) (old new : List SeatState) → SeatsHaveServed names loops old new → All (IsOf hall) old → All (IsOf hall) new
+all_ours names hall loops old new served ours place other below =
+    let within : place < length old = omega (arith, served.seats, below) in
+    ours_at names hall loops old new served place other within (All-get_or (IsOf hall) old place other within ours)
+
+-- the seats that sessions use are the hall's
+pub spare_ours : {X : Type 0} (seat : X → SeatState) (hall : HallState) (first rest : List SeatState) (loops : List X) → length first ≡ 1
+    → All (IsOf hall) (first ++ (map seat loops ++ rest)) → All (IsOf hall) rest
+spare_ours seat hall first rest loops one ours place other below =
+    subst (IsOf hall)
+    (behind seat first rest loops (1 + length loops + place) other one (omega arith) ∙ ap (λ (n : ℕ). get_or rest n other) (omega arith))
+    (All-get_or (IsOf hall) (first ++ (map seat loops ++ rest)) (1 + length loops + place) other (omega (arith, long seat first rest loops, one, below)) ours)
+
+-- a list whose slice was changed as a whole
+pub whole_again : {X : Type 0} (xs ys : List X) (len : ℕ) → length ys ≡ length xs → len ≡ length xs → take len (ys ++ drop (length ys) xs) ≡ ys
+whole_again xs ys len same is =
+    ap (λ (rest : List _). take len (ys ++ rest)) (drop_all (length ys) xs (omega (arith, same)))
+    ∙ (ap (λ (all : List _). take len all) (append-nil ys) ∙ take_all len ys (omega (arith, same, is)))

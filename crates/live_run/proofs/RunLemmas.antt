@@ -19,9 +19,9 @@ use Rattle.live_run.specs.declared.run_fault.RunFault.TheVariants as faults
 use Rattle.live_server.specs.declared.event_server.EventServer.{EventServer}
 use Rattle.live_run.specs.declared.seated_loop.SeatedLoop.{SeatedLoop}
 use Rattle.live_run.specs.declared.seating.Seating.{Seating}
-use Rattle.live_run.specs.Loops.{SeatsHaveLooked}
+use Rattle.live_run.specs.Loops.{SeatsHaveLooked, SeatsHaveServed}
 use Rattle.live_run.specs.Seating.{IsSeatingOf, seats_of}
-use Rattle.live_run.specs.Running.{HasRunLoops, IsLaterFault, NoMemory, SeatsMissing}
+use Rattle.live_run.specs.WholeRun.{HasRun, HasRunLoops, IsLaterFault, NoMemory, SeatsMissing}
 use Rattle.live_run.proofs.LoopLemmas.{made_nothing}
 
 -- how many changes a seat has made
@@ -115,6 +115,26 @@ has_run hall own loops seats after journal same looked all legal seen counted = 
   counted = length-reverse journal ∙ counted;
 }
 
+-- the same beside sessions
+pub served_by : {P K : Type 0} (names : List (List ℕ)) (servers : List EventServer) (loops : ℕ) (seats places after : List SeatState) (seating : Seating P K)
+    → loops ≡ length servers → vec_len seating.loops ≡ length seating.loops.items → places ≡ seats → IsSeatingOf servers places seating
+    → SeatsHaveServed names (vec_len seating.loops) (seats_of seating) after → SeatsHaveServed names loops seats after
+served_by {P} {K} names servers loops seats places after seating count len same are served =
+    let server : SeatedLoop P K → EventServer = λ seated. seated.server in
+    let many : vec_len seating.loops ≡ loops = len ∙ (sym (length-map seating.loops.items server) ∙ (ap length are.servers ∙ sym count)) in
+    subst (λ (some : List SeatState). SeatsHaveServed names loops some after) (are.seats ∙ same) (subst (λ (n : ℕ). SeatsHaveServed names n (seats_of seating) after) many served)
+
+pub has_run_beside : (hall own : HallState) (loops : ℕ) (seats after : List SeatState) (journal : List Entry) → own ≡ hall → SeatsHaveServed own.names loops seats after → length after ≡ own.seats
+    → IsLegal (past journal) → All (IsSeenIn (past journal)) after → length journal ≡ sum_by made after → HasRun hall loops seats (past journal)
+has_run_beside hall own loops seats after journal same served all legal seen counted = record {
+  after = after;
+  served = subst (λ (one : HallState). SeatsHaveServed one.names loops seats after) same served;
+  all = all ∙ ap (λ (one : HallState). one.seats) same;
+  legal = legal;
+  seen = seen;
+  counted = length-reverse journal ∙ counted;
+}
+
 -- it has as many entries as the seats had made before
 pub entries_are : (hall : HallState) (loops : ℕ) (seats : List SeatState) (journal : List Entry) → HasRunLoops hall loops seats (past journal) → length journal ≡ sum_by made seats
 entries_are hall loops seats journal ran = sym (length-reverse journal) ∙ (ran.counted ∙ made_nothing loops seats ran.after ran.looked)
@@ -124,7 +144,7 @@ pub no_memory_later : (found : Option RunFault) (made : SetUpState) → IfNone f
 no_memory_later None made = NoMemory
 no_memory_later (Some fault) made = tt
 
-pub missing_later : (found : Option RunFault) (made : SetUpState) (own : HallState) (loops : ℕ) (after : List SeatState) → own ≡ made.hall → SeatsHaveLooked loops made.seats after
+pub missing_later : (found : Option RunFault) (made : SetUpState) (own : HallState) (after : List SeatState) → own ≡ made.hall → length after ≡ length made.seats
     → length after ≢ own.seats → IfNone found (IsLaterFault made faults.SeatsMissing)
-missing_later None made own loops after same looked missing = SeatsMissing (λ all. missing (looked.seats ∙ (all ∙ ap (λ (one : HallState). one.seats) (sym same))))
-missing_later (Some fault) made own loops after same looked missing = tt
+missing_later None made own after same back missing = SeatsMissing (λ all. missing (back ∙ (all ∙ ap (λ (one : HallState). one.seats) (sym same))))
+missing_later (Some fault) made own after same back missing = tt

@@ -11,7 +11,7 @@ use Rattle.script.specs.Change.{line_change, line_changes}
 use Rattle.script.specs.declared.line.Line.{Line}
 use Rattle.script.specs.declared.script.Mode.{Mode}
 use Rattle.script.specs.declared.script.Mode.TheVariants.{Replay}
-use Rattle.script.specs.Lines.{first_numbers}
+use Rattle.script.specs.TextLines.{first_numbers}
 use Rattle.script.specs.Script.{ScriptParts, TakesLines, IsScript, watches_after}
 use Rattle.script.specs.Script.TakesLines.{AtEnd, AtGo, NextLine}
 use Rattle.script.proofs.ChangeLemmas.{changes_in_place}

@@ -1,4 +1,4 @@
 pub mod Loops
 pub mod RefusedLine
-pub mod Running
 pub mod Seating
+pub mod WholeRun

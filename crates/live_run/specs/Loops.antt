@@ -4,6 +4,7 @@ use Rattle.std.specs.List.{slice_index_or}
 use Rattle.hall.specs.Seats.{SeatState}
 use Rattle.crew.specs.Looking.{HasLooked}
 use Rattle.connection_table.specs.Table.{held_count}
+use Rattle.control_server.specs.Seats.{MetLines}
 use Rattle.live_server.specs.declared.event_server.EventServer.{EventServer}
 use Rattle.live_server.specs.Loop.{held_by}
 use Rattle.live_server.specs.Settled.{KeepsAccount}
@@ -37,3 +38,13 @@ pub record SeatsHaveLooked (loops : ℕ) (old new : List SeatState) : Type 0 whe
   pub looked : (place : ℕ) (other : SeatState) → 1 ≤ place → place ≤ loops
       → HasLooked (slice_index_or old place other) (slice_index_or new place other)
   pub spare : (place : ℕ) (other : SeatState) → loops < place → slice_index_or new place other ≡ slice_index_or old place other
+
+-- Loops have looked by so many seats behind the first, and by each of those behind these lines of sessions were met, one after the other,
+-- over a catalogue of these names. The first seat is as it was
+pub record SeatsHaveServed (names : List (List ℕ)) (loops : ℕ) (old new : List SeatState) : Type 0 where
+  pub seats : length new ≡ length old
+  pub first : (other : SeatState) → slice_index_or new 0 other ≡ slice_index_or old 0 other
+  pub looked : (place : ℕ) (other : SeatState) → 1 ≤ place → place ≤ loops
+      → HasLooked (slice_index_or old place other) (slice_index_or new place other)
+  pub sessions : (place : ℕ) (other : SeatState) → loops < place → place < length old
+      → MetLines names (slice_index_or old place other) (slice_index_or new place other)

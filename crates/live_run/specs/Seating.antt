@@ -1,13 +1,12 @@
 -- Loops on their seats, with the seats beside theirs.
-use Rattle.std.specs.Prelude.{◌≡◌, ◌+◌, ◌≤◌, List, [], ◌++◌, length, map, vec_len, vec_capacity}
-use Rattle.std.specs.Vec.Iter.{into_iter_items, into_iter_len}
+use Rattle.std.specs.Prelude.{◌≡◌, ◌+◌, ◌≤◌, List, [], ◌∷◌, ◌++◌, length, map, vec_len, vec_capacity}
 use Rattle.hall.specs.Seats.{SeatState}
 use Rattle.live_server.specs.declared.event_server.EventServer.{EventServer}
 use Rattle.live_run.specs.declared.seating.Seating.{Seating}
 
 -- all seats: the first, the loops', and those that are spare
 abbrev pub seats_of : {P K : Type 0} → Seating P K → List SeatState
-seats_of seating = seating.back.seats.items ++ (map (λ seated. seated.seat) seating.loops.items ++ into_iter_items seating.spare)
+seats_of seating = seating.back.seats.items ++ (map (λ seated. seated.seat) seating.loops.items ++ seating.spare.items)
 
 -- the loops' servers
 abbrev pub servers_of : {P K : Type 0} → Seating P K → List EventServer
@@ -16,7 +15,7 @@ servers_of seating = map (λ seated. seated.server) seating.loops.items
 -- the first seat waits for the others, and there is room for all seats and loops to come back
 pub record HasRoom {P K : Type 0} (seating : Seating P K) : Type 0 where
   pub first : length seating.back.seats.items ≡ 1
-  pub seats : vec_len seating.back.seats + (vec_len seating.loops + into_iter_len seating.spare) ≤ vec_capacity seating.back.seats
+  pub seats : vec_len seating.back.seats + (vec_len seating.loops + vec_len seating.spare) ≤ vec_capacity seating.back.seats
   pub no_servers : seating.back.servers.items ≡ []
   pub servers : vec_len seating.loops ≤ vec_capacity seating.back.servers
 

@@ -1,20 +1,61 @@
 //! A server that runs until it is told to end: event loops, each with a seat of a hall that a script has set up.
+//!
+//! # A caller
+//!
+//! ```rust
+//! #![tactic(auto)]
+//!
+//! ghost use Rattle.std.specs.Prelude.{◌≡◌, IfOk, length};
+//! ghost use Rattle.std.specs.List.{sum_by};
+//! ghost use Rattle.hall.specs.Seats.{own_calls};
+//! ghost use Rattle.probe_core.specs.Made.{MakesAsked};
+//!
+//! use desk_core::Keep;
+//! use live_run::{Ran, RunFault, run_live};
+//! use live_server::{EventServer, News};
+//! use probe_core::{Probe, Rule};
+//! use server::SetUpHall;
+//! use std::alloc::{AllocError, Global};
+//! use std::sync::Wait;
+//! use std::thread::Threads;
+//! use std::time::Clock;
+//!
+//! /// Serves by loops alone, with no place for sessions. So the journal has the changes of the setup and no others.
+//! pub fn run_loops<R, P: Probe + Send, K: Keep + Send, F>(
+//!     rt: &R,
+//!     alloc: Global,
+//!     made: SetUpHall<P, K>,
+//!     servers: Vec<EventServer>,
+//!     make: &F,
+//!     news: &News,
+//! ) -> Result<Ran<P, K>, RunFault>
+//! where
+//!     R: Wait + Threads + Clock + Sync,
+//!     F: Fn(Rule) -> Result<P, AllocError> + Sync,
+//!     requires callable { F.IsAlwaysCallable make.now }
+//!     requires asked { MakesAsked P.rule P.memory (F.post make.now) }
+//!     ensures entries { IfOk result (λ ran. length ran.desk.journal ≡ sum_by (λ seat. length (own_calls seat)) made.seats) }
+//! {
+//!     run_live(rt, alloc, made, servers, None, make, news)
+//! }
+//! ```
 #![tactic(auto)]
 
+mod beside;
 mod laws;
 mod ran;
 mod refused_line;
 mod run_fault;
-mod running;
 mod seated_loop;
 mod seating;
+mod whole_run;
 
 pub use laws::results_in_place;
 pub use ran::Ran;
 pub use refused_line::{RefusedLine, first_refused};
 pub use run_fault::RunFault;
-pub use running::run_live;
 pub use seated_loop::{SeatedLoop, serve_loops};
+pub use whole_run::run_live;
 
 #[cfg(test)]
 mod tests;

@@ -1,3 +1,4 @@
+use control_server::ControlServer;
 use desk_core::{Desk, Keep, KeepAll, board_entries};
 use live_server::EventServer;
 use probe_core::Probe;
@@ -7,6 +8,8 @@ use probe_core::Probe;
 pub struct Ran<P: Probe, K: Keep = KeepAll> {
     /// The loops, which tell how many calls they have served.
     pub servers: Vec<EventServer>,
+    /// The loop over sessions, if there was one. The file of its socket still stands.
+    pub sessions: Option<ControlServer>,
     /// The registry that the hall had.
     pub desk: Desk<P, K>,
 }

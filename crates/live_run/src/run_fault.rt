@@ -15,7 +15,7 @@ pub enum RunFault {
 
 impl RunFault {
     ghost use Rattle.std.specs.Prelude.{◌≡◌, ◌<◌, IfNone};
-    ghost use Rattle.live_run.specs.Running.{run_fault};
+    ghost use Rattle.live_run.specs.WholeRun.{run_fault};
 
     /// Why so many loops can't have seats of their own behind the first; none where they can.
     pub(crate) fn of(loops: usize, seats: usize) -> Option<RunFault>

@@ -3,30 +3,32 @@ ghost use Rattle.std.specs.List.{All};
 ghost use Rattle.hall.specs.Seats.{IsOf};
 ghost use Rattle.live_run.specs.Loops.{HaveServed};
 
+use crate::beside::serve_beside;
 use crate::seated_loop::{SeatedLoop, serve_loops};
+use control_server::ControlServer;
 use desk_core::Keep;
 use hall::{Hall, Seat};
 use live_server::{EventServer, News};
-use probe_core::Probe;
+use probe_core::{Probe, Rule};
 use std::alloc::{AllocError, Global};
 use std::sync::Wait;
 use std::thread::Threads;
 use std::time::Clock;
-use std::vec::IntoIter;
 
 /// Loops on their seats, and the seats beside theirs, with room for all seats and loops to come back.
 #[derive(Drop)]
 pub(crate) struct Seating<P: Probe, K: Keep> {
     pub(crate) loops: Vec<SeatedLoop<P, K>>,
-    pub(crate) spare: IntoIter<Seat<P, K>>,
+    pub(crate) spare: Vec<Seat<P, K>>,
     pub(crate) back: Back<P, K>,
 }
 
-/// What comes back of loops: their servers, and all seats. While they serve, it holds the first seat alone.
+/// What comes back of loops: their servers, all seats, and the sessions if there were any. While they serve, it holds the first seat alone.
 #[derive(Drop)]
 pub(crate) struct Back<P: Probe, K: Keep> {
     pub(crate) servers: Vec<EventServer>,
     pub(crate) seats: Vec<Seat<P, K>>,
+    pub(crate) sessions: Option<ControlServer>,
 }
 
 impl<P: Probe, K: Keep> Seating<P, K> {
@@ -46,12 +48,17 @@ impl<P: Probe, K: Keep> Seating<P, K> {
         let mut back = Back {
             servers: Vec::with_capacity(alloc, servers.len())?,
             seats: Vec::with_capacity(alloc, seats.len())?,
+            sessions: None,
         };
-        let mut spare = seats.into_iter();
-        back.seats.push(spare.next().unwrap()).unwrap();
+        let mut spare = Vec::with_capacity(alloc, seats.len())?;
+        let mut rest = seats.into_iter();
+        back.seats.push(rest.next().unwrap()).unwrap();
         for server in servers {
-            let seat = spare.next().unwrap();
+            let seat = rest.next().unwrap();
             loops.push(SeatedLoop { server, seat }).unwrap();
+        }
+        for seat in rest {
+            spare.push(seat).unwrap();
         }
         Ok(Seating { loops, spare, back })
     }
@@ -66,6 +73,7 @@ impl<P: Probe, K: Keep> Seating<P, K> {
         let Back {
             mut servers,
             mut seats,
+            sessions,
         } = back;
         for SeatedLoop { server, seat } in loops {
             servers.push(server).unwrap();
@@ -74,19 +82,50 @@ impl<P: Probe, K: Keep> Seating<P, K> {
         for seat in spare {
             seats.push(seat).unwrap();
         }
-        Back { servers, seats }
+        Back {
+            servers,
+            seats,
+            sessions,
+        }
     }
 }
 
 impl<P: Probe + Send, K: Keep + Send> Seating<P, K> {
-    ghost use Rattle.std.specs.Prelude.{◌≡◌, vec_len};
+    ghost use Rattle.std.specs.Prelude.{◌≡◌, vec_len, IsNone};
     ghost use Rattle.std.specs.List.{All};
     ghost use Rattle.hall.specs.Seats.{IsOf};
-    ghost use Rattle.live_run.specs.Loops.{HaveServedAll, SeatsHaveLooked};
+    ghost use Rattle.probe_core.specs.Made.{MakesAsked};
+    ghost use Rattle.live_run.specs.Loops.{HaveServedAll, SeatsHaveLooked, SeatsHaveServed};
     ghost use Rattle.live_run.specs.Seating.{HasRoom, seats_of, servers_of};
 
-    /// Lets the loops serve until all is to end, and gives everything back.
-    pub(crate) fn serve<R: Wait + Threads + Clock + Sync>(
+    /// Lets the loops serve until all is to end, beside sessions where there is a place for them, and gives everything back.
+    pub(crate) fn serve<R, F>(
+        self,
+        rt: &R,
+        hall: &Hall<P, K>,
+        control: Option<ControlServer>,
+        make: &F,
+        news: &News,
+    ) -> Back<P, K>
+    where
+        R: Wait + Threads + Clock + Sync,
+        F: Fn(Rule) -> Result<P, AllocError> + Sync,
+        requires ours { All (IsOf hall.now) (seats_of self) }
+        requires room { HasRoom self }
+        requires callable { F.IsAlwaysCallable make.now }
+        requires asked { MakesAsked P.rule P.memory (F.post make.now) }
+        ensures served { SeatsHaveServed hall.now.names (vec_len self.loops) (seats_of self) result.seats.items }
+        ensures looked { IsNone control → SeatsHaveLooked (vec_len self.loops) (seats_of self) result.seats.items }
+        ensures servers { HaveServedAll (servers_of self) result.servers.items }
+        ensures ours { All (IsOf hall.now) result.seats.items }
+    {
+        match control {
+            None => self.serve_alone(rt, hall, news),
+            Some(control) => self.serve_controlled(rt, hall, control, make, news),
+        }
+    }
+
+    fn serve_alone<R: Wait + Threads + Clock + Sync>(
         self,
         rt: &R,
         hall: &Hall<P, K>,
@@ -105,10 +144,43 @@ impl<P: Probe + Send, K: Keep + Send> Seating<P, K> {
         };
         seating.give_back()
     }
+
+    fn serve_controlled<R, F>(
+        self,
+        rt: &R,
+        hall: &Hall<P, K>,
+        control: ControlServer,
+        make: &F,
+        news: &News,
+    ) -> Back<P, K>
+    where
+        R: Wait + Threads + Clock + Sync,
+        F: Fn(Rule) -> Result<P, AllocError> + Sync,
+        requires ours { All (IsOf hall.now) (seats_of self) }
+        requires room { HasRoom self }
+        requires callable { F.IsAlwaysCallable make.now }
+        requires asked { MakesAsked P.rule P.memory (F.post make.now) }
+        ensures served { SeatsHaveServed hall.now.names (vec_len self.loops) (seats_of self) result.seats.items }
+        ensures servers { HaveServedAll (servers_of self) result.servers.items }
+        ensures ours { All (IsOf hall.now) result.seats.items }
+    {
+        let (held, loops) = serve_beside(rt, hall, make, news, control, self.spare, self.loops);
+        let Back { servers, seats, .. } = self.back;
+        let seating = Seating {
+            loops,
+            spare: held.seats,
+            back: Back {
+                servers,
+                seats,
+                sessions: Some(held.control),
+            },
+        };
+        seating.give_back()
+    }
 }
 
 /// The loops when they have served.
-fn after_serving<R: Wait + Threads + Clock + Sync, P: Probe + Send, K: Keep + Send>(
+pub(crate) fn after_serving<R: Wait + Threads + Clock + Sync, P: Probe + Send, K: Keep + Send>(
     rt: &R,
     hall: &Hall<P, K>,
     mut loops: Vec<SeatedLoop<P, K>>,

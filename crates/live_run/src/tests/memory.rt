@@ -1,4 +1,4 @@
-use crate::tests::runs::{SCRIPT, set_up};
+use crate::tests::runs::{SCRIPT, manual, set_up};
 use crate::tests::scenes::Place;
 use crate::{RunFault, run_live};
 use std::alloc::Global;
@@ -25,7 +25,7 @@ where
     news.end();
     let scarcity = Scarcity::new(alloc, ROOM)?;
     let filler = scarcity.leave(left)?;
-    let ran = run_live(rt, alloc, made, servers, &news);
+    let ran = run_live(rt, alloc, made, servers, None, &|rule| manual(rule), &news);
     drop(filler);
     drop(scarcity);
     match ran {

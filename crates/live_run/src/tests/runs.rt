@@ -1,10 +1,11 @@
 ghost use Rattle.std.specs.Prelude.{◌≤◌, IfOk};
 ghost use Rattle.probe_core.specs.Made.{IsAsked};
 
+use crate::tests::ready::Ready;
 use crate::tests::scenes::{Counts, Place, Watcher, expect_checked};
-use crate::{Ran, RefusedLine, RunFault, first_refused, run_live};
+use crate::{Ran, RefusedLine, RunFault, first_refused};
 use desk_core::{KeepMany, Reply};
-use live_server::{EventServer, News};
+use live_server::News;
 use probe_core::{Manual, Probe, Rule};
 use script::{Mode, read_script};
 use server::{SetUpHall, hall_of};
@@ -37,7 +38,7 @@ up -
 ";
 
 /// Makes probes that are set by hand, and no others.
-fn manual(rule: Rule) -> Result<Manual, AllocError>
+pub(super) fn manual(rule: Rule) -> Result<Manual, AllocError>
     ensures { IsAsked ⟦<Manual as Probe>⟧.rule ⟦<Manual as Probe>⟧.memory rule result }
 {
     match rule {
@@ -77,25 +78,39 @@ fn ask<R: Net<Stream = TcpStream>>(
     watcher.expect_ended(alloc)
 }
 
+/// A client that asks a Check and a Watch, and ends all.
+#[derive(Drop)]
+struct Client<'a, R> {
+    rt: &'a R,
+    alloc: Global,
+    addr: SocketAddr,
+    news: &'a News,
+}
+
+impl<R: Net<Stream = TcpStream>> Client<'_, R> {
+    fn ask(self) -> Result<(), Fail> {
+        let found = ask(self.rt, self.alloc, self.addr, self.news);
+        self.news.end();
+        found
+    }
+}
+
 /// Runs the hall by the loops, and asks.
 fn run_and_ask<R: Wait + Threads + Clock + Sync + Net<Stream = TcpStream>>(
-    rt: &R,
-    alloc: Global,
-    made: SetUpHall<Manual, KeepMany>,
-    servers: Vec<EventServer>,
-    news: &News,
+    ready: Ready<'_, R>,
     addr: SocketAddr,
 ) -> (Result<Ran<Manual, KeepMany>, RunFault>, Result<(), Fail>) {
+    let rt = ready.rt;
+    let client = Client {
+        rt,
+        alloc: ready.alloc,
+        addr,
+        news: ready.news,
+    };
     thread::join(
         rt,
-        move || -> Result<Ran<Manual, KeepMany>, RunFault> {
-            run_live(rt, alloc, made, servers, news)
-        },
-        move || {
-            let found = ask(rt, alloc, addr, news);
-            news.end();
-            found
-        },
+        move || -> Result<Ran<Manual, KeepMany>, RunFault> { ready.run() },
+        move || client.ask(),
     )
 }
 
@@ -109,7 +124,15 @@ fn runs_what_a_script_has_set_up(rt: HostRuntime) -> Result<(), Fail> {
         news,
         addr,
     } = Place::new(&rt, alloc, 3)?;
-    let (ran, found) = run_and_ask(&rt, alloc, made, servers, &news, addr);
+    let ready = Ready {
+        rt: &rt,
+        alloc,
+        made,
+        servers,
+        control: None,
+        news: &news,
+    };
+    let (ran, found) = run_and_ask(ready, addr);
     found?;
     let ran = ran?;
     same(&ran.entries(), &4, &"entries")?;

@@ -148,6 +148,27 @@ impl Watcher {
         Ok(())
     }
 
+    /// The numbers of the statuses that it is told before the server ends it.
+    pub(super) fn statuses_to_end(&mut self, alloc: Global) -> Result<Vec<u8>, Fail> {
+        let mut bytes = Vec::new(alloc);
+        self.stream.read_to_end(&mut bytes)?;
+        let mut statuses = Vec::new(alloc);
+        for message in bytes.chunks(12) {
+            match message {
+                [b'7', b'\r', b'\n', 0, 0, 0, 0, 2, 8, status, b'\r', b'\n'] => {
+                    statuses.push(*status)?;
+                }
+                _ => break,
+            }
+        }
+        same(
+            &bytes.as_slice().ends_with(WATCH_ENDED),
+            &true,
+            &"the end of a Watch",
+        )?;
+        Ok(statuses)
+    }
+
     /// It is told nothing more before the server ends it.
     pub(super) fn expect_ended(&mut self, alloc: Global) -> Result<(), Fail> {
         let mut bytes = Vec::new(alloc);

@@ -7,7 +7,7 @@ use Rattle.hall.specs.Seats.{HallState, SeatState, IsSeenIn, own_calls}
 use Rattle.server.specs.Setup.{SetUpState}
 use Rattle.live_run.specs.declared.run_fault.RunFault.{RunFault}
 use Rattle.live_run.specs.declared.run_fault.RunFault.TheVariants as faults
-use Rattle.live_run.specs.Loops.{SeatsHaveLooked}
+use Rattle.live_run.specs.Loops.{SeatsHaveLooked, SeatsHaveServed}
 
 -- why so many loops can't have seats of their own behind the first; none where they can
 abbrev pub run_fault : ℕ → ℕ → Option RunFault
@@ -24,6 +24,16 @@ pub data IsLaterFault (made : SetUpState) : RunFault → Type 0 where
 pub record HasRunLoops (hall : HallState) (loops : ℕ) (seats : List SeatState) (history : List Entry) : Type 0 where
   pub after : List SeatState
   pub looked : SeatsHaveLooked loops seats after
+  pub all : length after ≡ hall.seats
+  pub legal : IsLegal history
+  pub seen : All (IsSeenIn history) after
+  pub counted : length history ≡ sum_by (λ seat. length (own_calls seat)) after
+
+-- The same where lines of sessions were met by the seats behind the loops': the history has what the setup made, and the changes that
+-- lines asked for, and no others
+pub record HasRun (hall : HallState) (loops : ℕ) (seats : List SeatState) (history : List Entry) : Type 0 where
+  pub after : List SeatState
+  pub served : SeatsHaveServed hall.names loops seats after
   pub all : length after ≡ hall.seats
   pub legal : IsLegal history
   pub seen : All (IsSeenIn history) after

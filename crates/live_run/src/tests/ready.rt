@@ -1,0 +1,46 @@
+//! What the tests of a run send to threads.
+
+use crate::tests::runs::manual;
+use crate::{Ran, RunFault, run_live};
+use control_server::ControlServer;
+use desk_core::KeepMany;
+use live_server::{EventServer, News};
+use probe_core::Manual;
+use server::SetUpHall;
+use std::alloc::Global;
+use std::sync::Wait;
+use std::thread::Threads;
+use std::time::Clock;
+
+/// A run that is set up.
+#[derive(Drop)]
+pub(super) struct Ready<'a, R> {
+    pub(super) rt: &'a R,
+    pub(super) alloc: Global,
+    pub(super) made: SetUpHall<Manual, KeepMany>,
+    pub(super) servers: Vec<EventServer>,
+    pub(super) control: Option<ControlServer>,
+    pub(super) news: &'a News,
+}
+
+impl<R: Wait + Threads + Clock + Sync> Ready<'_, R> {
+    pub(super) fn run(self) -> Result<Ran<Manual, KeepMany>, RunFault> {
+        let Ready {
+            rt,
+            alloc,
+            made,
+            servers,
+            control,
+            news,
+        } = self;
+        run_live(
+            rt,
+            alloc,
+            made,
+            servers,
+            control,
+            &|rule| manual(rule),
+            news,
+        )
+    }
+}

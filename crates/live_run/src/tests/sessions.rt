@@ -1,0 +1,131 @@
+//! A run with a place for sessions, and clients of both.
+
+ghost use Rattle.std.specs.Prelude.{◌≤◌};
+
+use crate::tests::ready::Ready;
+use crate::tests::runs::set_up;
+use crate::tests::scenes::Place;
+use crate::tests::talks::Talk;
+use crate::{Ran, RunFault};
+use control_place::ControlListener;
+use control_server::{ControlServer, MAX_SESSIONS};
+use desk_core::KeepMany;
+use live_server::{EventServer, News};
+use probe_core::Manual;
+use std::alloc::Global;
+use std::net::{IpAddr, Ipv4Addr, Net, SocketAddr, TcpListener, TcpStream};
+use std::rt::Files;
+use std::sync::Wait;
+use std::test::Fail;
+use std::thread;
+use std::thread::Threads;
+use std::time::Clock;
+
+const SCRIPT: &[u8] = b"catalogue a b -
+max 10000
+register a manual
+register - manual
+";
+
+/// How many loops serve.
+const LOOPS: u8 = 2;
+
+/// Where clients of both kinds connect to.
+#[derive(Clone, Copy)]
+pub(super) struct Addresses {
+    /// Where calls are answered.
+    pub(super) calls: SocketAddr,
+    /// Where sessions are held.
+    pub(super) sessions: SocketAddr,
+}
+
+/// A loop over sessions at a port that the system picks, and where that is.
+fn control_of<R: Net + Files + Clock>(
+    rt: &R,
+    alloc: Global,
+    servers: &[EventServer],
+) -> Result<(ControlServer, SocketAddr), Fail> {
+    let any = SocketAddr::new(IpAddr::V4(Ipv4Addr::LOCALHOST), 0);
+    let listener = ControlListener::bind(rt, alloc, control_place::Place::Address(any))?;
+    let control_place::Place::Address(addr) = listener.place()? else {
+        return Err(Fail::new("no address"));
+    };
+    let mut tallies = Vec::new(alloc);
+    for server in servers {
+        tallies.push(server.tally()?)?;
+    }
+    let control = ControlServer::new(rt, alloc, listener, tallies)?;
+    Ok((control, addr))
+}
+
+/// Clients that wait to talk, and end all behind that.
+#[derive(Drop)]
+struct Clients<'a, R> {
+    rt: &'a R,
+    alloc: Global,
+    talk: Talk,
+    addresses: Addresses,
+    news: &'a News,
+}
+
+impl<R: Wait + Clock + Net<Stream = TcpStream>> Clients<'_, R> {
+    fn talk(self) -> Result<(), Fail> {
+        let found = self.talk.play(self.rt, self.alloc, self.addresses);
+        self.news.end();
+        found
+    }
+}
+
+/// Runs the hall by the loops and the sessions, and lets clients talk beside them.
+fn run_and_talk<R: Wait + Threads + Clock + Sync + Net<Stream = TcpStream>>(
+    ready: Ready<'_, R>,
+    talk: Talk,
+    addresses: Addresses,
+) -> (Result<Ran<Manual, KeepMany>, RunFault>, Result<(), Fail>) {
+    let rt = ready.rt;
+    let clients = Clients {
+        rt,
+        alloc: ready.alloc,
+        talk,
+        addresses,
+        news: ready.news,
+    };
+    thread::join(
+        rt,
+        move || -> Result<Ran<Manual, KeepMany>, RunFault> { ready.run() },
+        move || clients.talk(),
+    )
+}
+
+/// What is left of a run beside which the clients talked.
+pub(super) fn run_beside<R>(
+    rt: &R,
+    alloc: Global,
+    talk: Talk,
+) -> Result<Ran<Manual, KeepMany>, Fail>
+where
+    R: Wait + Threads + Clock + Files + Sync + Net<Listener = TcpListener, Stream = TcpStream>,
+{
+    let (made, _) = set_up(rt, alloc, SCRIPT, u16::from(LOOPS) + 1 + MAX_SESSIONS)?;
+    let Place {
+        servers,
+        news,
+        addr,
+    } = Place::new(rt, alloc, LOOPS)?;
+    let (control, sessions) = control_of(rt, alloc, &servers)?;
+    let addresses = Addresses {
+        calls: addr,
+        sessions,
+    };
+    let ready = Ready {
+        rt,
+        alloc,
+        made,
+        servers,
+        control: Some(control),
+        news: &news,
+    };
+    let (ran, found) = run_and_talk(ready, talk, addresses);
+    found?;
+    Ok(ran?)
+}
