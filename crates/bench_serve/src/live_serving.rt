@@ -17,7 +17,7 @@ use std::thread::Threads;
 use std::time::Clock;
 
 /// Serves the clients beside them by event loops, which end when the clients have. None if a connection was not answered.
-pub fn serve_live_clients<R, P: Probe + Send, F: Fn(Rule) -> Result<P, AllocError>>(
+pub fn serve_live_clients<R, P: Probe + Send, F: Fn(Rule) -> Result<P, AllocError> + Sync>(
     rt: &R,
     alloc: Global,
     make: &F,
@@ -37,7 +37,9 @@ where
     let made = script_hall(rt, alloc, make, LOOPS + 1)?;
     let (ended, asked) = thread::join(
         rt,
-        move || -> Option<u64> { run_loops(rt, alloc, made, servers, news) },
+        move || -> Option<u64>
+            requires { F.IsAlwaysCallable make.now × MakesAsked P.rule P.memory (F.post make.now) }
+        { run_loops(rt, alloc, made, servers, make, news) },
         move || {
             let asked = ask_side_by_side(rt, alloc, port, load);
             news.end();
@@ -52,17 +54,20 @@ where
 }
 
 /// How many calls have ended when all has.
-fn run_loops<R, P: Probe + Send>(
+fn run_loops<R, P: Probe + Send, F: Fn(Rule) -> Result<P, AllocError> + Sync>(
     rt: &R,
     alloc: Global,
     made: SetUpHall<P, KeepMany>,
     servers: Vec<EventServer>,
+    make: &F,
     news: &News,
 ) -> Option<u64>
 where
     R: Clock + Wait + Threads + Sync,
+    requires callable { F.IsAlwaysCallable make.now }
+    requires asked { MakesAsked P.rule P.memory (F.post make.now) }
 {
-    let ran = run_live(rt, alloc, made, servers, news).ok()?;
+    let ran = run_live(rt, alloc, made, servers, None, make, news).ok()?;
     let mut ended = 0u64;
     for server in &ran.servers {
         ended = ended.saturating_add(server.ended());

@@ -14,6 +14,7 @@ ghost use Rattle.probe_core.specs.Made.{IsAsked};
 mod audience;
 mod beside_loops;
 mod clients;
+mod crew_serving;
 mod figures;
 mod growth;
 mod live_loops;
@@ -26,9 +27,8 @@ mod request;
 mod scene;
 mod script_hall;
 mod seating;
-mod serving;
+mod watch_timing;
 mod watcher;
-mod watches;
 
 use beside_loops::play_beside_loops;
 use probe_core::{Depends, Manual, Probe, Rule, Threshold};

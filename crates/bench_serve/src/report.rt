@@ -1,9 +1,9 @@
 ghost use Rattle.probe_core.specs.Made.{MakesAsked};
 
+use crate::crew_serving::serve_clients;
 use crate::figures::Figures;
 use crate::live_serving::serve_live_clients;
 use crate::load::Load;
-use crate::serving::serve_clients;
 use probe_core::{Probe, Rule};
 use std::alloc::AllocError;
 use std::net::{Net, TcpListener, TcpStream};
@@ -12,7 +12,7 @@ use std::thread::Threads;
 use std::time::Clock;
 
 /// Times Checks by each number of clients, and prints what they come to.
-pub fn report_checks<R, P: Probe + Send, F: Fn(Rule) -> Result<P, AllocError>>(
+pub fn report_checks<R, P: Probe + Send, F: Fn(Rule) -> Result<P, AllocError> + Sync>(
     rt: &R,
     make: &F,
     connections: u16,

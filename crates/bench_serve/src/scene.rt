@@ -1,6 +1,6 @@
 use crate::growth::watch_memory;
 use crate::maker::Maker;
-use crate::watches::time_watches;
+use crate::watch_timing::time_watches;
 use probe_core::Probe;
 use std::net::{Net, TcpListener, TcpStream};
 use std::rt::Files;
