@@ -16,7 +16,7 @@ use Rattle.desk_core.specs.Watch.{IsOlder}
 use Rattle.hall.specs.Seats.{SeatState, IsCarriedOut, IsSeenIn, own_calls, new_seats}
 use Rattle.crew.specs.CarriedOut.{HasCarriedOut, replied}
 use Rattle.server.specs.Setup.{AreSetUp, SetUpState}
-use Rattle.live_run.specs.Running.{HasRunLoops}
+use Rattle.live_run.specs.WholeRun.{HasRunLoops}
 use Rattle.live_run.proofs.RunLemmas.{journal_set}
 use Rattle.healthd.specs.Run.{AreMadeAlone}
 

@@ -4,7 +4,7 @@ use Rattle.std.specs.List.{All, sum_by}
 use Rattle.std.proofs.lemmas.Bool.Decides.{nat_tests}
 use Rattle.std.proofs.lemmas.List.Sums.{sum_by-append}
 use Rattle.std.proofs.lemmas.List.Elements.{All-push}
-use Rattle.std.proofs.Math.Nat.{div-add-mod, mod-lt, eq-or-lt_of_le, le-div_iff_mul-le, div-mul-le_self}
+use Rattle.std.proofs.Math.Nat.{div-add-mod, eq-or-lt_of_le, le-div_iff_mul-le, div-mul-le_self}
 use Rattle.live_server.specs.declared.calls.Limits.{Limits}
 use Rattle.healthd.specs.Bounds.{IsFairPart, IsFairShare, share_of}
 
@@ -19,10 +19,6 @@ more_is number rest = grind (arith, nat_tests)
 -- one loop more
 pub next_parts : (whole loops number : ℕ) → parts_of whole loops number + share_of whole loops number ≡ parts_of whole loops (suc number)
 next_parts whole loops number = grind (arith, more_is number (whole % loops))
-
--- all loops
-pub all_parts : (whole loops : ℕ) → 1 ≤ loops → parts_of whole loops loops ≡ whole
-all_parts whole loops some = grind (arith, div-add-mod whole loops, mod-lt whole some)
 
 -- a share differs from the others by one at most
 pub fair_part : (whole loops number : ℕ) → IsFairPart whole loops (share_of whole loops number)

@@ -20,8 +20,8 @@ use Rattle.live_run.specs.RefusedLine.{IsFirstRefused, IsMade}
 use Rattle.script.specs.Change.{line_changes}
 use Rattle.script.specs.declared.script.Mode.TheVariants.{Run}
 use Rattle.script.specs.Script.{ScriptParts, IsScript}
-use Rattle.live_run.specs.Running.{IsLaterFault, run_fault}
-use Rattle.live_run.specs.Running.IsLaterFault.{NoMemory as NoMemoryLater, SeatsMissing as SeatsMissingLater}
+use Rattle.live_run.specs.WholeRun.{IsLaterFault, run_fault}
+use Rattle.live_run.specs.WholeRun.IsLaterFault.{NoMemory as NoMemoryLater, SeatsMissing as SeatsMissingLater}
 use Rattle.healthd.specs.declared.run_failure.RunFailure.{RunFailure}
 use Rattle.healthd.specs.declared.run_failure.RunFailure.TheVariants.{Refused}
 use Rattle.healthd.specs.Run.{AreMadeAlone, EndsSetUp, IsWhollySetUp}

@@ -22,13 +22,16 @@ no_ending word not_serving not_not_serving not_unknown name NotServing is =
 no_ending word not_serving not_not_serving not_unknown name ServiceUnknown is = let none : None ≡ Some is.end = is.end_is in cc
 
 -- one more word, and the pair that it gives
-words_push : (words : List (Bor (List ℕ))) (pairs : List (String Global × Serving)) (word : Bor (List ℕ)) (pair : String Global × Serving) → AreServiceWords words pairs → IsServiceWord word.now (string_bytes pair.0) pair.1 → AreServiceWords (words ++ word ∷ []) (pairs ++ pair ∷ [])
+words_push : (words : List (Bor (List ℕ))) (pairs : List (String Global × Serving)) (word : Bor (List ℕ)) (pair : String Global × Serving)
+    → AreServiceWords words pairs → IsServiceWord word.now (string_bytes pair.0) pair.1 → AreServiceWords (words ++ word ∷ []) (pairs ++ pair ∷ [])
 words_push [] [] word pair are is = (is, tt)
 words_push [] (p ∷ pairs) word pair are is = absurd are
 words_push (w ∷ words) [] word pair are is = absurd are
 words_push (w ∷ words) (p ∷ pairs) word pair are is = (are.0, words_push words pairs word pair are.1 is)
 
-pub words_more : (words : List (Bor (List ℕ))) (i : ℕ) (default : Bor (List ℕ)) (pairs new : List (String Global × Serving)) (pair : String Global × Serving) → i < length words → AreServiceWords (take i words) pairs → IsServiceWord (get_or words i default).now (string_bytes pair.0) pair.1 → new ≡ pairs ++ pair ∷ [] → AreServiceWords (take (i + 1) words) new
+pub words_more : (words : List (Bor (List ℕ))) (i : ℕ) (default : Bor (List ℕ)) (pairs new : List (String Global × Serving))
+    (pair : String Global × Serving) → i < length words → AreServiceWords (take i words) pairs
+    → IsServiceWord (get_or words i default).now (string_bytes pair.0) pair.1 → new ≡ pairs ++ pair ∷ [] → AreServiceWords (take (i + 1) words) new
 words_more words i default pairs new pair below are is pushed =
     rw (take_more words i default below, pushed) (words_push (take i words) pairs (get_or words i default) pair are is)
 

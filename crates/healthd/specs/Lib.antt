@@ -1,5 +1,6 @@
 pub mod Answer
 pub mod Bounds
+pub mod Expect
 pub mod Fault
 pub mod Replay
 pub mod Run

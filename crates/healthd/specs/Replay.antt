@@ -1,7 +1,7 @@
 -- The command `replay`.
 use Rattle.std.specs.Prelude.{ℕ, ◌≢◌, List}
 use Rattle.healthd.specs.declared.fault.Fault.{Fault}
-use Rattle.healthd.specs.declared.fault.Fault.TheVariants.{BadHex, BadService, Script, Read, Write, Bind, Crew, SeatsMissing, NameTooLong, Connect, Ask, OutOfMemory}
+use Rattle.healthd.specs.declared.fault.Fault.TheVariants.{BadHex, BadService, Script, Read, Write, Bind, Crew, SeatsMissing, NameTooLong, Connect, TimedOut, Ask, OutOfMemory}
 use Rattle.script.specs.declared.script.Mode.TheVariants.{Replay}
 use Rattle.script.specs.declared.script_fault.ScriptFault.TheVariants.{NoMemory}
 use Rattle.script.specs.Script.{ScriptParts, IsScript, IsScriptFault}
@@ -25,5 +25,6 @@ EndsReplay bytes (Crew why) = ⊥
 EndsReplay bytes SeatsMissing = ⊥
 EndsReplay bytes NameTooLong = ⊥
 EndsReplay bytes Connect = ⊥
+EndsReplay bytes TimedOut = ⊥
 EndsReplay bytes (Ask fault) = ⊥
 EndsReplay bytes OutOfMemory = Unit {0}

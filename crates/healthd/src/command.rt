@@ -1,10 +1,11 @@
 use crate::bounds::MAX_LOOPS;
+use crate::expect::STATUS_NAMES;
 use crate::run_options::BadOption;
 use clap::error::ErrorKind;
 use clap::{Arg, ArgAction, ArgMatches, Command, value_parser};
 use std::alloc::{AllocError, Global};
 
-/// Where servers listen and clients ask.
+/// Where servers listen, and clients ask where they are told no other host.
 pub(crate) const HOST: &str = "127.0.0.1";
 
 /// The most workers of a server.
@@ -46,8 +47,27 @@ Behind max there may be these lines, in any order:
 
 A change that is not answered done or replaced ends the run before anything listens.";
 
+const TELL_HELP: &str = "\
+Each line has one answer, which is printed before the next line is sent; a line without a byte has none. \
+The exit status is 3 where an answer is one of
+
+  refused .., missing, wrong kind
+      no service was changed
+  bad line, line too long
+      the line is none
+
+and 0 where there is no such answer.";
+
 /// The command line. A command that is not listed here is refused with clap's text.
 pub fn command<'a>(alloc: Global) -> Result<Command<'a>, AllocError> {
+    with_scripts(alloc)?
+        .subcommand(run(alloc)?)?
+        .subcommand(ask(alloc)?)?
+        .subcommand(tell(alloc)?)
+}
+
+/// The program, with the commands that read all that they are told from their words and from standard input.
+fn with_scripts<'a>(alloc: Global) -> Result<Command<'a>, AllocError> {
     let replay = Command::new(alloc, "replay").about(
         "Run the script on standard input, and print what each of its lines comes to",
     );
@@ -57,9 +77,7 @@ pub fn command<'a>(alloc: Global) -> Result<Command<'a>, AllocError> {
         .subcommand_required(true)
         .subcommand(body(alloc)?)?
         .subcommand(replay)?
-        .subcommand(serve(alloc)?)?
-        .subcommand(run(alloc)?)?
-        .subcommand(ask(alloc)?)
+        .subcommand(serve(alloc)?)
 }
 
 fn body<'a>(alloc: Global) -> Result<Command<'a>, AllocError> {
@@ -112,9 +130,10 @@ fn run<'a>(alloc: Global) -> Result<Command<'a>, AllocError> {
         )
         .value_parser(value_parser!(u16).range(1..=i64::from(MAX_LOOPS)));
     Command::new(alloc, "run")
-        .about("Set services up by a script, and serve calls until the process is stopped")
+        .about("Set services up by a script, and serve calls until it is told to stop")
         .after_help(SCRIPT_HELP)
         .arg(listen(alloc))?
+        .arg(control(alloc))?
         .arg(script)?
         .arg(threads)?
         .arg(connections(alloc))?
@@ -127,6 +146,15 @@ fn listen<'a>(alloc: Global) -> Arg<'a> {
         .value_name("ADDR")
         .help("Where calls are answered: an address and a port, as 0.0.0.0:8080 or [::1]:8080")
         .default_value("127.0.0.1:8080")
+}
+
+fn control<'a>(alloc: Global) -> Arg<'a> {
+    Arg::new(alloc, "control")
+        .long("control")
+        .value_name("PLACE")
+        .help(
+            "Where changes are asked for, as by healthd tell: a loopback address and a port, as 127.0.0.1:8081, or a path of a Unix socket that only its owner may open, as /run/healthd.sock; without it there are no changes after the script's",
+        )
 }
 
 fn connections<'a>(alloc: Global) -> Arg<'a> {
@@ -157,32 +185,122 @@ pub fn bad_option(alloc: Global, bad: BadOption<'_>) -> Result<clap::Error, Allo
 }
 
 fn ask<'a>(alloc: Global) -> Result<Command<'a>, AllocError> {
-    let name = Arg::new(alloc, "name")
+    Command::new(alloc, "ask")
+        .about("Ask a server for the status of a service, and print what it tells")
+        .arg(port(alloc))?
+        .arg(host(alloc))?
+        .arg(name(alloc))?
+        .arg(watch(alloc))?
+        .arg(timeout(alloc))?
+        .arg(expect(alloc))
+}
+
+fn host<'a>(alloc: Global) -> Arg<'a> {
+    Arg::new(alloc, "host")
+        .long("host")
+        .value_name("ADDR")
+        .help("The IP address of the server, as 192.0.2.7 or ::1")
+        .default_value(HOST)
+}
+
+fn name<'a>(alloc: Global) -> Arg<'a> {
+    Arg::new(alloc, "name")
         .long("name")
         .value_name("NAME")
         .help(
             "The service to ask for, as my.package.Service; without it the empty name, which is the whole server",
         )
-        .allow_hyphen_values(true);
-    let watch = Arg::new(alloc, "watch")
+        .allow_hyphen_values(true)
+}
+
+fn watch<'a>(alloc: Global) -> Arg<'a> {
+    Arg::new(alloc, "watch")
         .long("watch")
         .value_name("N")
         .help(
             "Watch the service for at most so many statuses, 1 to 1000, as 3; without it one Check",
         )
-        .value_parser(value_parser!(u32).range(1..=1_000));
-    Command::new(alloc, "ask")
-        .about("Ask a server on 127.0.0.1 for the status of a service, and print what it tells")
-        .arg(port(alloc))?
-        .arg(name)?
-        .arg(watch)
+        .value_parser(value_parser!(u32).range(1..=1_000))
+}
+
+fn timeout<'a>(alloc: Global) -> Arg<'a> {
+    Arg::new(alloc, "timeout")
+        .long("timeout")
+        .value_name("S")
+        .help(
+            "How many seconds the whole call may take, 1 to 3600, as 5; without it there is no limit",
+        )
+        .value_parser(value_parser!(u16).range(1..=3_600))
+}
+
+fn expect<'a>(alloc: Global) -> Arg<'a> {
+    Arg::new(alloc, "expect")
+        .long("expect")
+        .value_name("STATUS")
+        .help(
+            "End with exit status 3 unless the last status is this one, as SERVING, and a Check ended with grpc-status 0",
+        )
+        .value_parser(STATUS_NAMES.as_slice())
+}
+
+/// The command line of an `ask` whose host is refused, with the text that clap has for such.
+pub fn bad_host(alloc: Global, host: &str) -> Result<clap::Error, AllocError> {
+    let message = format!(in alloc;
+        "invalid value '{host}' for '--host <ADDR>': not an IP address"
+    )?;
+    ask(alloc)?
+        .bin_name("healthd ask")?
+        .error(ErrorKind::ValueValidation, &message)
+}
+
+fn tell<'a>(alloc: Global) -> Result<Command<'a>, AllocError> {
+    let control = Arg::new(alloc, "control")
+        .long("control")
+        .value_name("PLACE")
+        .help(
+            "Where the server takes changes: an address of this machine and a port, as 127.0.0.1:8081, or the path of a Unix socket, as /run/healthd",
+        )
+        .required(true);
+    let words = Arg::new(alloc, "WORD")
+        .help("The words of one line, as fail db; without them the lines of standard input")
+        .action(ArgAction::Append)
+        .num_args(0..)
+        .allow_hyphen_values(true);
+    Command::new(alloc, "tell")
+        .about("Send lines to a server that takes changes while it runs, and print its answers")
+        .after_help(TELL_HELP)
+        .arg(control)?
+        .arg(words)
+}
+
+/// The command line of a `tell` that is refused for this reason, with the text that clap has for such.
+fn bad_tell(alloc: Global, message: &str) -> Result<clap::Error, AllocError> {
+    tell(alloc)?
+        .bin_name("healthd tell")?
+        .error(ErrorKind::ValueValidation, message)
+}
+
+/// The text is no place of a server that takes changes.
+pub fn bad_place(alloc: Global, text: &str) -> Result<clap::Error, AllocError> {
+    let message = format!(in alloc;
+        "invalid value '{text}' for '--control <PLACE>': not an address of this machine and a port, nor the path of a socket"
+    )?;
+    bad_tell(alloc, &message)
+}
+
+/// The words are more than one line.
+pub fn bad_words(alloc: Global) -> Result<clap::Error, AllocError> {
+    bad_tell(
+        alloc,
+        "invalid value for '[WORD]...': a line feed within a word",
+    )
 }
 
 fn port<'a>(alloc: Global) -> Arg<'a> {
     Arg::new(alloc, "port")
         .long("port")
         .value_name("P")
-        .help("The port on 127.0.0.1, 1 to 65535, as 8080")
+        .help("The port of the server, 1 to 65535, as 8080")
         .required(true)
         .value_parser(value_parser!(u16).range(1..))
 }

@@ -35,6 +35,9 @@ pub enum Fault {
     /// No program listens to the port.
     #[error("connect")]
     Connect,
+    /// The time that a call may take is up.
+    #[error("timed out")]
+    TimedOut,
     #[error("{0}")]
     Ask(AskFault),
     #[error("out of memory")]

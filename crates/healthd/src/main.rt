@@ -9,6 +9,8 @@ mod body;
 mod bounds;
 mod cause;
 mod command;
+mod deadline;
+mod expect;
 mod fault;
 mod input;
 mod replay;
@@ -17,11 +19,14 @@ mod run_failure;
 mod run_options;
 mod serve;
 mod service;
+mod tell;
+mod tell_failure;
 #[cfg(test)]
 mod tests;
 
 use clap::ArgMatches;
 use clap::error::ErrorKind;
+use control_client::is_one_line;
 use fault::Fault;
 use probe_core::{Depends, Manual, Probe, Rule, Threshold};
 use run_options::RunOptions;
@@ -109,14 +114,15 @@ where
         Some(("replay", _)) => replay::run(rt, &make)?,
         Some(("serve", matches)) => serve::run(rt, &make, matches)?,
         Some(("run", matches)) => return run_to_end(rt, &make, matches),
-        Some(("ask", matches)) => ask::run(rt, matches)?,
+        Some(("ask", matches)) => return ask_server(rt, matches),
+        Some(("tell", matches)) => return tell_server(rt, matches),
         _ => return Ok(ExitCode::from(REFUSED)),
     }
     Ok(ExitCode::SUCCESS)
 }
 
 /// The command `run`, whose faults tell their cause.
-fn run_to_end<R, P: Probe + Send, F: Fn(Rule) -> Result<P, AllocError>>(
+fn run_to_end<R, P: Probe + Send, F: Fn(Rule) -> Result<P, AllocError> + Sync>(
     rt: &R,
     make: &F,
     matches: &ArgMatches<'_>,
@@ -141,6 +147,44 @@ where
     };
     match run::run(rt, make, options) {
         Ok(()) => Ok(ExitCode::SUCCESS),
+        Err(failure) => Ok(failed(rt, &failure)),
+    }
+}
+
+/// The command `ask`.
+fn ask_server<R>(rt: &R, matches: &ArgMatches<'_>) -> Result<ExitCode, Fault>
+where
+    R: Print + Eprint + Clock + AllocGlobal + Net<Stream = TcpStream>,
+{
+    let Some(addr) = ask::addr_in(matches) else {
+        let host = matches.get_str("host").unwrap_or("");
+        return refuse(rt, &command::bad_host(rt.alloc(), host)?);
+    };
+    Ok(ExitCode::from(ask::run(rt, matches, addr)?))
+}
+
+/// The command `tell`, whose faults tell their cause.
+fn tell_server<R>(rt: &R, matches: &ArgMatches<'_>) -> Result<ExitCode, Fault>
+where
+    R: Input + Print + Eprint + AllocGlobal + Net<Stream = TcpStream>,
+{
+    let alloc = rt.alloc();
+    let Some(place) = tell::place_in(matches) else {
+        let text = matches.get_str("control").unwrap_or("");
+        return refuse(rt, &command::bad_place(alloc, text)?);
+    };
+    let told = match tell::line_in(alloc, matches)? {
+        Some(line) => {
+            let bytes = line.as_bytes();
+            if !is_one_line(bytes) {
+                return refuse(rt, &command::bad_words(alloc)?);
+            }
+            tell::run_line(rt, place, bytes)
+        }
+        None => tell::run_input(rt, place),
+    };
+    match told {
+        Ok(status) => Ok(ExitCode::from(status)),
         Err(failure) => Ok(failed(rt, &failure)),
     }
 }

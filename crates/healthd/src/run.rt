@@ -1,12 +1,13 @@
 ghost use Rattle.std.specs.Net.Text.{socket_text};
-ghost use Rattle.std.specs.Prelude.{◌≡◌, ◌≤◌, ◌<◌, ◌++◌, List, Option, IfOk, IfErr, codes, decimal, length, string_bytes, vec_len};
+ghost use Rattle.std.specs.Prelude.{◌≡◌, ◌≤◌, ◌<◌, ◌++◌, List, Option, IfOk, IfErr, IsNone, codes, decimal, length, string_bytes, vec_len};
 ghost use Rattle.desk_core.specs.declared.call.Call.{Call};
 ghost use Rattle.desk_core.specs.Past.{past};
 ghost use Rattle.hall.specs.Seats.{new_seats};
 ghost use Rattle.probe_core.specs.Made.{MakesAsked};
 ghost use Rattle.server.specs.Setup.{AreSetUp};
 ghost use Rattle.live_run.specs.Loops.{HaveServedAll};
-ghost use Rattle.live_run.specs.Running.{HasRunLoops};
+ghost use Rattle.control_place.specs.Place.{place_text};
+ghost use Rattle.live_run.specs.WholeRun.{HasRun};
 ghost use Rattle.live_run.specs.declared.run_fault.RunFault.TheVariants.{NoMemory};
 ghost use Rattle.healthd.specs.declared.run_failure.RunFailure.TheVariants.{OutOfMemory, Refused};
 ghost use Rattle.healthd.specs.Run.{AreMadeAlone, EndsSetUp, IsSetUpBy, IsWhollySetUp};
@@ -15,22 +16,24 @@ use crate::bounds::MAX_LOOPS;
 use crate::input::read_script_bytes;
 use crate::run_failure::{RunFailure, failure_by};
 use crate::run_options::{RunOptions, Source};
+use control_place::{ControlListener, Place};
+use control_server::{ControlServer, MAX_SESSIONS};
 use desk_core::KeepMany;
 use live_run::{Ran, RefusedLine, RunFault, first_refused, run_live};
-use live_server::{EventServer, Limits, News};
+use live_server::{EventServer, Limits, News, Tally};
 use probe_core::{Probe, Rule};
 use script::{Mode, read_script};
 use server::{SetUpHall, hall_of};
 use std::alloc::{AllocError, Global};
 use std::net::{Net, SocketAddr, TcpListener, TcpStream};
 use std::rt::Files;
-use std::sync::Wait;
+use std::sync::{Arc, Wait};
 use std::thread::Threads;
 use std::time::Clock;
 use std::{fs, io, thread};
 
-/// The command `run`, with the probes that `make` gives. It ends where a signal ends the process.
-pub fn run<'a, R, P: Probe + Send, F: Fn(Rule) -> Result<P, AllocError>>(
+/// The command `run`, with the probes that `make` gives. It ends where a session asks for it, or a signal ends the process.
+pub fn run<'a, R, P: Probe + Send, F: Fn(Rule) -> Result<P, AllocError> + Sync>(
     rt: &R,
     make: &F,
     options: RunOptions<'a>,
@@ -52,15 +55,53 @@ where
     let bytes = script_bytes(rt, alloc, options.script)?;
     let threads = options.threads.unwrap_or_else(|| processors(rt));
     let loops = options.bounds.loops(threads);
-    let made = set_up(rt, alloc, make, &bytes, loops + 1)?;
-    let shares = options.bounds.shares(alloc, loops)?;
-    let listener = listen(rt, &made, options.listen)?;
-    let (servers, news) = event_loops(rt, alloc, &listener, &shares)?;
-    tell_address(rt, alloc, &listener, options.listen)?;
-    // Each loop has the socket too, and closes it at the end, so that clients which come late are refused.
-    drop(listener);
-    let ran = serve_to_end(rt, alloc, made, servers, &news)?;
+    let made = set_up(rt, alloc, make, &bytes, loops + 1 + MAX_SESSIONS)?;
+    let Begun {
+        servers,
+        news,
+        control,
+    } = begin(rt, alloc, &made, options, loops)?;
+    let ran = serve_to_end(rt, alloc, made, servers, control, make, &news)?;
+    remove_socket(rt, &ran);
     print_line(rt, &journal_line(alloc, &ran)?)
+}
+
+/// What listens, and has told where.
+#[derive(Drop)]
+struct Begun {
+    servers: Vec<EventServer>,
+    news: News,
+    control: Option<ControlServer>,
+}
+
+/// Listens at both places with so many loops, for a hall that is set up, and prints the lines that tell so.
+fn begin<'a, R, P: Probe>(
+    rt: &R,
+    alloc: Global,
+    made: &SetUpHall<P, KeepMany>,
+    options: RunOptions<'a>,
+    loops: u16,
+) -> Result<Begun, RunFailure<'a>>
+where
+    R: Print + Files + Clock + Net<Listener = TcpListener, Stream = TcpStream>,
+    requires set_up { (calls : List (Option Call)) × IsWhollySetUp calls made.now }
+    requires some { 1 ≤ loops }
+    requires served { loops ≤ options.bounds.connections }
+    ensures each { IfOk result (λ begun. vec_len begun.servers ≡ loops) }
+{
+    let shares = options.bounds.shares(alloc, loops)?;
+    let listener = listen(rt, made, options.listen)?;
+    let place = control_at(rt, alloc, made, options.control)?;
+    // Each loop has the socket too, and closes it at the end, so that clients which come late are refused.
+    let (servers, news) = event_loops(rt, alloc, &listener, &shares)?;
+    let place_line = place_line(alloc, &place)?;
+    let control = control_loop(rt, alloc, place, &servers)?;
+    tell_places(rt, alloc, &listener, options.listen, place_line)?;
+    Ok(Begun {
+        servers,
+        news,
+        control,
+    })
 }
 
 /// As many as the system lets this process use, and no more than a server has loops.
@@ -145,20 +186,50 @@ where
 {
     match mio::net::TcpListener::bind(rt, addr) {
         Ok(listener) => Ok(TcpListener::from(listener)),
-        Err(error) => Err(failure_by(error, |cause| RunFailure::Bind(addr, cause))),
+        Err(error) => Err(bind_failure(error, Place::Address(addr))),
     }
 }
 
-/// Prints where the socket listens, which tells the port that the system picked for port 0.
-fn tell_address<'a, R: Print>(
+fn bind_failure<'a>(error: io::Error, place: Place<'a>) -> RunFailure<'a> {
+    failure_by(error, |cause| RunFailure::Bind(place, cause))
+}
+
+/// A socket that listens at the control place, if there is one, for a hall that is set up.
+fn control_at<'a, R: Files + Net, P: Probe>(
+    rt: &R,
+    alloc: Global,
+    _made: &SetUpHall<P, KeepMany>,
+    place: Option<Place<'a>>,
+) -> Result<Option<ControlListener>, RunFailure<'a>>
+    // nothing is bound before
+    requires set_up { (calls : List (Option Call)) × IsWhollySetUp calls _made.now }
+    ensures none { IsNone place.entry → IfOk result (λ listener. IsNone listener) }
+{
+    let Some(place) = place else {
+        return Ok(None);
+    };
+    match ControlListener::bind(rt, alloc, place) {
+        Ok(listener) => Ok(Some(listener)),
+        Err(error) => Err(bind_failure(error, place)),
+    }
+}
+
+/// Prints where the socket listens, which tells the port that the system picked for port 0, and the line of the control place, if there
+/// is one.
+fn tell_places<'a, R: Print>(
     rt: &R,
     alloc: Global,
     listener: &TcpListener,
     asked: SocketAddr,
+    place_line: Option<String>,
 ) -> Result<(), RunFailure<'a>> {
     match listener.local_addr() {
-        Ok(addr) => print_line(rt, &listening_line(alloc, addr)?),
-        Err(error) => Err(failure_by(error, |cause| RunFailure::Bind(asked, cause))),
+        Ok(addr) => print_line(rt, &listening_line(alloc, addr)?)?,
+        Err(error) => return Err(bind_failure(error, Place::Address(asked))),
+    }
+    match place_line {
+        Some(line) => print_line(rt, &line),
+        None => Ok(()),
     }
 }
 
@@ -167,6 +238,27 @@ fn listening_line(alloc: Global, addr: SocketAddr) -> Result<String, AllocError>
     ensures { IfOk result (λ line. string_bytes line ≡ codes "listening " ++ socket_text addr) }
 {
     format!(in alloc; "listening {addr}")
+}
+
+/// The line that tells where changes are asked for, if they are.
+fn place_line<'a>(
+    alloc: Global,
+    listener: &Option<ControlListener>,
+) -> Result<Option<String>, RunFailure<'a>> {
+    let Some(listener) = listener else {
+        return Ok(None);
+    };
+    match listener.place() {
+        Ok(place) => Ok(Some(control_line(alloc, place)?)),
+        Err(error) => Err(failure_by(error, RunFailure::EventLoop)),
+    }
+}
+
+/// The line that tells where changes are asked for.
+fn control_line(alloc: Global, place: Place<'_>) -> Result<String, AllocError>
+    ensures { IfOk result (λ line. string_bytes line ≡ codes "control " ++ place_text place.entry) }
+{
+    format!(in alloc; "control {place}")
 }
 
 /// The line that tells how many entries the history has.
@@ -222,28 +314,67 @@ where
     Ok((servers, News::new(wakers)))
 }
 
+/// A loop over the sessions of a control place, if there is one.
+fn control_loop<'a, R: Clock + Net>(
+    rt: &R,
+    alloc: Global,
+    listener: Option<ControlListener>,
+    servers: &[EventServer],
+) -> Result<Option<ControlServer>, RunFailure<'a>>
+    ensures none { IsNone listener → IfOk result (λ control. IsNone control) }
+{
+    let Some(listener) = listener else {
+        return Ok(None);
+    };
+    let tallies = tallies_of(alloc, servers)?;
+    match ControlServer::new(rt, alloc, listener, tallies) {
+        Ok(control) => Ok(Some(control)),
+        Err(error) => Err(failure_by(error, RunFailure::EventLoop)),
+    }
+}
+
+/// What the loops count while they serve.
+fn tallies_of(alloc: Global, servers: &[EventServer]) -> Result<Vec<Arc<Tally>>, AllocError> {
+    let mut tallies = Vec::with_capacity(alloc, servers.len())?;
+    for server in servers {
+        tallies.push(server.tally()?)?;
+    }
+    Ok(tallies)
+}
+
 /// Serves until `news` tells that all is to end, and gives back what is left of the hall then.
-fn serve_to_end<'a, R, P: Probe + Send>(
+fn serve_to_end<'a, R, P: Probe + Send, F: Fn(Rule) -> Result<P, AllocError> + Sync>(
     rt: &R,
     alloc: Global,
     made: SetUpHall<P, KeepMany>,
     servers: Vec<EventServer>,
+    control: Option<ControlServer>,
+    make: &F,
     news: &News,
 ) -> Result<Ran<P, KeepMany>, RunFailure<'a>>
 where
     R: Clock + Wait + Threads + Sync,
+    requires callable { F.IsAlwaysCallable make.now }
+    requires asked { MakesAsked P.rule P.memory (F.post make.now) }
     requires set_up { (calls : List (Option Call)) × IsWhollySetUp calls made }
     requires some { 1 ≤ vec_len servers }
     requires enough { vec_len servers < made.hall.seats }
     ensures servers { IfOk result (λ ran. HaveServedAll servers.items ran.servers.items) }
-    ensures ran { IfOk result (λ ran. HasRunLoops made.hall (vec_len servers) made.seats (past ran.desk.journal)) }
-    // nothing but the setup makes changes
-    ensures entries { IfOk result (λ ran. length ran.desk.journal ≡ length made.results) }
+    // nothing but the setup and the lines of sessions makes changes
+    ensures ran { IfOk result (λ ran. HasRun made.hall (vec_len servers) made.seats (past ran.desk.journal)) }
+    ensures entries { IsNone control → IfOk result (λ ran. length ran.desk.journal ≡ length made.results) }
     ensures failure { IfErr result (λ failure. failure ≡ OutOfMemory) }
 {
-    match run_live(rt, alloc, made, servers, news) {
+    match run_live(rt, alloc, made, servers, control, make, news) {
         Ok(ran) => Ok(ran),
         Err(fault) => Err(failure_to_run(fault)),
+    }
+}
+
+/// Takes the file of the control place's socket away, if it has one. Where it stays, the next server takes it over.
+fn remove_socket<R: Files, P: Probe>(rt: &R, ran: &Ran<P, KeepMany>) {
+    if let Some(sessions) = &ran.sessions {
+        let _ = sessions.remove_file(rt);
     }
 }
 

@@ -6,12 +6,12 @@ ghost use Rattle.healthd.specs.RunFailure.{failure_of};
 
 use crate::cause::Cause;
 use crate::run_options::Source;
+use control_place::Place;
 use live_run::RefusedLine;
 use script::{ScriptFault, changed_text};
 use std::alloc::{AllocError, AllocFailed};
 use std::io;
 use std::io::ErrorKind;
-use std::net::SocketAddr;
 use thiserror::Error;
 
 /// What ends the command `run` with status 1. Its text follows `healthd: ` on standard error.
@@ -24,7 +24,7 @@ pub enum RunFailure<'a> {
     #[error("script line {}: {}", .0.number, changed_text(.0.answer))]
     Refused(RefusedLine),
     #[error("bind {0}: {1}")]
-    Bind(SocketAddr, Cause),
+    Bind(Place<'a>, Cause),
     /// A loop has no way to wait for its sockets, say for want of descriptors.
     #[error("event loop: {0}")]
     EventLoop(Cause),

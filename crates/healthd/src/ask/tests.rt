@@ -1,5 +1,5 @@
 use super::*;
-use crate::command::command;
+use crate::command::{HOST, command};
 use crate::tests::texts::padded;
 use std::net::TcpListener;
 use std::test::Fail;
@@ -63,11 +63,14 @@ where
 /// What ends the command, if it does not succeed.
 fn fault_of<R>(rt: &R, words: &[&str]) -> Result<Option<Fault>, Fail>
 where
-    R: Print + AllocGlobal + Net<Stream = TcpStream>,
+    R: Print + Clock + AllocGlobal + Net<Stream = TcpStream>,
 {
     let matches = command(rt.alloc())?.try_get_matches_from(words)?;
-    match matches.subcommand() {
-        Some((_, matches)) => Ok(run(rt, matches).err()),
+    let Some((_, matches)) = matches.subcommand() else {
+        return Ok(None);
+    };
+    match addr_in(matches) {
+        Some(addr) => Ok(run(rt, matches, addr).err()),
         None => Ok(None),
     }
 }
@@ -75,7 +78,7 @@ where
 /// What ends `ask` for a name of so many bytes, where nobody listens.
 fn expect_fault<R>(rt: &R, len: usize, expected: Fault) -> Result<(), Fail>
 where
-    R: Print + AllocGlobal + Net<Listener = TcpListener, Stream = TcpStream>,
+    R: Print + Clock + AllocGlobal + Net<Listener = TcpListener, Stream = TcpStream>,
 {
     let name = padded(rt.alloc(), b"", len, b'n')?;
     let name = str::from_utf8(&name)?;
@@ -90,27 +93,61 @@ fn refuses_a_name_that_is_too_long_before_it_connects(rt: HostRuntime) -> Result
     expect_fault(&rt, 1_048_576, Fault::Connect)
 }
 
-/// What `ask` reads of its arguments: the port, the name, and the most statuses of a Watch.
-fn expect_read(
-    alloc: Global,
-    words: &[&str],
-    expected: (u16, &str, Option<u32>),
-) -> Result<(), Fail> {
+/// A server that never answers.
+#[test]
+fn gives_up_where_the_time_is_up(rt: HostRuntime) -> Result<(), Fail> {
+    let listener = TcpListener::bind(&rt, (HOST, 0u16))?;
+    let port = format!(in rt.alloc(); "{}", listener.local_addr()?.port())?;
+    let words = ["healthd", "ask", "--timeout", "1", "--port", port.as_str()];
+    let fault = fault_of(&rt, words.as_slice())?;
+    same(
+        &fault,
+        &Some(Fault::TimedOut),
+        &"a server that does not answer",
+    )
+}
+
+/// What `ask` reads of its arguments: where it asks, the name, the most statuses, and the most seconds.
+type Read<'a> = (Option<SocketAddr>, &'a str, (Method, u32), Option<u64>);
+
+fn expect_read(alloc: Global, words: &[&str], expected: Read<'_>) -> Result<(), Fail> {
     let matches = command(alloc)?.try_get_matches_from(words)?;
-    let read = matches.subcommand().map(|named| (
-        port_in(named.1),
-        name_in(named.1),
-        most_in(named.1),
-    ));
-    same(&read, &Some(expected), &words)
+    let Some((_, matches)) = matches.subcommand() else {
+        return Err(Fail::new(format_args!("no command in {words:?}")));
+    };
+    let read = (
+        addr_in(matches),
+        name_in(matches),
+        call_in(matches),
+        timeout_in(matches).map(|time| time.as_secs()),
+    );
+    same(&read, &expected, &words)
 }
 
 #[test]
 fn reads_its_arguments(rt: HostRuntime) -> Result<(), Fail> {
     let alloc = rt.alloc();
-    expect_read(alloc, &["healthd", "ask", "--port", "1"], (1, "", None))?;
+    let here = "127.0.0.1:1".parse::<SocketAddr>().ok();
+    let there = "[::1]:65535".parse::<SocketAddr>().ok();
+    let words = ["healthd", "ask", "--port", "1"];
+    expect_read(alloc, &words, (here, "", (Method::Check, 1), None))?;
     let words = [
-        "healthd", "ask", "--port", "65535", "--name", "-", "--watch", "1000",
+        "healthd",
+        "ask",
+        "--port",
+        "65535",
+        "--host",
+        "::1",
+        "--name",
+        "-",
+        "--watch",
+        "1000",
+        "--timeout",
+        "3600",
     ];
-    expect_read(alloc, &words, (65_535, "-", Some(1_000)))
+    let watch = (there, "-", (Method::Watch, 1_000), Some(3_600));
+    expect_read(alloc, &words, watch)?;
+    // a host by its name
+    let words = ["healthd", "ask", "--port", "1", "--host", "localhost"];
+    expect_read(alloc, &words, (None, "", (Method::Check, 1), None))
 }

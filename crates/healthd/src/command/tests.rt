@@ -4,7 +4,7 @@ use std::test::Fail;
 use test_support::same;
 
 /// The words behind the program's name, and why they are refused, if they are. `--help` and `--version` refuse to run anything.
-static ROWS: [(&[&str], Option<ErrorKind>); 42] = [
+static ROWS: [(&[&str], Option<ErrorKind>); 56] = [
     (&["body", "0000000000"], None),
     (&["body"], Some(ErrorKind::MissingRequiredArgument)),
     (&["replay"], None),
@@ -112,6 +112,48 @@ static ROWS: [(&[&str], Option<ErrorKind>); 42] = [
     (&["ask", "--port", "0"], Some(ErrorKind::ValueValidation)),
     (&["ask", "--port", "x"], Some(ErrorKind::ValueValidation)),
     (&["ask"], Some(ErrorKind::MissingRequiredArgument)),
+    (
+        &[
+            "ask",
+            "--port",
+            "1",
+            "--host",
+            "::1",
+            "--timeout",
+            "3600",
+            "--expect",
+            "SERVING",
+        ],
+        None,
+    ),
+    (&["ask", "--port", "1", "--timeout", "1"], None),
+    (
+        &["ask", "--port", "1", "--timeout", "0"],
+        Some(ErrorKind::ValueValidation),
+    ),
+    (
+        &["ask", "--port", "1", "--timeout", "3601"],
+        Some(ErrorKind::ValueValidation),
+    ),
+    (&["ask", "--port", "1", "--expect", "SERVICE_UNKNOWN"], None),
+    (
+        &["ask", "--port", "1", "--expect", "serving"],
+        Some(ErrorKind::InvalidValue),
+    ),
+    (
+        &["ask", "--port", "1", "--expect"],
+        Some(ErrorKind::InvalidValue),
+    ),
+    (&["ask", "--help"], Some(ErrorKind::DisplayHelp)),
+    (&["tell", "--control", "/run/healthd"], None),
+    (&["tell", "--control", "127.0.0.1:8081", "check", "-"], None),
+    (&["tell"], Some(ErrorKind::MissingRequiredArgument)),
+    (
+        &["tell", "check", "-"],
+        Some(ErrorKind::MissingRequiredArgument),
+    ),
+    (&["tell", "--control"], Some(ErrorKind::InvalidValue)),
+    (&["tell", "--help"], Some(ErrorKind::DisplayHelp)),
 ];
 
 fn expect_kind(alloc: Global, words: &[&str], expected: Option<ErrorKind>) -> Result<(), Fail> {
@@ -159,16 +201,77 @@ const RUN_HELP: [&str; 22] = [
     "not answered done or replaced",
 ];
 
-#[test]
-fn tells_the_options_and_the_lines_of_a_run(rt: HostRuntime) -> Result<(), Fail> {
-    let words = ["healthd", "run", "--help"];
-    let matches = command(rt.alloc())?.try_get_matches_from(words.as_slice());
-    let Err(help) = matches else {
-        return same(&"matches", &"help", &"run --help");
+/// What the help of `ask` has to say: each option with its example.
+const ASK_HELP: [&str; 13] = [
+    "--port <P>",
+    "as 8080",
+    "--host <ADDR>",
+    "as 192.0.2.7 or ::1",
+    "--name <NAME>",
+    "as my.package.Service",
+    "--watch <N>",
+    "1 to 1000, as 3",
+    "--timeout <S>",
+    "1 to 3600, as 5",
+    "--expect <STATUS>",
+    "exit status 3",
+    "UNKNOWN, SERVING, NOT_SERVING, SERVICE_UNKNOWN",
+];
+
+/// What the help of `tell` has to say: where it sends, what, and the exit status.
+const TELL_HELP_PARTS: [&str; 7] = [
+    "--control <PLACE>",
+    "as 127.0.0.1:8081",
+    "as /run/healthd",
+    "as fail db",
+    "standard input",
+    "exit status is 3",
+    "refused .., missing, wrong kind",
+];
+
+fn expect_help(alloc: Global, name: &str, parts: &[&str]) -> Result<(), Fail> {
+    let words = ["healthd", name, "--help"];
+    let Err(help) = command(alloc)?.try_get_matches_from(words.as_slice()) else {
+        return same(&"matches", &"help", &name);
     };
-    let text = format!(in rt.alloc(); "{help}")?;
-    for part in &RUN_HELP {
+    let text = format!(in alloc; "{help}")?;
+    for part in parts {
         same(&text.contains(*part), &true, part)?;
     }
     Ok(())
+}
+
+#[test]
+fn tells_the_options_of_each_command(rt: HostRuntime) -> Result<(), Fail> {
+    expect_help(rt.alloc(), "run", &RUN_HELP)?;
+    expect_help(rt.alloc(), "ask", &ASK_HELP)?;
+    expect_help(rt.alloc(), "tell", &TELL_HELP_PARTS)
+}
+
+fn expect_refusal(alloc: Global, error: &clap::Error, begin: &str) -> Result<(), Fail> {
+    let text = format!(in alloc; "{error}")?;
+    same(&text.starts_with(begin), &true, &text)
+}
+
+#[test]
+fn refuses_values_in_the_words_of_clap(rt: HostRuntime) -> Result<(), Fail> {
+    let alloc = rt.alloc();
+    let host = bad_host(alloc, "localhost")?;
+    expect_refusal(
+        alloc,
+        &host,
+        "error: invalid value 'localhost' for '--host <ADDR>'",
+    )?;
+    let place = bad_place(alloc, "192.0.2.7:80")?;
+    expect_refusal(
+        alloc,
+        &place,
+        "error: invalid value '192.0.2.7:80' for '--control <PLACE>'",
+    )?;
+    let words = bad_words(alloc)?;
+    expect_refusal(
+        alloc,
+        &words,
+        "error: invalid value for '[WORD]...': a line feed",
+    )
 }

@@ -5,7 +5,7 @@ use std::test::Fail;
 use test_support::same;
 
 /// Each fault, and its text on standard error behind the program's name.
-const TEXTS: [(Fault, &str); 16] = [
+const TEXTS: [(Fault, &str); 17] = [
     (Fault::BadHex, "bad hex"),
     (Fault::BadService, "bad service"),
     (Fault::Script(ScriptFault::BadLine(7)), "script line 7"),
@@ -22,6 +22,7 @@ const TEXTS: [(Fault, &str); 16] = [
     (Fault::SeatsMissing, "seats missing"),
     (Fault::NameTooLong, "name too long"),
     (Fault::Connect, "connect"),
+    (Fault::TimedOut, "timed out"),
     (Fault::Ask(AskFault::BadResponse), "bad response"),
     (Fault::Ask(AskFault::Http(404)), "http 404"),
     (Fault::OutOfMemory, "out of memory"),

@@ -16,6 +16,11 @@ use std::test::Fail;
 use test_support::same;
 use web_call::Method;
 
+mod ready;
+mod told;
+
+use ready::Ready;
+
 /// Why a script sets up no hall of one seat, if it sets up none.
 fn failure_with<'a, R: Wait, P: Probe, F: Fn(Rule) -> Result<P, AllocError>>(
     rt: &R,
@@ -152,36 +157,52 @@ fn ask_all<R: Net<Stream = TcpStream>>(rt: &R, alloc: Global, port: u16) -> Answ
     }
 }
 
-/// Serves by loops while a client asks, which then ends the run.
-fn serve_and_ask<R>(
-    rt: &R,
-    alloc: Global,
-    made: SetUpHall<Manual, KeepMany>,
-    servers: Vec<EventServer>,
-    news: &News,
+/// A client that asks, and then ends the run.
+#[derive(Drop)]
+struct Asker<'a, R> {
+    rt: &'a R,
     port: u16,
-) -> (Option<u32>, Answers)
+    news: &'a News,
+}
+
+impl<R: AllocGlobal + Net<Stream = TcpStream>> Asker<'_, R> {
+    fn ask(self) -> Answers {
+        let answers = ask_all(self.rt, self.rt.alloc(), self.port);
+        self.news.end();
+        answers
+    }
+}
+
+/// Serves by loops while a client asks, which then ends the run.
+fn serve_and_ask<R, P: Probe + Send, F>(
+    ready: Ready<'_, R, P, F>,
+    port: u16,
+) -> (Option<Ran<P, KeepMany>>, Answers)
 where
-    R: Clock + Wait + Threads + Sync + Net<Listener = TcpListener, Stream = TcpStream>,
-    requires set_up { (calls : List (Option Call)) × IsWhollySetUp calls made }
-    requires some { 1 ≤ vec_len servers }
-    requires enough { vec_len servers < made.hall.seats }
+    R: AllocGlobal + Clock + Wait + Threads + Sync + Net<Stream = TcpStream>,
+    F: Fn(Rule) -> Result<P, AllocError> + Sync,
+    requires set_up { (calls : List (Option Call)) × IsWhollySetUp calls ready.made }
+    requires some { 1 ≤ vec_len ready.servers }
+    requires enough { vec_len ready.servers < ready.made.hall.seats }
+    requires callable { F.IsAlwaysCallable ready.make.now }
+    requires asked { MakesAsked P.rule P.memory (F.post ready.make.now) }
 {
+    let rt = ready.rt;
+    let asker = Asker {
+        rt,
+        port,
+        news: ready.news,
+    };
     thread::join(
         rt,
-        move || -> Option<u32>
-            requires set_up { (calls : List (Option Call)) × IsWhollySetUp calls made }
-            requires some { 1 ≤ vec_len servers }
-            requires enough { vec_len servers < made.hall.seats }
-        {
-            let ran = serve_to_end(rt, alloc, made, servers, news).ok()?;
-            Some(ran.entries())
-        },
-        move || {
-            let answers = ask_all(rt, alloc, port);
-            news.end();
-            answers
-        },
+        move || -> Option<Ran<P, KeepMany>>
+            requires set_up { (calls : List (Option Call)) × IsWhollySetUp calls ready.made }
+            requires some { 1 ≤ vec_len ready.servers }
+            requires enough { vec_len ready.servers < ready.made.hall.seats }
+            requires callable { F.IsAlwaysCallable ready.make.now }
+            requires asked { MakesAsked P.rule P.memory (F.post ready.make.now) }
+        { ready.serve() },
+        move || asker.ask(),
     )
 }
 
@@ -192,7 +213,12 @@ fn expect_status(told: &Result<Told, Fault>, expected: u64) -> Result<(), Fail> 
 
 fn expect_run<R>(rt: &R, alloc: Global, made: SetUpHall<Manual, KeepMany>) -> Result<(), Fail>
 where
-    R: Clock + Wait + Threads + Sync + Net<Listener = TcpListener, Stream = TcpStream>,
+    R: AllocGlobal
+        + Clock
+        + Wait
+        + Threads
+        + Sync
+        + Net<Listener = TcpListener, Stream = TcpStream>,
     requires set_up { (calls : List (Option Call)) × IsWhollySetUp calls made }
     requires enough { 2 < made.hall.seats }
 {
@@ -203,11 +229,20 @@ where
         return same(&"no loops", &"two loops", &"listening");
     };
     let port = listener.local_addr()?.port();
-    let (entries, answers) = serve_and_ask(rt, alloc, made, servers, &news, port);
+    let make = |rule| manual(rule);
+    let ready = Ready {
+        rt,
+        made,
+        servers,
+        control: None,
+        make: &make,
+        news: &news,
+    };
+    let (ran, answers) = serve_and_ask(ready, port);
     expect_status(&answers.of_a, 1)?;
     expect_status(&answers.of_all, 1)?;
     expect_status(&answers.of_b, 2)?;
-    same(&entries, &Some(4), &"entries")
+    same(&ran.map(|ran| ran.entries()), &Some(4), &"entries")
 }
 
 #[test]
@@ -227,7 +262,11 @@ where
     let taken = listener.local_addr()?;
     let cause = Cause::from(io::Error::from_raw_os_error(98));
     let failure = listen(rt, made, taken).err();
-    same(&failure, &Some(RunFailure::Bind(taken, cause)), &taken)
+    same(
+        &failure,
+        &Some(RunFailure::Bind(Place::Address(taken), cause)),
+        &taken,
+    )
 }
 
 #[test]

@@ -2,6 +2,7 @@ use super::*;
 use desk_core::{Refusal, Reply};
 use std::alloc::Global;
 use std::io;
+use std::net::SocketAddr;
 use std::test::Fail;
 use test_support::same;
 
@@ -41,8 +42,15 @@ fn tells_each_fault_with_its_cause(rt: HostRuntime) -> Result<(), Fail> {
             "script line 5: missing",
         ),
         (
-            RunFailure::Bind(SocketAddr::from(([0, 0, 0, 0], 80)), cause(13)),
+            RunFailure::Bind(
+                Place::Address(SocketAddr::from(([0, 0, 0, 0], 80))),
+                cause(13),
+            ),
             "bind 0.0.0.0:80: permission denied",
+        ),
+        (
+            RunFailure::Bind(Place::Path("/run/healthd"), cause(98)),
+            "bind /run/healthd: address in use",
         ),
         (
             RunFailure::EventLoop(cause(24)),

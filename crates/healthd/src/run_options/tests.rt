@@ -69,6 +69,7 @@ fn expect_read(alloc: Global, row: &Row<'_>) -> Result<(), Fail> {
     let expected = match (listen.parse(), Bounds::new(connections, watches)) {
         (Ok(listen), Some(bounds)) => Some(Ok(RunOptions {
             listen,
+            control: None,
             script,
             threads,
             bounds,
@@ -87,8 +88,40 @@ fn reads_its_options(rt: HostRuntime) -> Result<(), Fail> {
     Ok(())
 }
 
+fn expect_control(alloc: Global, text: &str, expected: Place<'_>) -> Result<(), Fail> {
+    let words = ["healthd", "run", "--control", text];
+    let matches = command(alloc)?.try_get_matches_from(words.as_slice())?;
+    let is_read = matches.subcommand().is_some_and(|named| {
+        RunOptions::read(named.1).is_ok_and(|options| options.control == Some(expected))
+    });
+    same(&is_read, &true, &text)
+}
+
+#[test]
+fn reads_where_changes_are_asked_for(rt: HostRuntime) -> Result<(), Fail> {
+    let rows = [
+        (
+            "127.0.0.1:8081",
+            Place::Address(SocketAddr::from(([127, 0, 0, 1], 8081))),
+        ),
+        (
+            "127.255.0.9:0",
+            Place::Address(SocketAddr::from(([127, 255, 0, 9], 0))),
+        ),
+        (
+            "[::1]:65535",
+            Place::Address(SocketAddr::from(([0u16, 0, 0, 0, 0, 0, 0, 1], 65535))),
+        ),
+        ("/run/healthd", Place::Path("/run/healthd")),
+    ];
+    for (text, expected) in &rows {
+        expect_control(rt.alloc(), *text, *expected)?;
+    }
+    Ok(())
+}
+
 /// The words behind `run`, and the first line of the text by which they are refused.
-const BAD: [(&[&str], &str); 6] = [
+const BAD: [(&[&str], &str); 11] = [
     (
         &["--listen", "8080"],
         "error: invalid value '8080' for '--listen <ADDR>': not an address and a port",
@@ -104,6 +137,26 @@ const BAD: [(&[&str], &str); 6] = [
     (
         &["--listen", ""],
         "error: invalid value '' for '--listen <ADDR>': not an address and a port",
+    ),
+    (
+        &["--control", "0.0.0.0:8081"],
+        "error: invalid value '0.0.0.0:8081' for '--control <PLACE>': not a loopback address and a port, and no path of a socket that begins with '/'",
+    ),
+    (
+        &["--control", "10.0.0.1:8081"],
+        "error: invalid value '10.0.0.1:8081' for '--control <PLACE>': not a loopback address and a port, and no path of a socket that begins with '/'",
+    ),
+    (
+        &["--control", "localhost:8081"],
+        "error: invalid value 'localhost:8081' for '--control <PLACE>': not a loopback address and a port, and no path of a socket that begins with '/'",
+    ),
+    (
+        &["--control", "run/healthd"],
+        "error: invalid value 'run/healthd' for '--control <PLACE>': not a loopback address and a port, and no path of a socket that begins with '/'",
+    ),
+    (
+        &["--control", ""],
+        "error: invalid value '' for '--control <PLACE>': not a loopback address and a port, and no path of a socket that begins with '/'",
     ),
     (
         &["--watches", "10001"],

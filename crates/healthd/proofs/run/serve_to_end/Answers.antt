@@ -7,6 +7,6 @@ failure_to_run-requires g c =
     memory_wanting c.requires.set_up.0 c.args.made (vec_len c.args.servers) c.in-Err.fault c.requires.set_up.1 c.requires.some c.requires.enough c.in-Err.ensures.failed
 
 pub returns-in-Ok-clause-entries : goal.returns-in-Ok-clause-entries
-returns-in-Ok-clause-entries g c =
+returns-in-Ok-clause-entries g c = λ none.
     let whole = c.requires.set_up.1 in
-    all_entries c.requires.set_up.0 c.args.made c.in-Ok.ran.desk.journal whole (c.in-Ok.ensures.setup c.requires.set_up.0 whole.set_up)
+    all_entries c.requires.set_up.0 c.args.made c.in-Ok.ran.desk.journal whole (c.in-Ok.ensures.setup none c.requires.set_up.0 whole.set_up)

@@ -22,7 +22,8 @@ returns-clause-ok g c =
       names = hall.0;
       most = hall.1;
       seats_are = hall.2;
-      whole = wholly_set_up (line_changes c.in_ok-script.script.names c.in_ok-script.script.lines) c.in_ok-made.made c.in_ok-script.script.max c.args.seats hall.1 hall.2 c.in_ok-made.ensures.seats (search rules);
+      whole = wholly_set_up (line_changes c.in_ok-script.script.names c.in_ok-script.script.lines) c.in_ok-made.made c.in_ok-script.script.max
+          c.args.seats hall.1 hall.2 c.in_ok-made.ensures.seats (search rules);
     }
 
 pub refused-requires-clause-whole : goal.refused-requires-clause-whole
