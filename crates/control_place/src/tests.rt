@@ -63,39 +63,55 @@ fn kind<T: Drop>(done: io::Result<T>) -> Option<ErrorKind> {
     }
 }
 
-/// A client asks, the server reads that, answers and closes, and the client reads the answer to its end.
-fn talk(rt: &HostRuntime, listener: &mut ControlListener) -> Result<(), Fail> {
-    let alloc = rt.alloc();
-    same(
-        &kind(listener.accept()),
-        &Some(ErrorKind::WouldBlock),
-        &"no client",
-    )?;
+/// A client at the listener's place, which waits ten seconds at most.
+fn client_of(rt: &HostRuntime, listener: &ControlListener) -> io::Result<ControlClient> {
     let client = connect(rt, listener.place()?)?;
     client.set_read_timeout(Some(Duration::from_secs(10)))?;
     client.set_write_timeout(Some(Duration::from_secs(10)))?;
-    let mut stream = accepted(alloc, rt, listener)?;
-    stream.set_nodelay(true)?;
+    Ok(client)
+}
+
+/// The client asks and says that this is all, and the server reads that. Before, there is nothing to read.
+fn ask(rt: &HostRuntime, client: &ControlClient, stream: &mut ControlStream) -> Result<(), Fail> {
     let mut buf = [0u8; 8];
-    let mut early: &ControlStream = &stream;
+    let mut early: &ControlStream = stream;
     same(
         &kind(early.read(&mut buf)),
         &Some(ErrorKind::WouldBlock),
         &"no bytes",
     )?;
-    let mut asking: &ControlClient = &client;
+    let mut asking: &ControlClient = client;
     asking.write_all(b"ask")?;
     asking.flush()?;
     client.shutdown(Shutdown::Write)?;
-    let count = read_once(alloc, rt, &mut stream, &mut buf)?;
-    same(&buf.get(..count), &Some(b"ask".as_slice()), &"asked")?;
-    let mut telling: &ControlStream = &stream;
+    let count = read_once(rt.alloc(), rt, stream, &mut buf)?;
+    same(&buf.get(..count), &Some(b"ask".as_slice()), &"asked")
+}
+
+/// The server tells and says that this is all, and the client reads that to its end.
+fn tell(rt: &HostRuntime, client: &ControlClient, stream: &ControlStream) -> Result<(), Fail> {
+    let mut telling = stream;
     telling.write_all(b"told")?;
     telling.flush()?;
     stream.shutdown(Shutdown::Write)?;
-    let mut told = Vec::new(alloc);
+    let mut told = Vec::new(rt.alloc());
+    let mut asking = client;
     asking.read_to_end(&mut told)?;
     same(&told.as_slice(), &b"told".as_slice(), &"told")
+}
+
+/// A client asks, the server reads that, answers and closes, and the client reads the answer to its end.
+fn talk(rt: &HostRuntime, listener: &mut ControlListener) -> Result<(), Fail> {
+    same(
+        &kind(listener.accept()),
+        &Some(ErrorKind::WouldBlock),
+        &"no client",
+    )?;
+    let client = client_of(rt, listener)?;
+    let mut stream = accepted(rt.alloc(), rt, listener)?;
+    stream.set_nodelay(true)?;
+    ask(rt, &client, &mut stream)?;
+    tell(rt, &client, &stream)
 }
 
 #[test]
