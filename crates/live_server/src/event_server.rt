@@ -44,6 +44,10 @@ pub struct EventServer {
     queue: Queue,
     swept: Instant,
     calls: Calls,
+    /// The most open Watches.
+    most_watches: usize,
+    /// Whether the other loops were told that it has room.
+    has_told_room: bool,
     tally: Arc<Tally>,
 }
 
@@ -73,6 +77,8 @@ impl EventServer {
             queue: Queue::Waiting,
             swept: Instant::now(rt)?,
             calls: Calls::new(alloc, limits),
+            most_watches: limits.watches,
+            has_told_room: false,
             tally: Arc::new(alloc, Tally::new())?,
         })
     }
@@ -153,7 +159,8 @@ impl EventServer {
         ensures names { D.names door.new ≡ D.names door.old }
         ensures stays { D.stays door.old door.new }
     {
-        let timeout = Duration::from_millis(self.timeout());
+        self.tell_room(news);
+        let timeout = Duration::from_millis(self.timeout(news));
         let polled = self.poll.poll(&mut self.events, Some(timeout));
         let round = Round {
             now: Instant::now(rt).unwrap_or(self.swept),
@@ -169,7 +176,7 @@ impl EventServer {
         if round.ends {
             self.close();
         } else {
-            self.accept(door, round);
+            self.accept(door, round, news);
         }
         polled
     }
@@ -182,11 +189,32 @@ impl EventServer {
         self.queue = Queue::Empty;
     }
 
+    /// Whether it holds fewer connections than it may hold Watches, so that one more may become a Watch, whatever the others are.
+    fn has_room(&self) -> bool {
+        self.calls.table().len() < self.most_watches
+    }
+
+    /// Tells the other loops whether it has room, where they were told otherwise.
+    fn tell_room(&mut self, news: &News)
+        ensures { held_by self.new ≡ held_by self.old }
+    {
+        let has_room = self.has_room();
+        if has_room != self.has_told_room {
+            self.has_told_room = has_room;
+            news.tell_room(has_room);
+        }
+    }
+
+    /// Whether it accepts connections that wait. It leaves them to loops that have room, where it has none.
+    fn accepts(&self, news: &News) -> bool {
+        self.queue == Queue::Waiting
+            && !self.calls.table().is_full()
+            && (self.has_room() || !news.is_room())
+    }
+
     /// How many milliseconds the next round may wait.
-    fn timeout(&self) -> u64 {
-        if self.calls.is_looking()
-            || (self.queue == Queue::Waiting && !self.calls.table().is_full())
-        {
+    fn timeout(&self, news: &News) -> u64 {
+        if self.calls.is_looking() || self.accepts(news) {
             return 0;
         }
         match self.queue {
@@ -205,14 +233,14 @@ impl EventServer {
         }
     }
 
-    fn accept<D: Door>(&mut self, door: &mut D, round: Round)
+    fn accept<D: Door>(&mut self, door: &mut D, round: Round, news: &News)
         ensures account { KeepsAccount (held_by self.old) (held_by self.new) }
         ensures names { D.names door.new ≡ D.names door.old }
         ensures stays { D.stays door.old door.new }
     {
         self.queue = self.queue.retried(round.now);
         for _ in 0..MOST_ACCEPTED {
-            if self.queue != Queue::Waiting || self.calls.table().is_full() {
+            if !self.accepts(news) {
                 return;
             }
             self.accept_one(door, round);

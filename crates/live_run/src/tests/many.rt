@@ -1,4 +1,4 @@
-//! A hundred Watches, which a session counts.
+//! As many Watches as all loops may hold together, which a session counts.
 
 use crate::tests::scenes::Watcher;
 use crate::tests::sessions::{Addresses, run_beside};
@@ -12,15 +12,15 @@ use std::time::{Clock, Duration};
 use test_support::requests::WATCH_OF_A;
 use test_support::same;
 
-/// As many as one loop takes, so that it does not matter which of the loops accepts them.
-const WATCHERS: u8 = 100;
+/// Twice as many as one of the two loops holds.
+const WATCHERS: u8 = 200;
 
 const COUNTED: &[u8] =
-    b"entries 3 kept 3 connections 100 watches 100 sessions 1 calls 0 given_up 0 behind 0\n";
+    b"entries 3 kept 3 connections 200 watches 200 sessions 1 calls 0 given_up 0 behind 0\n";
 
 /// The beginning of what is counted once all of them have closed.
 const COUNTED_THEN: &[u8] =
-    b"entries 3 kept 3 connections 0 watches 0 sessions 1 calls 100 given_up ";
+    b"entries 3 kept 3 connections 0 watches 0 sessions 1 calls 200 given_up ";
 
 /// Asks what the loops count, which they tell at the end of a round.
 fn expect_counted<R: Wait + Clock>(
@@ -40,6 +40,8 @@ pub(super) fn many<R: Wait + Clock + Net<Stream = TcpStream>>(
     alloc: Global,
     addresses: Addresses,
 ) -> Result<(), Fail> {
+    // Each loop tells the other that it has room as it begins.
+    thread::sleep(rt, Duration::from_millis(300));
     let mut watchers = Vec::new(alloc);
     for _ in 0..WATCHERS {
         let mut watcher = Watcher::open(rt, addresses.calls, WATCH_OF_A)?;

@@ -8,9 +8,9 @@ use std::test::Fail;
 use std::time::{Clock, Duration};
 use test_support::same;
 
-/// More connections than any test opens, of which all may be Watches.
+/// How much each loop holds at once. No test opens more Watches than all loops may hold together.
 const LIMITS: Limits = Limits {
-    connections: 100,
+    connections: 200,
     watches: 100,
 };
 
