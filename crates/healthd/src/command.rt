@@ -171,7 +171,7 @@ fn watches<'a>(alloc: Global) -> Arg<'a> {
         .long("watches")
         .value_name("W")
         .help(
-            "How many of them may be open Watches, 0 to C, as 400; without it nine tenths of C. Each event loop has its share of both, so that with several a Watch may be ended before W are open",
+            "How many of them may be open Watches, 0 to C, as 400; without it nine tenths of C. One that is opened beyond them is told its status and ended",
         )
         .value_parser(value_parser!(u32).range(0..=MAX_CONNECTIONS))
 }

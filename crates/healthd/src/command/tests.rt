@@ -188,7 +188,7 @@ const RUN_HELP: [&str; 22] = [
     "1 to 1000000, as 500",
     "--watches <W>",
     "0 to C, as 400",
-    "before W are open",
+    "told its status and ended",
     "register NAME threshold F [R [unknown]]",
     "register NAME manual",
     "register NAME depends NAME..",

@@ -1,25 +1,19 @@
-ghost use Rattle.std.specs.Prelude.{◌≤◌, ◌<◌, List, Option, vec_len};
+ghost use Rattle.std.specs.Prelude.{List, Option};
 ghost use Rattle.desk_core.specs.declared.call.Call.{Call};
 ghost use Rattle.probe_core.specs.Made.{IsAsked, MakesAsked};
 ghost use Rattle.healthd.specs.Run.{IsWhollySetUp};
 
 use super::*;
-use crate::ask::ask_at;
 use crate::cause::Cause;
-use crate::fault::Fault;
-use client::Told;
 use desk_core::{CatalogueFault, Refusal, Reply};
 use live_run::RefusedLine;
 use probe_core::{Depends, Manual, Threshold};
 use script::ScriptFault;
 use std::test::Fail;
 use test_support::same;
-use web_call::Method;
 
+mod beside;
 mod ready;
-mod told;
-
-use ready::Ready;
 
 /// Why a script sets up no hall of one seat, if it sets up none.
 fn failure_with<'a, R: Wait, P: Probe, F: Fn(Rule) -> Result<P, AllocError>>(
@@ -129,129 +123,6 @@ register b manual
 register - manual
 down b
 ";
-
-const LIMITS: [Limits; 2] = [
-    Limits {
-        connections: 2,
-        watches: 1,
-    },
-    Limits {
-        connections: 1,
-        watches: 1,
-    },
-];
-
-/// What two Checks and a Watch are told.
-#[derive(Drop)]
-struct Answers {
-    of_a: Result<Told, Fault>,
-    of_all: Result<Told, Fault>,
-    of_b: Result<Told, Fault>,
-}
-
-fn ask_all<R: Net<Stream = TcpStream>>(rt: &R, alloc: Global, port: u16) -> Answers {
-    Answers {
-        of_a: ask_at(rt, alloc, port, Method::Check, "a", 1),
-        of_all: ask_at(rt, alloc, port, Method::Check, "", 1),
-        of_b: ask_at(rt, alloc, port, Method::Watch, "b", 1),
-    }
-}
-
-/// A client that asks, and then ends the run.
-#[derive(Drop)]
-struct Asker<'a, R> {
-    rt: &'a R,
-    port: u16,
-    news: &'a News,
-}
-
-impl<R: AllocGlobal + Net<Stream = TcpStream>> Asker<'_, R> {
-    fn ask(self) -> Answers {
-        let answers = ask_all(self.rt, self.rt.alloc(), self.port);
-        self.news.end();
-        answers
-    }
-}
-
-/// Serves by loops while a client asks, which then ends the run.
-fn serve_and_ask<R, P: Probe + Send, F>(
-    ready: Ready<'_, R, P, F>,
-    port: u16,
-) -> (Option<Ran<P, KeepMany>>, Answers)
-where
-    R: AllocGlobal + Clock + Wait + Threads + Sync + Net<Stream = TcpStream>,
-    F: Fn(Rule) -> Result<P, AllocError> + Sync,
-    requires set_up { (calls : List (Option Call)) × IsWhollySetUp calls ready.made }
-    requires some { 1 ≤ vec_len ready.servers }
-    requires enough { vec_len ready.servers < ready.made.hall.seats }
-    requires callable { F.IsAlwaysCallable ready.make.now }
-    requires asked { MakesAsked P.rule P.memory (F.post ready.make.now) }
-{
-    let rt = ready.rt;
-    let asker = Asker {
-        rt,
-        port,
-        news: ready.news,
-    };
-    thread::join(
-        rt,
-        move || -> Option<Ran<P, KeepMany>>
-            requires set_up { (calls : List (Option Call)) × IsWhollySetUp calls ready.made }
-            requires some { 1 ≤ vec_len ready.servers }
-            requires enough { vec_len ready.servers < ready.made.hall.seats }
-            requires callable { F.IsAlwaysCallable ready.make.now }
-            requires asked { MakesAsked P.rule P.memory (F.post ready.make.now) }
-        { ready.serve() },
-        move || asker.ask(),
-    )
-}
-
-fn expect_status(told: &Result<Told, Fault>, expected: u64) -> Result<(), Fail> {
-    let statuses = told.as_ref().ok().map(|told| told.statuses.as_slice());
-    same(&statuses, &Some([expected].as_slice()), &"statuses")
-}
-
-fn expect_run<R>(rt: &R, alloc: Global, made: SetUpHall<Manual, KeepMany>) -> Result<(), Fail>
-where
-    R: AllocGlobal
-        + Clock
-        + Wait
-        + Threads
-        + Sync
-        + Net<Listener = TcpListener, Stream = TcpStream>,
-    requires set_up { (calls : List (Option Call)) × IsWhollySetUp calls made }
-    requires enough { 2 < made.hall.seats }
-{
-    let Ok(listener) = listen(rt, &made, SocketAddr::from(([127, 0, 0, 1], 0))) else {
-        return same(&"no socket", &"a socket", &"listening");
-    };
-    let Ok((servers, news)) = event_loops(rt, alloc, &listener, LIMITS.as_slice()) else {
-        return same(&"no loops", &"two loops", &"listening");
-    };
-    let port = listener.local_addr()?.port();
-    let make = |rule| manual(rule);
-    let ready = Ready {
-        rt,
-        made,
-        servers,
-        control: None,
-        make: &make,
-        news: &news,
-    };
-    let (ran, answers) = serve_and_ask(ready, port);
-    expect_status(&answers.of_a, 1)?;
-    expect_status(&answers.of_all, 1)?;
-    expect_status(&answers.of_b, 2)?;
-    same(&ran.map(|ran| ran.entries()), &Some(4), &"entries")
-}
-
-#[test]
-fn serves_until_it_is_told_to_end(rt: HostRuntime) -> Result<(), Fail> {
-    match set_up(&rt, rt.alloc(), &|rule| manual(rule), SCRIPT, 3) {
-        Ok(made) => expect_run(&rt, rt.alloc(), made),
-        Err(failure) => same(&Some(failure), &None, &"the setup"),
-    }
-}
 
 fn expect_in_use<R>(rt: &R, made: &SetUpHall<Manual, KeepMany>) -> Result<(), Fail>
 where
