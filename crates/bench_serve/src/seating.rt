@@ -24,6 +24,20 @@ pub fn last<P: Probe>(
     seats.pop()
 }
 
+/// A loop with the last of the seats.
+fn seated<P: Probe>(
+    hall: &Hall<P, KeepMany>,
+    server: EventServer,
+    seats: &mut Vec<Seat<P, KeepMany>>,
+) -> Option<SeatedLoop<P, KeepMany>>
+    requires { All (IsOf hall.now) seats.old.items }
+    ensures seat { IfSome result (λ seated. IsOf hall.now seated.seat) }
+    ensures seats { All (IsOf hall.now) seats.new.items }
+{
+    let seat = last(hall, seats)?;
+    Some(SeatedLoop { server, seat })
+}
+
 /// Gives each loop the last of the seats.
 pub fn seat_loops<P: Probe>(
     alloc: Global,
@@ -36,8 +50,7 @@ pub fn seat_loops<P: Probe>(
 {
     let mut loops = Vec::new(alloc);
     for server in servers {
-        let seat = last(hall, seats)?;
-        loops.push(SeatedLoop { server, seat }).ok()?;
+        loops.push(seated(hall, server, seats)?).ok()?;
     }
     Some(loops)
 }

@@ -18,9 +18,8 @@ use test_support::same;
 
 fn catalogue(alloc: Global) -> Result<Catalogue, Fail> {
     let mut names = Vec::new(alloc);
-    for text in ["a", ""] {
-        names.push(String::from_str(alloc, text)?)?;
-    }
+    names.push(String::from_str(alloc, "a")?)?;
+    names.push(String::new(alloc))?;
     Ok(Catalogue::new(alloc, names)?)
 }
 
@@ -82,6 +81,20 @@ pub(super) fn hall_of_a<R: Wait>(
     Ok((hall, seats))
 }
 
+/// A loop with the last of the seats.
+fn seated(
+    hall: &Hall<Manual>,
+    server: EventServer,
+    seats: &mut Vec<Seat<Manual>>,
+) -> Result<SeatedLoop<Manual>, Fail>
+    requires { All (IsOf hall.now) seats.old.items }
+    ensures seat { IfOk result (λ seated. IsOf hall.now seated.seat) }
+    ensures seats { All (IsOf hall.now) seats.new.items }
+{
+    let seat = last(hall, seats)?;
+    Ok(SeatedLoop { server, seat })
+}
+
 /// Gives each loop the last of the seats.
 pub(super) fn seat_loops(
     alloc: Global,
@@ -95,8 +108,7 @@ pub(super) fn seat_loops(
 {
     let mut loops = Vec::new(alloc);
     for server in servers {
-        let seat = last(hall, seats)?;
-        loops.push(SeatedLoop { server, seat })?;
+        loops.push(seated(hall, server, seats)?)?;
     }
     Ok(loops)
 }
