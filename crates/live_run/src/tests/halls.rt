@@ -18,8 +18,9 @@ use test_support::same;
 
 fn catalogue(alloc: Global) -> Result<Catalogue, Fail> {
     let mut names = Vec::new(alloc);
-    names.push(String::from_str(alloc, "a")?)?;
-    names.push(String::new(alloc))?;
+    for text in ["a", ""] {
+        names.push(String::from_str(alloc, text)?)?;
+    }
     Ok(Catalogue::new(alloc, names)?)
 }
 
