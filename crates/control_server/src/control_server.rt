@@ -154,28 +154,9 @@ impl ControlServer {
         ) {
             self.queue = self.queue.reported();
         }
-        self.accept_or_close(context, seats, now);
+        self.accept(context, seats, now);
         self.sessions.drain(now);
         polled
-    }
-
-    fn accept_or_close<R: Wait, P: Probe, K: Keep, F: Fn(Rule) -> Result<P, AllocError>>(
-        &mut self,
-        context: &Context<'_, R, P, K, F>,
-        seats: &mut [Seat<P, K>],
-        now: Instant,
-    )
-        requires ours { All (IsOf context.now.hall.now) seats.old }
-        requires callable { F.IsAlwaysCallable context.now.make.now }
-        requires asked { MakesAsked P.rule P.memory (F.post context.now.make.now) }
-        ensures met { SeatsHaveMet context.now.hall.now.names seats.old seats.new }
-        ensures ours { All (IsOf context.now.hall.now) seats.new }
-    {
-        if context.news.has_ended() {
-            self.close(now);
-        } else {
-            self.accept(context, seats, now);
-        }
     }
 
     /// Whether no connection is accepted any more.
@@ -194,6 +175,7 @@ impl ControlServer {
         }
     }
 
+    /// Accepts connections that wait, or, once all is to end, no more.
     fn accept<R: Wait, P: Probe, K: Keep, F: Fn(Rule) -> Result<P, AllocError>>(
         &mut self,
         context: &Context<'_, R, P, K, F>,
@@ -206,6 +188,9 @@ impl ControlServer {
         ensures met { SeatsHaveMet context.now.hall.now.names seats.old seats.new }
         ensures ours { All (IsOf context.now.hall.now) seats.new }
     {
+        if context.news.has_ended() {
+            return self.close(now);
+        }
         self.queue = self.queue.retried(now);
         for _ in 0..MOST_ACCEPTED {
             if self.queue != Queue::Waiting || context.news.has_ended() {

@@ -16,7 +16,7 @@ use std::sync::atomic::Ordering;
 /// A session's console over a hall: it sees and changes the registry by a seat, which it is lent, and wakes the server's loops after
 /// each change that shows.
 ///
-/// Nobody else may make changes meanwhile: it looks before and behind a change whether a status differs.
+/// Nobody else may make changes meanwhile: it looks before and after a change whether a status differs.
 #[derive(Drop)]
 pub struct HallConsole<'a, R: Wait, P: Probe, K: Keep = KeepAll> {
     rt: &'a R,

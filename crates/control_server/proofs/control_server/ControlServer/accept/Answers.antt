@@ -6,3 +6,6 @@ loop-init g c = record { met = seats_unused _ _; ours = c.requires.ours }
 
 pub loop-preserved : goal.loop-preserved
 loop-preserved g c = record { met = seats_on _ _ _ _ c.loop.invariant.met c.accept_one.ensures.met; ours = c.accept_one.ensures.ours }
+
+pub returns-then-has_ended-clause-met : goal.returns-then-has_ended-clause-met
+returns-then-has_ended-clause-met g c = seats_unused _ _
