@@ -1,29 +1,9 @@
 -- The first line of what was given.
-use Rattle.std.proofs.Common.{ℕ, zero, suc, ◌≡◌, ◌≢◌, ◌+◌, ◌<◌, ◌==◌, Bool, true, false, List, [], ◌∷◌, length, drop, take, get_or, sym, refl, ap, ◌∙◌, arith, ⊎_elim}
+use Rattle.std.proofs.Common.{ℕ, zero, suc, ◌≡◌, ◌+◌, ◌<◌, ◌==◌, Bool, true, false, List, [], ◌∷◌, length, drop, take, get_or, sym, refl, ap, ◌∙◌, arith, ⊎_elim}
 use Rattle.std.specs.Prelude.{if◌then◌else◌, min, not}
-use Rattle.std.proofs.lemmas.Bool.{cases_lt, eq-eqb, eqb-true}
+use Rattle.std.proofs.lemmas.Bool.{cases_lt}
 use Rattle.std.proofs.lemmas.List.{drop_all}
-use Rattle.std.proofs.Math.Seq.{drop-cons}
 use Rattle.session.specs.Session.{first_line, behind_line, ends_open}
-
-is_not : (m n : ℕ) (b : Bool) → (m == n) ≡ b → m ≢ n → (m == n) ≡ false
-is_not m n true is not = absurd (not (eqb-true m n is))
-is_not m n false is not = is
-
--- a list that begins with LF, and one that does not
-ends_here : (c : ℕ) (rest : List ℕ) → c ≡ 10 → length (first_line (c ∷ rest)) ≡ 0
-ends_here c rest is = ap (λ (b : Bool). length (if b then [] else c ∷ first_line rest)) (eq-eqb c 10 is)
-
-goes_on : (c : ℕ) (rest : List ℕ) → c ≢ 10 → length (first_line (c ∷ rest)) ≡ 1 + length (first_line rest)
-goes_on c rest not = ap (λ (b : Bool). length (if b then [] else c ∷ first_line rest)) (is_not c 10 (c == 10) refl not) ∙ omega arith
-
--- LF ends the first line
-pub line_ends : (bytes : List ℕ) (place : ℕ) → place < length bytes → length (first_line bytes) ≡ place + length (first_line (drop place bytes)) → get_or bytes place 0 ≡ 10
-    → place ≡ length (first_line bytes)
-line_ends bytes place within so_far is =
-    let none : length (first_line (drop place bytes)) ≡ 0 =
-    ap (λ rest. length (first_line rest)) (drop-cons bytes place 0 within) ∙ ends_here (get_or bytes place 0) (drop (suc place) bytes) is in
-    omega (arith, so_far, none)
 
 -- the front of that length is the first line
 take_by : (b : Bool) (c : ℕ) (line rest : List ℕ) → take (length line) rest ≡ line → take (length (if b then [] else c ∷ line)) (c ∷ rest) ≡ (if b then [] else c ∷ line)

@@ -39,6 +39,7 @@
 mod answer;
 mod console;
 mod meeting;
+pub mod one_thread;
 mod request;
 mod session;
 mod stats;

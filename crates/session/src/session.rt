@@ -10,7 +10,7 @@ use probe_core::{Probe, Rule};
 use std::alloc::{AllocError, Global};
 use std::marker::Model;
 
-/// The most bytes of a line, and the LF behind it.
+/// The most bytes of a line, and the LF after it.
 const MOST_UNREAD: usize = 1_025;
 
 /// Room for each answer that tells what came of a change.
@@ -78,7 +78,7 @@ impl Session {
         count
     }
 
-    /// No more bytes come: what stands behind the last LF is a line too.
+    /// No more bytes come: what stands after the last LF is a line too.
     pub fn end(&mut self)
         ensures { self.new ≡ at_end self.old }
     {

@@ -1,2 +1,1 @@
 mod lines;
-mod one_thread;

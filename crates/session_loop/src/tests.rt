@@ -1,4 +1,3 @@
 mod memory;
-mod one_thread;
 mod streams;
 mod talks;

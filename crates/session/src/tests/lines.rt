@@ -1,4 +1,4 @@
-use crate::tests::one_thread::{OneThread, make_manual};
+use crate::one_thread::{OneThread, make_manual};
 use crate::{Answer, Session};
 use probe_core::Manual;
 use std::alloc::Global;

@@ -1,9 +1,9 @@
-use crate::tests::one_thread::{OneThread, make_manual};
 use crate::tests::streams::{Basin, Manner, Trickle};
 use crate::{Fate, turn};
 use event_loop::Link;
 use probe_core::Manual;
 use session::Session;
+use session::one_thread::{OneThread, make_manual};
 use std::alloc::Global;
 use std::test::Fail;
 use test_support::same;

@@ -1,16 +1,16 @@
-//! A registry of one thread, over which sessions are held. Its ghosts say little: the tests look at what it answers.
+//! A registry of one thread for tests, over which sessions are held. Its ghosts say little: the tests look at what it answers.
 
 ghost use Rattle.probe_core.specs.Made.{IsAsked};
 
+use crate::{Console, Counts, Ended, OpenNow, Stats};
 use desk_core::{Call, Catalogue, Desk, Refusal, Reply, board_entries};
 use health_wire::Serving;
 use probe_core::{Manual, Probe, Rule};
-use session::{Console, Counts, Ended, OpenNow, Stats};
 use std::alloc::{AllocError, Global};
 use std::test::Fail;
 
 /// A service that is set by hand. There is no memory for one of another rule.
-pub(super) fn make_manual(rule: Rule) -> Result<Manual, AllocError>
+pub fn make_manual(rule: Rule) -> Result<Manual, AllocError>
     ensures { IsAsked ⟦<Manual as Probe>⟧.rule ⟦<Manual as Probe>⟧.memory rule result }
 {
     match rule {
@@ -21,14 +21,14 @@ pub(super) fn make_manual(rule: Rule) -> Result<Manual, AllocError>
 
 /// A registry, which only this thread has.
 #[derive(Drop)]
-pub(super) struct OneThread<P: Probe> {
+pub struct OneThread<P: Probe> {
     catalogue: Catalogue,
     desk: Desk<P>,
 }
 
 impl<P: Probe> OneThread<P> {
     /// A registry of `a` and the empty name with room for four entries.
-    pub(super) fn new(alloc: Global) -> Result<OneThread<P>, Fail> {
+    pub fn new(alloc: Global) -> Result<OneThread<P>, Fail> {
         let mut names = Vec::new(alloc);
         for text in ["a", ""] {
             names.push(String::from_str(alloc, text)?)?;
