@@ -9,7 +9,7 @@ use crate::tests::full::fill;
 use crate::tests::halls::{Maker, Teller, counts_of, hall_of_a, seat_loops};
 use crate::tests::scenes::{Counts, Place};
 use crate::{SeatedLoop, serve_loops};
-use hall::Hall;
+use hall::{Hall, Seat};
 use live_server::News;
 use probe_core::Manual;
 use std::alloc::Global;
@@ -49,7 +49,7 @@ impl Scene<'_> {
 }
 
 /// Lets the loops serve while a scene is played, and tells all to end behind it.
-pub(super) fn serve_beside<R>(
+fn serve_beside<R>(
     rt: &R,
     alloc: Global,
     hall: &Hall<Manual>,
@@ -78,19 +78,51 @@ where
     )
 }
 
+/// The same, and tells what has become of the calls.
+pub(super) fn serve_scene<R>(
+    rt: &R,
+    alloc: Global,
+    hall: &Hall<Manual>,
+    loops: Vec<SeatedLoop<Manual>>,
+    addr: SocketAddr,
+    news: &News,
+    scene: Scene<'_>,
+) -> Result<Counts, Fail>
+where
+    R: Wait + Threads + Clock + Sync + Net<Stream = TcpStream>,
+    requires { All (λ seated. IsOf hall.now seated.seat) loops.items }
+{
+    let (loops, found) = serve_beside(rt, alloc, hall, loops, addr, news, scene);
+    found?;
+    counts_of(&loops)
+}
+
+/// Serves the clients of a scene by three loops that have the seats of the hall.
+fn serve_by<R>(
+    rt: &R,
+    alloc: Global,
+    hall: &Hall<Manual>,
+    seats: &mut Vec<Seat<Manual>>,
+    scene: Scene<'_>,
+) -> Result<Counts, Fail>
+where
+    R: Wait + Threads + Clock + Sync + Net<Listener = TcpListener, Stream = TcpStream>,
+    requires { All (IsOf hall.now) seats.old.items }
+{
+    let Place {
+        servers,
+        news,
+        addr,
+    } = Place::new(rt, alloc, 3)?;
+    let loops = seat_loops(alloc, hall, servers, seats)?;
+    serve_scene(rt, alloc, hall, loops, addr, &news, scene)
+}
+
 /// Serves the clients of a scene by three loops, and tells what has become of their calls.
 pub(super) fn serve_clients<R>(rt: &R, alloc: Global, scene: Scene<'_>) -> Result<Counts, Fail>
 where
     R: Wait + Threads + Clock + Sync + Net<Listener = TcpListener, Stream = TcpStream>,
 {
     let (hall, mut seats) = hall_of_a(rt, alloc, 4)?;
-    let Place {
-        servers,
-        news,
-        addr,
-    } = Place::new(rt, alloc, 3)?;
-    let loops = seat_loops(alloc, &hall, servers, &mut seats)?;
-    let (loops, found) = serve_beside(rt, alloc, &hall, loops, addr, &news, scene);
-    found?;
-    counts_of(&loops)
+    serve_by(rt, alloc, &hall, &mut seats, scene)
 }

@@ -1,9 +1,14 @@
-use crate::tests::beside::{Scene, serve_beside};
-use crate::tests::halls::{Maker, Teller, counts_of, hall_of_a, seat_loops};
+ghost use Rattle.std.specs.List.{All};
+ghost use Rattle.hall.specs.Seats.{IsOf};
+
+use crate::tests::beside::{Scene, serve_scene};
+use crate::tests::halls::{Maker, Teller, hall_of_a, seat_loops};
 use crate::tests::scenes::{Counts, Place, Watcher};
+use hall::{Hall, Seat};
 use live_server::News;
+use probe_core::Manual;
 use std::alloc::Global;
-use std::net::{Net, SocketAddr, TcpStream};
+use std::net::{Net, SocketAddr, TcpListener, TcpStream};
 use std::sync::Wait;
 use std::test::Fail;
 use std::thread;
@@ -71,27 +76,51 @@ pub(super) fn watch<R: Wait + Threads + Sync + Net<Stream = TcpStream>>(
     Ok(())
 }
 
-#[test]
-fn watchers_are_told_each_change_of_two_makers_in_order(rt: HostRuntime) -> Result<(), Fail> {
-    let alloc = rt.alloc();
-    let (hall, mut seats) = hall_of_a(&rt, alloc, 7)?;
+/// Two makers and a teller that have seats of the hall.
+fn scene_of<'a, R: Wait>(
+    rt: &R,
+    hall: &'a Hall<Manual>,
+    news: &'a News,
+    seats: &mut Vec<Seat<Manual>>,
+) -> Result<Scene<'a>, Fail>
+    requires { All (IsOf hall.now) seats.old.items }
+    ensures { All (IsOf hall.now) seats.new.items }
+{
+    let first = Maker::new(hall, news, seats)?;
+    let second = Maker::new(hall, news, seats)?;
+    let teller = Teller::new(rt, hall, seats)?;
+    Ok(Scene::Watch((first, second), teller))
+}
+
+/// Serves the watchers by three loops beside the makers, who all have seats of the hall.
+fn serve_watchers<R>(
+    rt: &R,
+    alloc: Global,
+    hall: &Hall<Manual>,
+    seats: &mut Vec<Seat<Manual>>,
+) -> Result<Counts, Fail>
+where
+    R: Wait + Threads + Clock + Sync + Net<Listener = TcpListener, Stream = TcpStream>,
+    requires { All (IsOf hall.now) seats.old.items }
+{
     let Place {
         servers,
         news,
         addr,
-    } = Place::new(&rt, alloc, 3)?;
-    let loops = seat_loops(alloc, &hall, servers, &mut seats)?;
-    let makers = (
-        Maker::new(&hall, &news, &mut seats)?,
-        Maker::new(&hall, &news, &mut seats)?,
-    );
-    let teller = Teller::new(&rt, &hall, &mut seats)?;
-    let scene = Scene::Watch(makers, teller);
-    let (loops, found) = serve_beside(&rt, alloc, &hall, loops, addr, &news, scene);
-    found?;
+    } = Place::new(rt, alloc, 3)?;
+    let scene = scene_of(rt, hall, &news, seats)?;
+    let loops = seat_loops(alloc, hall, servers, seats)?;
+    serve_scene(rt, alloc, hall, loops, addr, &news, scene)
+}
+
+#[test]
+fn watchers_are_told_each_change_of_two_makers_in_order(rt: HostRuntime) -> Result<(), Fail> {
+    let alloc = rt.alloc();
+    let (hall, mut seats) = hall_of_a(&rt, alloc, 7)?;
     let expected = Counts {
         ended: u64::from(WATCHERS),
         given_up: 0,
     };
-    same(&counts_of(&loops)?, &expected, &"calls")
+    let found = serve_watchers(&rt, alloc, &hall, &mut seats)?;
+    same(&found, &expected, &"calls")
 }

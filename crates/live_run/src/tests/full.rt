@@ -1,12 +1,19 @@
-use crate::tests::beside::{Scene, serve_beside};
-use crate::tests::halls::{Maker, counts_of, new_hall, register, seat_loops};
+ghost use Rattle.std.specs.List.{All};
+ghost use Rattle.hall.specs.Seats.{IsOf};
+
+use crate::tests::beside::{Scene, serve_scene};
+use crate::tests::halls::{Maker, new_hall, register, seat_loops};
 use crate::tests::scenes::{Counts, Place, Watcher, client, expect_end};
 use desk_core::{Refusal, Reply, Setting};
+use hall::{Hall, Seat};
 use live_server::News;
+use probe_core::Manual;
 use std::alloc::Global;
-use std::net::{Net, SocketAddr, TcpStream};
+use std::net::{Net, SocketAddr, TcpListener, TcpStream};
 use std::sync::Wait;
 use std::test::Fail;
+use std::thread::Threads;
+use std::time::Clock;
 use test_support::requests::{CHECK_OF_A, WATCH_OF_A};
 use test_support::same;
 
@@ -37,25 +44,37 @@ pub(super) fn fill<R: Wait + Net<Stream = TcpStream>>(
     second.expect_ended(alloc)
 }
 
-#[test]
-fn checks_and_watches_go_on_where_the_history_is_full(rt: HostRuntime) -> Result<(), Fail> {
-    let alloc = rt.alloc();
-    let (hall, mut seats) = new_hall(alloc, 3, 6)?;
-    register(&rt, &hall, &mut seats, "a")?;
-    register(&rt, &hall, &mut seats, "")?;
+/// Registers two services, and serves by two loops while the history becomes full.
+fn serve_full<R>(
+    rt: &R,
+    alloc: Global,
+    hall: &Hall<Manual>,
+    seats: &mut Vec<Seat<Manual>>,
+) -> Result<Counts, Fail>
+where
+    R: Wait + Threads + Clock + Sync + Net<Listener = TcpListener, Stream = TcpStream>,
+    requires { All (IsOf hall.now) seats.old.items }
+{
+    register(rt, hall, seats, "a")?;
+    register(rt, hall, seats, "")?;
     let Place {
         servers,
         news,
         addr,
-    } = Place::new(&rt, alloc, 2)?;
-    let loops = seat_loops(alloc, &hall, servers, &mut seats)?;
-    let maker = Maker::new(&hall, &news, &mut seats)?;
-    let scene = Scene::Fill(maker);
-    let (loops, found) = serve_beside(&rt, alloc, &hall, loops, addr, &news, scene);
-    found?;
+    } = Place::new(rt, alloc, 2)?;
+    let maker = Maker::new(hall, &news, seats)?;
+    let loops = seat_loops(alloc, hall, servers, seats)?;
+    serve_scene(rt, alloc, hall, loops, addr, &news, Scene::Fill(maker))
+}
+
+#[test]
+fn checks_and_watches_go_on_where_the_history_is_full(rt: HostRuntime) -> Result<(), Fail> {
+    let alloc = rt.alloc();
+    let (hall, mut seats) = new_hall(alloc, 3, 6)?;
     let expected = Counts {
         ended: 3,
         given_up: 0,
     };
-    same(&counts_of(&loops)?, &expected, &"calls")
+    let found = serve_full(&rt, alloc, &hall, &mut seats)?;
+    same(&found, &expected, &"calls")
 }

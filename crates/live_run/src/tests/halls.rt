@@ -18,9 +18,8 @@ use test_support::same;
 
 fn catalogue(alloc: Global) -> Result<Catalogue, Fail> {
     let mut names = Vec::new(alloc);
-    for text in ["a", ""] {
-        names.push(String::from_str(alloc, text)?)?;
-    }
+    names.push(String::from_str(alloc, "a")?)?;
+    names.push(String::new(alloc))?;
     Ok(Catalogue::new(alloc, names)?)
 }
 

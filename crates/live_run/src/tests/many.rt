@@ -1,7 +1,7 @@
 //! As many Watches as all loops may hold together, which a session counts.
 
 use crate::tests::scenes::Watcher;
-use crate::tests::sessions::{Addresses, run_beside};
+use crate::tests::sessions::{Addresses, SCRIPT, run_beside};
 use crate::tests::talks::{Talk, Talker};
 use std::alloc::Global;
 use std::net::{Net, TcpStream};
@@ -61,6 +61,6 @@ pub(super) fn many<R: Wait + Clock + Net<Stream = TcpStream>>(
 
 #[test]
 fn a_session_counts_the_watches_that_are_open(rt: HostRuntime) -> Result<(), Fail> {
-    let ran = run_beside(&rt, rt.alloc(), Talk::Many)?;
-    same(&ran.entries(), &3, &"entries")
+    let found = run_beside(&rt, rt.alloc(), SCRIPT, Talk::Many)?;
+    same(&found.entries, &3, &"entries")
 }

@@ -1,6 +1,7 @@
-use crate::tests::runs::{SCRIPT, manual, set_up};
+use crate::RunFault;
+use crate::tests::ready::Ready;
+use crate::tests::runs::{SCRIPT, set_up};
 use crate::tests::scenes::Place;
-use crate::{RunFault, run_live};
 use std::alloc::Global;
 use std::net::{Net, TcpListener, TcpStream};
 use std::sync::Wait;
@@ -15,29 +16,39 @@ const ROOM: usize = 114_688;
 
 const STEP: usize = 4_096;
 
+/// A run for which there is so much memory of the room left, and whether that was enough.
+fn run_leaving<R: Wait + Threads + Clock + Sync>(
+    ready: Ready<'_, R>,
+    scarcity: &Scarcity,
+    left: usize,
+) -> Result<bool, Fail> {
+    let filler = scarcity.leave(left)?;
+    let ran = ready.run();
+    drop(filler);
+    match ran {
+        Ok(ran) => same(&ran.entries(), &4, &left).map(|()| true),
+        Err(fault) => same(&fault, &RunFault::NoMemory, &left).map(|()| false),
+    }
+}
+
 /// Runs a hall that is to end at once with so much memory left, and tells whether there was enough.
 fn runs_in<R>(rt: &R, alloc: Global, left: usize) -> Result<bool, Fail>
 where
     R: Wait + Threads + Clock + Sync + Net<Listener = TcpListener, Stream = TcpStream>,
 {
-    let (made, _) = set_up(rt, alloc, SCRIPT, 3)?;
     let Place { servers, news, .. } = Place::new(rt, alloc, 2)?;
     news.end();
+    let (made, _) = set_up(rt, alloc, SCRIPT, 3)?;
+    let ready = Ready {
+        rt,
+        alloc,
+        made,
+        servers,
+        control: None,
+        news: &news,
+    };
     let scarcity = Scarcity::new(alloc, ROOM)?;
-    let filler = scarcity.leave(left)?;
-    let ran = run_live(rt, alloc, made, servers, None, &|rule| manual(rule), &news);
-    drop(filler);
-    drop(scarcity);
-    match ran {
-        Ok(ran) => {
-            same(&ran.entries(), &4, &left)?;
-            Ok(true)
-        }
-        Err(fault) => {
-            same(&fault, &RunFault::NoMemory, &left)?;
-            Ok(false)
-        }
-    }
+    run_leaving(ready, &scarcity, left)
 }
 
 #[test]

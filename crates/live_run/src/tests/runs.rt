@@ -1,9 +1,10 @@
 ghost use Rattle.std.specs.Prelude.{◌≤◌, IfOk};
 ghost use Rattle.probe_core.specs.Made.{IsAsked};
 
-use crate::tests::ready::Ready;
-use crate::tests::scenes::{Counts, Place, Watcher, expect_checked};
-use crate::{Ran, RefusedLine, RunFault, first_refused};
+use crate::tests::scenes::{Counts, Watcher, expect_checked};
+use crate::tests::sessions::{Outcome, run_beside};
+use crate::tests::talks::Talk;
+use crate::{RefusedLine, first_refused};
 use desk_core::{KeepMany, Reply};
 use live_server::News;
 use probe_core::{Manual, Probe, Rule};
@@ -13,9 +14,6 @@ use std::alloc::{AllocError, Global};
 use std::net::{Net, SocketAddr, TcpStream};
 use std::sync::Wait;
 use std::test::Fail;
-use std::thread;
-use std::thread::Threads;
-use std::time::Clock;
 use test_support::requests::{CHECK_OF_A, WATCH_OF_A};
 use test_support::same;
 
@@ -65,7 +63,7 @@ pub(super) fn set_up<R: Wait>(
 }
 
 /// Asks a Check and a Watch, and ends all while the Watch is open.
-fn ask<R: Net<Stream = TcpStream>>(
+pub(super) fn ask<R: Net<Stream = TcpStream>>(
     rt: &R,
     alloc: Global,
     addr: SocketAddr,
@@ -78,74 +76,18 @@ fn ask<R: Net<Stream = TcpStream>>(
     watcher.expect_ended(alloc)
 }
 
-/// A client that asks a Check and a Watch, and ends all.
-#[derive(Drop)]
-struct Client<'a, R> {
-    rt: &'a R,
-    alloc: Global,
-    addr: SocketAddr,
-    news: &'a News,
-}
-
-impl<R: Net<Stream = TcpStream>> Client<'_, R> {
-    fn ask(self) -> Result<(), Fail> {
-        let found = ask(self.rt, self.alloc, self.addr, self.news);
-        self.news.end();
-        found
-    }
-}
-
-/// Runs the hall by the loops, and asks.
-fn run_and_ask<R: Wait + Threads + Clock + Sync + Net<Stream = TcpStream>>(
-    ready: Ready<'_, R>,
-    addr: SocketAddr,
-) -> (Result<Ran<Manual, KeepMany>, RunFault>, Result<(), Fail>) {
-    let rt = ready.rt;
-    let client = Client {
-        rt,
-        alloc: ready.alloc,
-        addr,
-        news: ready.news,
-    };
-    thread::join(
-        rt,
-        move || -> Result<Ran<Manual, KeepMany>, RunFault> { ready.run() },
-        move || client.ask(),
-    )
-}
-
 #[test]
 fn runs_what_a_script_has_set_up(rt: HostRuntime) -> Result<(), Fail> {
-    let alloc = rt.alloc();
-    let (made, refused) = set_up(&rt, alloc, SCRIPT, 6)?;
-    same(&refused, &None, &"the setup")?;
-    let Place {
-        servers,
-        news,
-        addr,
-    } = Place::new(&rt, alloc, 3)?;
-    let ready = Ready {
-        rt: &rt,
-        alloc,
-        made,
-        servers,
-        control: None,
-        news: &news,
+    let found = run_beside(&rt, rt.alloc(), SCRIPT, Talk::Calls)?;
+    let expected = Outcome {
+        entries: 4,
+        loops: 2,
+        calls: Counts {
+            ended: 2,
+            given_up: 0,
+        },
     };
-    let (ran, found) = run_and_ask(ready, addr);
-    found?;
-    let ran = ran?;
-    same(&ran.entries(), &4, &"entries")?;
-    same(&ran.servers.len(), &3, &"loops")?;
-    let mut counts = Counts::NONE;
-    for server in &ran.servers {
-        counts = counts.and(server)?;
-    }
-    let expected = Counts {
-        ended: 2,
-        given_up: 0,
-    };
-    same(&counts, &expected, &"calls")
+    same(&found, &expected, &"a run")
 }
 
 #[test]

@@ -4,7 +4,7 @@ ghost use Rattle.std.specs.Prelude.{◌≤◌};
 
 use crate::tests::ready::Ready;
 use crate::tests::runs::set_up;
-use crate::tests::scenes::Place;
+use crate::tests::scenes::{Counts, Place};
 use crate::tests::talks::Talk;
 use crate::{Ran, RunFault};
 use control_place::ControlListener;
@@ -21,7 +21,7 @@ use std::thread;
 use std::thread::Threads;
 use std::time::Clock;
 
-const SCRIPT: &[u8] = b"catalogue a b -
+pub(super) const SCRIPT: &[u8] = b"catalogue a b -
 max 10000
 register a manual
 register - manual
@@ -70,7 +70,9 @@ struct Clients<'a, R> {
 
 impl<R: Wait + Clock + Net<Stream = TcpStream>> Clients<'_, R> {
     fn talk(self) -> Result<(), Fail> {
-        let found = self.talk.play(self.rt, self.alloc, self.addresses);
+        let found = self
+            .talk
+            .play(self.rt, self.alloc, self.addresses, self.news);
         self.news.end();
         found
     }
@@ -97,16 +99,41 @@ fn run_and_talk<R: Wait + Threads + Clock + Sync + Net<Stream = TcpStream>>(
     )
 }
 
-/// What is left of a run beside which the clients talked.
+/// What a run has come to.
+#[derive(Clone, Copy, Debug, PartialEq, Eq)]
+pub(super) struct Outcome {
+    /// How many entries its history has.
+    pub(super) entries: u32,
+    /// How many loops came back.
+    pub(super) loops: usize,
+    pub(super) calls: Counts,
+}
+
+fn outcome_of(ran: &Result<Ran<Manual, KeepMany>, RunFault>) -> Result<Outcome, Fail> {
+    let Ok(ran) = ran else {
+        return Err(Fail::new("no run"));
+    };
+    let mut calls = Counts::NONE;
+    for server in &ran.servers {
+        calls = calls.and(server)?;
+    }
+    Ok(Outcome {
+        entries: ran.entries(),
+        loops: ran.servers.len(),
+        calls,
+    })
+}
+
+/// What a run comes to, set up by the script, beside which the clients talked.
 pub(super) fn run_beside<R>(
     rt: &R,
     alloc: Global,
+    script: &[u8],
     talk: Talk,
-) -> Result<Ran<Manual, KeepMany>, Fail>
+) -> Result<Outcome, Fail>
 where
     R: Wait + Threads + Clock + Files + Sync + Net<Listener = TcpListener, Stream = TcpStream>,
 {
-    let (made, _) = set_up(rt, alloc, SCRIPT, u16::from(LOOPS) + 1 + MAX_SESSIONS)?;
     let Place {
         servers,
         news,
@@ -117,15 +144,21 @@ where
         calls: addr,
         sessions,
     };
+    let control = if talk == Talk::Calls {
+        None
+    } else {
+        Some(control)
+    };
+    let (made, _) = set_up(rt, alloc, script, u16::from(LOOPS) + 1 + MAX_SESSIONS)?;
     let ready = Ready {
         rt,
         alloc,
         made,
         servers,
-        control: Some(control),
+        control,
         news: &news,
     };
-    let (ran, found) = run_and_talk(ready, talk, addresses);
-    found?;
-    Ok(ran?)
+    let (ran, talked) = run_and_talk(ready, talk, addresses);
+    talked?;
+    outcome_of(&ran)
 }

@@ -1,8 +1,10 @@
 //! What clients of a run say in sessions, and what they are answered.
 
 use crate::tests::many::many;
+use crate::tests::runs::ask;
 use crate::tests::scenes::{Watcher, expect_checked};
-use crate::tests::sessions::{Addresses, run_beside};
+use crate::tests::sessions::{Addresses, SCRIPT, run_beside};
+use live_server::News;
 use std::alloc::Global;
 use std::io::{ErrorKind, Read, Write};
 use std::net::{Net, Shutdown, SocketAddr, TcpStream};
@@ -79,6 +81,8 @@ impl Talker {
 /// What clients do beside a run.
 #[derive(Clone, Copy, Debug, PartialEq, Eq)]
 pub(super) enum Talk {
+    /// A Check, and a Watch that is open at the end of a run without a place for sessions.
+    Calls,
     /// A session of all kinds of lines, beside a Watch.
     Rows,
     /// Two sessions that set a service, and a Watch of it.
@@ -97,8 +101,10 @@ impl Talk {
         rt: &R,
         alloc: Global,
         addresses: Addresses,
+        news: &News,
     ) -> Result<(), Fail> {
         match self {
+            Talk::Calls => ask(rt, alloc, addresses.calls, news),
             Talk::Rows => rows(rt, alloc, addresses),
             Talk::Two => two(rt, alloc, addresses),
             Talk::Same => same_name(rt, alloc, addresses),
@@ -157,8 +163,8 @@ fn rows<R: Wait + Clock + Net<Stream = TcpStream>>(
 
 #[test]
 fn a_session_is_answered_line_by_line_and_stops_the_run(rt: HostRuntime) -> Result<(), Fail> {
-    let ran = run_beside(&rt, rt.alloc(), Talk::Rows)?;
-    same(&ran.entries(), &7, &"entries")
+    let found = run_beside(&rt, rt.alloc(), SCRIPT, Talk::Rows)?;
+    same(&found.entries, &7, &"entries")
 }
 
 fn is_one_of(line: &[u8], answers: &[&[u8]]) -> bool {
@@ -209,8 +215,8 @@ fn two<R: Net<Stream = TcpStream>>(
 
 #[test]
 fn two_sessions_change_one_service_side_by_side(rt: HostRuntime) -> Result<(), Fail> {
-    let ran = run_beside(&rt, rt.alloc(), Talk::Two)?;
-    same(&ran.entries(), &2_002, &"entries")
+    let found = run_beside(&rt, rt.alloc(), SCRIPT, Talk::Two)?;
+    same(&found.entries, &2_002, &"entries")
 }
 
 /// Two sessions, one of which registers `b` while the other retires it, and a third that checks it.
@@ -237,8 +243,8 @@ fn same_name<R: Net<Stream = TcpStream>>(
 
 #[test]
 fn a_service_is_registered_and_retired_while_others_look(rt: HostRuntime) -> Result<(), Fail> {
-    let ran = run_beside(&rt, rt.alloc(), Talk::Same)?;
-    same(&ran.entries(), &2_002, &"entries")
+    let found = run_beside(&rt, rt.alloc(), SCRIPT, Talk::Same)?;
+    same(&found.entries, &2_002, &"entries")
 }
 
 /// Sessions in pieces, with bad lines, and one too many.
@@ -292,6 +298,6 @@ fn seventeen<R: Wait + Clock + Net<Stream = TcpStream>>(
 
 #[test]
 fn sessions_are_cut_anywhere_and_are_sixteen_at_most(rt: HostRuntime) -> Result<(), Fail> {
-    let ran = run_beside(&rt, rt.alloc(), Talk::Limits)?;
-    same(&ran.entries(), &7, &"entries")
+    let found = run_beside(&rt, rt.alloc(), SCRIPT, Talk::Limits)?;
+    same(&found.entries, &7, &"entries")
 }
