@@ -95,7 +95,7 @@ all_entries calls made journal whole is =
 no_fault : (loops seats : ℕ) → 1 ≤ loops → loops < seats → run_fault loops seats ≡ None
 no_fault loops seats some enough = grind (arith, nat_tests, some, enough)
 
--- so that only memory can be wanting
+-- so that only an allocation can have failed
 only_memory : (calls : List (Option Call)) (made : SetUpState) (fault : RunFault) → IsWhollySetUp calls made → IsLaterFault made fault → fault ≡ faults.NoMemory
 only_memory calls made _ whole NoMemoryLater = refl
 only_memory calls made _ whole (SeatsMissingLater missing) = absurd (missing whole.all)
@@ -104,8 +104,8 @@ only_memory calls made _ whole (SeatsMissingLater missing) = absurd (missing who
 no_such_fault : (X : Type 0) (loops seats : ℕ) → 1 ≤ loops → loops < seats → IfNone (run_fault loops seats) X → X
 no_such_fault X loops seats some enough holds = subst (λ (fault : Option RunFault). IfNone fault X) (no_fault loops seats some enough) holds
 
--- so that memory was wanting where loops that have seats each were not run
-pub memory_wanting : (calls : List (Option Call)) (made : SetUpState) (loops : ℕ) (fault : RunFault) → IsWhollySetUp calls made → 1 ≤ loops → loops < made.hall.seats
+-- so that an allocation failed where loops that have seats each were not run
+pub out_of_memory : (calls : List (Option Call)) (made : SetUpState) (loops : ℕ) (fault : RunFault) → IsWhollySetUp calls made → 1 ≤ loops → loops < made.hall.seats
     → IfNone (run_fault loops (length made.seats)) (IsLaterFault made fault) → fault ≡ faults.NoMemory
-memory_wanting calls made loops fault whole some enough failed =
+out_of_memory calls made loops fault whole some enough failed =
     only_memory calls made fault whole (no_such_fault _ loops (length made.seats) some (omega (arith, enough, whole.all)) failed)

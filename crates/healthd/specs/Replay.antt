@@ -13,7 +13,7 @@ pub record Replays (bytes output : List ℕ) : Type 0 where
   pub is : IsScript Replay bytes script
   pub runs : IsScriptRun script output
 
--- a fault that ends a replay of the bytes: their own first one as a script, or want of memory
+-- a fault that ends a replay of the bytes: their own first one as a script, or out of memory
 abbrev pub EndsReplay : List ℕ → Fault → Type 0
 EndsReplay bytes BadHex = ⊥
 EndsReplay bytes BadService = ⊥

@@ -45,7 +45,7 @@ pub record IsRefusedLine (bytes : List ℕ) (line : RefusedLine) : Type 0 where
   pub alone : AreMadeAlone script.max (line_changes script.names script.lines) results
   pub first : IsFirstRefused script.numbers results line
 
--- a failure of the setup: the first fault of the bytes as a script, the first line that is refused, or want of memory
+-- a failure of the setup: the first fault of the bytes as a script, the first line that is refused, or out of memory
 abbrev pub EndsSetUp : List ℕ → RunFailure → Type 0
 EndsSetUp bytes (Read source cause) = ⊥
 EndsSetUp bytes (Script fault) = IsScriptFault Run bytes fault

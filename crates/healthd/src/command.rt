@@ -27,11 +27,11 @@ A script names the services, says how many changes there may be, and registers t
   register - depends db api
 
 The word - is the empty name, which is the whole server's. A line that begins with # is a comment. \
-Behind max there may be these lines, in any order:
+After max there may be these lines, in any order:
 
   register NAME threshold F [R [unknown]]
-      down after F failures in a row, until R passes in a row, 1 without R;
-      with unknown, neither up nor down before the first of them
+      down from F failures in a row until R passes in a row (R is 1 if omitted);
+      with unknown, its status is UNKNOWN until its first pass or fail
   register NAME manual
   register NAME depends NAME..
       up where all of these services are
@@ -41,7 +41,8 @@ Behind max there may be these lines, in any order:
   up NAME, down NAME
       for a manual service
   shutdown
-      no service is up, and none hears anything, until a line resume
+      every service is NOT_SERVING, and pass, fail, up and down are ignored,
+      until resume
   resume
       each service begins anew
 
@@ -49,14 +50,14 @@ A change that is not answered done or replaced ends the run before anything list
 
 const TELL_HELP: &str = "\
 Each line has one answer, which is printed before the next line is sent; a line without a byte has none. \
-The exit status is 3 where an answer is one of
+The exit status is 3 if an answer is one of
 
   refused .., missing, wrong kind
       no service was changed
   bad line, line too long
-      the line is none
+      the line was not understood
 
-and 0 where there is no such answer.";
+and 0 if there is no such answer.";
 
 /// The command line. A command that is not listed here is refused with clap's text.
 pub fn command<'a>(alloc: Global) -> Result<Command<'a>, AllocError> {
@@ -82,11 +83,11 @@ fn with_scripts<'a>(alloc: Global) -> Result<Command<'a>, AllocError> {
 
 fn body<'a>(alloc: Global) -> Result<Command<'a>, AllocError> {
     let hex = Arg::new(alloc, "HEX")
-        .help("The body of a Check's request, in hexadecimal, as 0000000000")
+        .help("The body of a Check's request, in hexadecimal, e.g. 0000000000")
         .required(true);
     let services = Arg::new(alloc, "SERVICE")
         .help(
-            "A service and its status, as api=serving, api=not_serving or api=unknown; of two with one name the first counts",
+            "A service and its status, e.g. api=serving, api=not_serving or api=unknown; of two with one name the first counts",
         )
         .action(ArgAction::Append)
         .num_args(0..)
@@ -101,13 +102,13 @@ fn serve<'a>(alloc: Global) -> Result<Command<'a>, AllocError> {
     let workers = Arg::new(alloc, "workers")
         .long("workers")
         .value_name("W")
-        .help("How many calls are served at once, 1 to 64, as 4; an open Watch counts")
+        .help("How many calls are served at once, 1 to 64, e.g. 4; an open Watch counts")
         .required(true)
         .value_parser(value_parser!(u16).range(1..=i64::from(MAX_WORKERS)));
     let calls = Arg::new(alloc, "calls")
         .long("calls")
         .value_name("N")
-        .help("How many connections are served before the server ends, 1 to 1000, as 10")
+        .help("How many connections are served before the server ends, 1 to 1000, e.g. 10")
         .required(true)
         .value_parser(value_parser!(u16).range(1..=1_000));
     Command::new(alloc, "serve")
@@ -121,12 +122,12 @@ fn run<'a>(alloc: Global) -> Result<Command<'a>, AllocError> {
     let script = Arg::new(alloc, "script")
         .long("script")
         .value_name("FILE")
-        .help("The script of the setup, as /etc/healthd; without it standard input to its end");
+        .help("The script of the setup, e.g. /etc/healthd; without it standard input to its end");
     let threads = Arg::new(alloc, "threads")
         .long("threads")
         .value_name("T")
         .help(
-            "How many event loops serve, 1 to 64, as 4; without it as many as there are processors, 64 at most; there are no more than connections",
+            "How many event loops serve, 1 to 64, e.g. 4; without it as many as there are processors, 64 at most; there are no more than connections",
         )
         .value_parser(value_parser!(u16).range(1..=i64::from(MAX_LOOPS)));
     Command::new(alloc, "run")
@@ -144,7 +145,7 @@ fn listen<'a>(alloc: Global) -> Arg<'a> {
     Arg::new(alloc, "listen")
         .long("listen")
         .value_name("ADDR")
-        .help("Where calls are answered: an address and a port, as 0.0.0.0:8080 or [::1]:8080")
+        .help("Where calls are answered: an address and a port, e.g. 0.0.0.0:8080 or [::1]:8080")
         .default_value("127.0.0.1:8080")
 }
 
@@ -153,7 +154,7 @@ fn control<'a>(alloc: Global) -> Arg<'a> {
         .long("control")
         .value_name("PLACE")
         .help(
-            "Where changes are asked for, as by healthd tell: a loopback address and a port, as 127.0.0.1:8081, or a path of a Unix socket that only its owner may open, as /run/healthd.sock; without it there are no changes after the script's",
+            "Where changes are asked for, as by healthd tell: a loopback address and a port, e.g. 127.0.0.1:8081, or a path of a Unix socket that only its owner may open, e.g. /run/healthd.sock; without it there are no changes after the script's",
         )
 }
 
@@ -161,7 +162,7 @@ fn connections<'a>(alloc: Global) -> Arg<'a> {
     Arg::new(alloc, "connections")
         .long("connections")
         .value_name("C")
-        .help("How many connections are open at once, 1 to 1000000, as 500; later ones wait")
+        .help("How many connections are open at once, 1 to 1000000, e.g. 500; later ones wait")
         .default_value("10000")
         .value_parser(value_parser!(u32).range(1..=MAX_CONNECTIONS))
 }
@@ -171,7 +172,7 @@ fn watches<'a>(alloc: Global) -> Arg<'a> {
         .long("watches")
         .value_name("W")
         .help(
-            "How many of them may be open Watches, 0 to C, as 400; without it nine tenths of C. One that is opened beyond them is told its status and ended",
+            "How many of them may be open Watches, 0 to C, e.g. 400; without it nine tenths of C. One that is opened beyond them is told its status and ended",
         )
         .value_parser(value_parser!(u32).range(0..=MAX_CONNECTIONS))
 }
@@ -199,7 +200,7 @@ fn host<'a>(alloc: Global) -> Arg<'a> {
     Arg::new(alloc, "host")
         .long("host")
         .value_name("ADDR")
-        .help("The IP address of the server, as 192.0.2.7 or ::1")
+        .help("The IP address of the server, e.g. 192.0.2.7 or ::1")
         .default_value(HOST)
 }
 
@@ -208,7 +209,7 @@ fn name<'a>(alloc: Global) -> Arg<'a> {
         .long("name")
         .value_name("NAME")
         .help(
-            "The service to ask for, as my.package.Service; without it the empty name, which is the whole server",
+            "The service to ask for, e.g. my.package.Service; without it the empty name, which is the whole server",
         )
         .allow_hyphen_values(true)
 }
@@ -218,7 +219,7 @@ fn watch<'a>(alloc: Global) -> Arg<'a> {
         .long("watch")
         .value_name("N")
         .help(
-            "Watch the service for at most so many statuses, 1 to 1000, as 3; without it one Check",
+            "Watch the service for at most so many statuses, 1 to 1000, e.g. 3; without it one Check",
         )
         .value_parser(value_parser!(u32).range(1..=1_000))
 }
@@ -228,7 +229,7 @@ fn timeout<'a>(alloc: Global) -> Arg<'a> {
         .long("timeout")
         .value_name("S")
         .help(
-            "How many seconds the whole call may take, 1 to 3600, as 5; without it there is no limit",
+            "How many seconds the whole call may take, 1 to 3600, e.g. 5; without it there is no limit",
         )
         .value_parser(value_parser!(u16).range(1..=3_600))
 }
@@ -238,7 +239,7 @@ fn expect<'a>(alloc: Global) -> Arg<'a> {
         .long("expect")
         .value_name("STATUS")
         .help(
-            "End with exit status 3 unless the last status is this one, as SERVING, and a Check ended with grpc-status 0",
+            "End with exit status 3 unless the last status is this one, e.g. SERVING, and a Check ended with grpc-status 0",
         )
         .value_parser(STATUS_NAMES.as_slice())
 }
@@ -258,11 +259,11 @@ fn tell<'a>(alloc: Global) -> Result<Command<'a>, AllocError> {
         .long("control")
         .value_name("PLACE")
         .help(
-            "Where the server takes changes: an address of this machine and a port, as 127.0.0.1:8081, or the path of a Unix socket, as /run/healthd",
+            "Where the server takes changes: a loopback address and a port, e.g. 127.0.0.1:8081, or the path of a Unix socket, e.g. /run/healthd",
         )
         .required(true);
     let words = Arg::new(alloc, "WORD")
-        .help("The words of one line, as fail db; without them the lines of standard input")
+        .help("The words of one line, e.g. fail db; without them the lines of standard input")
         .action(ArgAction::Append)
         .num_args(0..)
         .allow_hyphen_values(true);
@@ -283,7 +284,7 @@ fn bad_tell(alloc: Global, message: &str) -> Result<clap::Error, AllocError> {
 /// The text is no place of a server that takes changes.
 pub fn bad_place(alloc: Global, text: &str) -> Result<clap::Error, AllocError> {
     let message = format!(in alloc;
-        "invalid value '{text}' for '--control <PLACE>': not an address of this machine and a port, nor the path of a socket"
+        "invalid value '{text}' for '--control <PLACE>': not a loopback address and a port, nor the path of a socket"
     )?;
     bad_tell(alloc, &message)
 }
@@ -300,7 +301,7 @@ fn port<'a>(alloc: Global) -> Arg<'a> {
     Arg::new(alloc, "port")
         .long("port")
         .value_name("P")
-        .help("The port of the server, 1 to 65535, as 8080")
+        .help("The port of the server, 1 to 65535, e.g. 8080")
         .required(true)
         .value_parser(value_parser!(u16).range(1..))
 }

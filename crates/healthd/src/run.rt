@@ -134,7 +134,7 @@ fn script_bytes<'a, R: Input + Files>(
     }
 }
 
-/// A hall that the script has set up, with so many seats. It keeps the newest of its entries and changes.
+/// A hall that the script has set up, with so many seats. It keeps the newest of its entries and status changes.
 fn set_up<'a, R: Wait, P: Probe, F: Fn(Rule) -> Result<P, AllocError>>(
     rt: &R,
     alloc: Global,
