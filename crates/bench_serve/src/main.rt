@@ -1,10 +1,10 @@
 //! Times the server over loopback.
 //!
 //! - `bench_serve CONNECTIONS` serves so many connections, one Check each, to each number of clients, by the server that ends and by
-//!   the one without an end, and prints how many requests there were in a second and how long one took.
-//! - `bench_serve WATCHES watches` opens so many Watches on the server without an end, and prints what memory they take, how long a
+//!   the one that runs until it is told to end, and prints how many requests there were in a second and how long one took.
+//! - `bench_serve WATCHES watches` opens so many Watches on the server that runs until it is told to end, and prints what memory they take, how long a
 //!   change takes to reach them all, and how long Checks take beside them.
-//! - `bench_serve CALLS memory` makes so many Checks and changes on the server without an end, and prints the memory of the process.
+//! - `bench_serve CALLS memory` makes so many Checks and changes on that server, and prints the memory of the process.
 //!
 //! Asked for anything else, it prints nothing.
 #![tactic(auto)]

@@ -10,7 +10,7 @@ use std::alloc::{AllocError, Global};
 /// The ends of so many calls in the order of their numbers, from a report of each.
 ///
 /// It takes time for each call and each report once. Only where it finds no memory does it compare each report with those before
-/// it, so that want of memory hides no other fault.
+/// it, so that running out of memory hides no other fault.
 pub fn gather(
     alloc: Global,
     expected: u32,

@@ -9,7 +9,7 @@ ghost use Rattle.crew.specs.declared.crew_why.CrewWhy.{CrewWhy};
 ghost use Rattle.crew.specs.declared.crew_why.CrewWhy.TheVariants.{NoMemory};
 ghost use Rattle.crew.specs.Gather.{IsGathered, Fails, numbers_of};
 
-/// Reports are gathered in one way at most, or fail for one reason. Want of memory is the reason of those that can be gathered.
+/// Reports are gathered in one way at most, or fail for one reason. Those that can be gathered fail only out of memory.
 pub fn one_gathering()
     ensures ends { (expected : ℕ) (reports : List (ℕ × CallEnd)) (ends others : List CallEnd)
         → IsGathered expected reports ends → IsGathered expected reports others → ends ≡ others }

@@ -306,7 +306,7 @@ has_answered old new seat call reply lawful below reply_is is most = record {
   answer = Taken call reply lawful (rw (length-reverse old.journal) below) reply_is (ap past is ∙ past_more old.journal (entry_of seat call reply));
 }
 
--- a lawful change that memory was wanting for, at a journal that is not full
+-- a lawful change for which an allocation failed, at a journal that is not full
 pub unanswered : (old inside new : State) (seat : ℕ) (call : Call) → inside ≡ old → new.journal ≡ inside.journal → new.max_entries ≡ inside.max_entries
     → IsLawfulCall call × (length old.journal < old.max_entries) → HasAnswered old new seat call (Err refusals.NoMemory)
 unanswered old inside new seat call is same most why = record {

@@ -1,4 +1,4 @@
--- Watchers: after its first status (`shown`) each is told its service's later changes, each once and in order.
+-- Watchers: after its first status (`shown`) each is told its service's later status changes, each once and in order.
 use Rattle.std.specs.Prelude.{◌≡◌, ℕ, suc, ◌+◌, ◌<◌, ◌==◌, Bool, Option, None, Some, List, [], ◌∷◌, ◌++◌, length, map, take, drop, reverse, slice_get, max, unwrap_or}
 use Rattle.std.specs.List.{position, filter, find}
 use Rattle.std.specs.Option.{option_map, option_and_then}

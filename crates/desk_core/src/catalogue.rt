@@ -102,7 +102,7 @@ impl Catalogue {
     pub fn new(alloc: Global, names: Vec<String>) -> Result<Catalogue, CatalogueFault>
         ensures ok { IfOk result (λ catalogue. catalogue ≡ map string_bytes names.items) }
 
-        // Names with a fault are refused for their first one, and others only where memory is wanting.
+        // Names with a fault are refused for their first one, and others only when out of memory.
         ensures fault { IfSome (fault_in (map string_bytes names.items))
             (λ fault. result ≡ Err fault) }
         ensures no_fault { IfNone (fault_in (map string_bytes names.items))

@@ -114,7 +114,7 @@ impl<P: Probe, K: Keep> Desk<P, K> {
         Ok((reply, old))
     }
 
-    /// Why the change is refused, but for want of memory.
+    /// Why the change is refused, other than out of memory.
     fn refusal_of(&self, call: &Call) -> Option<Refusal>
         ensures some { (seat : ℕ) → IfSome result (λ refusal. HasAnswered self.now self.now seat call.now (Err refusal)) }
         ensures none { IfNone result (IsLawfulCall call.now × (length self.now.journal < self.now.max_entries)) }
@@ -282,9 +282,9 @@ impl<P: Probe> Desk<P, KeepAll> {
         self.history.journal()
     }
 
-    /// Answers the next change of the watch's service and moves the watch past it, or to the end of the changes where there is
-    /// none. It passes over the changes of other services, which is what it costs. A watch of another desk is answered by the
-    /// changes of this one.
+    /// Answers the next status change of the watch's service and moves the watch past it, or to the end of the status changes where
+    /// there is none. It passes over those of other services, which is what it costs. A watch of another desk is answered by those
+    /// of this one.
     pub fn step(&self, watch: &mut Watch) -> Option<Serving>
         ensures status { result ≡ (stepped (changes_of (past self.now.journal)) watch.old).0 }
         ensures watch { watch.new ≡ (stepped (changes_of (past self.now.journal)) watch.old).1 }

@@ -86,7 +86,7 @@ pub fn changes_grow()
         → take (length (changes_of older)) (changes_of entries) ≡ changes_of older }
 {}
 
-/// A step of a watcher tells its service's next change and moves past it, or moves to the end of the changes where
+/// A step of a watcher tells its service's next status change and moves past it, or moves to the end of them where
 /// there is none to tell.
 pub fn steps_leave_none_out()
     ensures none { (changes : List Change) (watch : WatchState) → answer_of changes watch ≡ None
@@ -137,7 +137,7 @@ pub fn one_outcome()
         → (result ≡ Err NoMemory) ⊎ (another ≡ Err NoMemory) ⊎ ((result ≡ another) × (after ≡ other)) }
 {}
 
-/// A watch that is not behind has its next change among those that are kept: the changes from its cursor on are a part of them.
+/// A watch that is not behind has its next status change among those that are kept: those from its cursor on are a part of them.
 pub fn kept_changes_suffice()
     ensures cursor { (kept : Option ℕ) (changes : List Change) (watch : WatchState)
         → ((IsBehind kept changes watch → ⊥) ↔ (forgotten kept (length changes) ≤ watch.cursor)) }

@@ -12,7 +12,7 @@ use tail::Tail;
 #[derive(Clone, Copy, Debug, PartialEq, Eq)]
 pub struct Behind;
 
-/// A watcher of a service, or of a name that has no slot: it is told each later change once, in order.
+/// A watcher of a service, or of a name that has no slot: it is told each later status change once, in order.
 #[derive(Debug, Drop)]
 pub struct Watch {
     slot: Option<Slot>,
@@ -63,7 +63,7 @@ impl Watch {
         self.cursor
     }
 
-    /// Answers the service's next change, and moves past it, or to the end of the changes where there is none.
+    /// Answers the service's next status change, and moves past it, or to the end of the status changes where there is none.
     pub(crate) fn step(&mut self, changes: &Tail<Change>) -> Result<Option<Serving>, Behind>
         ensures status { IfOk result (λ status. status ≡ answer_of changes.now.items self.old) }
         ensures watch { OnOk result (self.new ≡ (stepped changes.now.items self.old).1) }

@@ -33,7 +33,7 @@ moved_by sent asked = record { received = []; behind = []; sent = sent; asked = 
 abbrev pub grown : Moved → Past → Past
 grown moved past = record { received = past.received ++ moved.received; sent = past.sent ++ moved.sent; asked = past.asked ++ moved.asked }
 
--- what a call read of its input: a part of its request, and behind that only where it is whole or memory was wanting
+-- what a call read of its input: a part of its request, and after that only where it is whole or an allocation failed
 pub record HasRead (input input_now : Option (List ℕ)) (call call_now : Call) (received behind : List ℕ) : Type 0 where
   pub has_read : Consumes input input_now (received ++ behind)
   pub carries : Carries call call_now (with_received received)

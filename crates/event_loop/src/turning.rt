@@ -35,7 +35,7 @@ pub enum Fate {
 pub struct Turned {
     /// How it leaves the call.
     pub fate: Fate,
-    /// Whether bytes came behind the request, which were thrown away.
+    /// Whether bytes came after the request, which were discarded.
     pub is_followed: bool,
 }
 
@@ -307,7 +307,7 @@ fn tell<W: Write, D: Door>(writer: &mut Link<W>, door: &mut D, call: &mut Call, 
 /// open Watch, or ends it.
 ///
 /// A reader and a writer that would wait return an error of the kind `WouldBlock`, and one that was interrupted is tried again in
-/// the next turn; an error of another kind gives the call up. Bytes that stand behind the request in one read are thrown away. The
+/// the next turn; an error of another kind gives the call up. Bytes that follow the request in one read are discarded. The
 /// writer is not flushed. The links are new for each turn. The buffer is a place for what is read, and holds nothing afterwards that
 /// is wanted.
 pub fn turn<R: Read, W: Write, D: Door>(

@@ -13,10 +13,9 @@ use Rattle.desk_core.specs.Legal.{IsLegal}
 use Rattle.desk_core.specs.Past.{past}
 use Rattle.desk_core.specs.Mutation.{IsAnswered, Taken, NotListed as Unlisted, BadRule, Full, NoMemory, entry_of}
 use Rattle.desk_core.specs.Seats.{calls_by}
-use Rattle.desk_core.specs.Watch.{IsOlder}
 use Rattle.hall.specs.Views.{seat_view, desk_view}
 use Rattle.hall.specs.Steps.{Seated, IsSeat, HasDesk, Follows, number_in, seen_in}
-use Rattle.hall.specs.Seats.{SeatState, GoesOn, IsCarriedOut, own_calls}
+use Rattle.hall.specs.Seats.{SeatState, IsCarriedOut}
 use Rattle.hall.proofs.Views.{older_self, own_call}
 
 -- what answers say of the history
@@ -76,16 +75,6 @@ may_count me waiting number made before hand =
       omega (arith, hand.follows.limit, ap length seen),
     )
 
--- a seat whose history grew goes on
-goes_on_of : (table later : TableId) (me rested : Seated) (number : ℕ) (history : List Entry) (most seat : ℕ) → later ≡ table → rested ≡ (seat_view seat history most, [])
-    → most ≡ me.0.most → IsLegal history → IsOlder (seen_in me) history → GoesOn (seat_of table me number) (seat_of later rested number)
-goes_on_of table later me rested number history most seat same rests most_is legal begins = record {
-  same = ap (λ (t : TableId). seat_of t rested number) same
-      ∙ ap (λ (m : ℕ). record { table = table; most = m; number = number; seen = seen_in rested }) (ap (λ (m : Seated). m.0.most) rests ∙ most_is);
-  begins = subst (IsOlder (seen_in me)) (sym (ap seen_in rests)) begins;
-  legal = subst IsLegal (sym (ap seen_in rests)) legal;
-}
-
 -- a change that the desk in hand answered, seen from the seat's side
 pub carried_out : (old : SeatState) (table later : TableId) (me waiting rested : Seated) (number made seat : ℕ) (before after : State) (call : Call)
     (result : Result Reply Refusal) → seat_of table me number ≡ old
@@ -117,11 +106,6 @@ not_carried_out seat call none legal = rw none (record {
   answer = Unlisted refl;
   unlisted = λ is. refl;
 })
-
--- a call that changed nothing, seen from the seat's side
-pub record Kept (old new : SeatState) : Type 0 where
-  pub goes_on : GoesOn old new
-  pub kept : own_calls new ≡ own_calls old
 
 -- the seat may give the desk back as it took it
 pub may_leave : (me waiting : Seated) (number made : ℕ) (before after : State) → InHand me waiting number made before → after ≡ before

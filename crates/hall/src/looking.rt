@@ -84,7 +84,7 @@ impl<P: Probe, K: Keep> Hall<P, K> {
         opened
     }
 
-    /// The next change of the watch's service, if there is one by now, unless the watch is behind: then it stays as it is, and is
+    /// The next status change of the watch's service, if there is one by now, unless the watch is behind: then it stays as it is, and is
     /// behind for good. It waits for the seat's turn.
     pub fn step_kept<R: Wait>(
         &self,
@@ -138,7 +138,7 @@ impl<P: Probe> Hall<P, KeepAll> {
     ghost use Rattle.desk_core.specs.Watch.{stepped};
     ghost use Rattle.hall.specs.Seats.{IsOf, GoesOn, own_calls};
 
-    /// The next change of the watch's service, if there is one by now. It waits for the seat's turn.
+    /// The next status change of the watch's service, if there is one by now. It waits for the seat's turn.
     pub fn step<R: Wait>(&self, rt: &R, seat: &mut Seat<P>, watch: &mut Watch) -> Option<Serving>
         requires { IsOf self.now seat.old }
         ensures goes_on { GoesOn seat.old seat.new }

@@ -191,7 +191,7 @@ impl Calls {
     }
 
     /// Takes in a connection that was accepted, and takes its first turn; where it is not over it is registered. Where it can't be taken
-    /// in, since memory is wanting or as many are held as may be, it is closed, and counts as no call.
+    /// in, since an allocation failed or as many are held as may be, it is closed, and counts as no call.
     pub(crate) fn take_in<D: Door>(
         &mut self,
         registry: &Registry,

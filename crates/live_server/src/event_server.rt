@@ -5,7 +5,7 @@ ghost use Rattle.live_server.specs.Settled.{KeepsAccount};
 use crate::calls::{Calls, Counts, FIRST_TOKEN, Limits, Round};
 use crate::connection::Ready;
 use crate::news::News;
-use crate::queue::Queue;
+use crate::queue::{Queue, RETRY_MILLIS};
 use crate::tally::{Tallied, Tally};
 use mio::net::TcpListener;
 use mio::{Events, Interest, Poll, Registry, Token, Waker};
@@ -25,9 +25,6 @@ const WAKER: Token = Token(1);
 /// How many milliseconds a round waits at most. A sweep comes no sooner behind another, and so in less than twice as many where rounds
 /// are short.
 const TICK_MILLIS: u64 = 100;
-
-/// How many milliseconds a loop waits until it tries again what failed.
-const RETRY_MILLIS: u64 = 100;
 
 /// The most connections that are accepted in a round.
 const MOST_ACCEPTED: usize = 256;

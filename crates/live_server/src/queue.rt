@@ -2,7 +2,7 @@ use std::io::ErrorKind;
 use std::time::{Duration, Instant};
 
 /// How many milliseconds pass until it is tried again to accept, where that failed.
-const RETRY_MILLIS: u64 = 100;
+pub(crate) const RETRY_MILLIS: u64 = 100;
 
 /// Whether connections may wait to be accepted at a socket that reports each time that one comes to an empty queue.
 #[derive(Clone, Copy, Debug, PartialEq, Eq)]

@@ -45,9 +45,6 @@ pub record Reading (mode : Mode) (names : List (List ℕ)) (start : List (ℕ ×
   pub fault : (fault : ScriptFault) → IsLinesFault mode names watches now fault → IsLinesFault mode names 0 start fault
   pub few : watches ≤ length lines
 
-pub begins : (mode : Mode) (names : List (List ℕ)) (start : List (ℕ × List ℕ)) → Reading mode names start 0 [] start
-begins mode names start = record { on = λ more rest takes. takes; fault = λ fault is. is; few = omega arith }
-
 -- what is left begins with the line
 lines_left : (left rest : Left) (line : ℕ × List ℕ) → left ≡ with_line line rest → left.lines ≡ line ∷ rest.lines
 lines_left left rest line parts = ap (λ (all : Left). all.lines) parts

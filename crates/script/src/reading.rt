@@ -19,7 +19,7 @@ pub fn read_script(alloc: Global, bytes: &[u8], mode: Mode) -> Result<Script, Sc
     ensures ok { IfOk result (λ script. IsScript mode bytes.now script) }
     ensures fault { IfErr result (λ fault. fault ≢ ScriptFault.NoMemory → IsScriptFault mode bytes.now fault) }
 
-    // Want of memory comes after too many bytes and after bytes that are no text.
+    // Running out of memory comes after too many bytes and after bytes that are no text.
     ensures no_memory { IfErr result (λ fault. fault ≡ ScriptFault.NoMemory → IsText bytes.now) }
 {
     if bytes.len() > MAX_LEN {

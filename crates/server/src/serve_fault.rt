@@ -6,7 +6,7 @@ use crew::CrewWhy;
 /// Why a server can't tell how its calls ended.
 #[derive(Clone, Copy, Debug, PartialEq, Eq)]
 pub enum ServeFault {
-    /// The crew has no report, and not for want of memory.
+    /// The crew has no report, and not for lack of memory.
     Crew(CrewWhy),
     /// Seats of the hall are missing.
     SeatsMissing,

@@ -189,7 +189,7 @@ left_behind source past watch old new next messages behind none count goes s =
     ends_as source past (past.asked ++ next ∷ []) watch old new (λ n. Behind n) messages none count s
     (WatchBehind w.name w.first w.later next watches (ap (λ asked. asked ++ next ∷ []) w.asked_is) (subst (IsBehind source.kept (changes_of next)) w.watch_is behind)) goes
 
--- a call that ends with this text, or for which memory was wanting
+-- a call that ends with this text, or for which an allocation failed
 pub ends : (source : Source) (received head body : List ℕ) (asked : List (List Entry)) (part : List Piece) (outcome : Outcome) (call : Call)
     → IsRequested head body received → Sends (record { source = source; asked = asked; head = head; body = body }) [] part (Some outcome) → IsStarvedAt asked received
     → ((call.stage ≡ Ending outcome) × GoesOut call.outgoing [] part []) ⊎ ((call.stage ≡ Starved) × GoesOut call.outgoing [] [] [])

@@ -54,7 +54,7 @@ cut_at source past Starved outgoing o h = absurd (grind arith)
 pub read_cut : (source : Source) (past : Past) (call : Call) → is_open call ≡ true → Stands source past call → IsCutRequest past.received
 read_cut source past call o h = cut_at source past call.stage call.outgoing o h
 
--- a call for which memory was wanting
+-- a call for which an allocation failed
 starved_read : (r : HowFar) (head body bytes : List ℕ) (asked : List (List Entry)) → reading.starves r ≡ true → bytes ≡ head ++ body → AreRead r head body → asked ≡ []
     → IsStarvedAt asked bytes
 starved_read readings.Head head body bytes asked s is read none = absurd (grind arith)

@@ -95,7 +95,7 @@ pub record IsAnswered (asking : Asking) (pieces : List Piece) (outcome : Outcome
   pub all : pieces ≡ done ++ part
   pub sends : Sends asking done part (Some outcome)
 
--- memory was wanting behind these bytes of a request, for its body or for the answer. A Watch wants none for its answer
+-- an allocation failed after these bytes of a request, for its body or for the answer. A Watch allocates nothing for its answer
 pub data IsStarvedAt (asked : List (List Entry)) (bytes : List ℕ) : Type 0 where
   -- the bytes are a head
   Head : IsHead bytes → asked ≡ [] → IsStarvedAt asked bytes

@@ -79,7 +79,7 @@ pub record IsReading (past : Past) (intake : Intake) (outgoing : Outgoing) : Typ
   pub none_asked : past.asked ≡ []
   pub has_read : HasRead intake past.received
 
--- memory was wanting for the answer
+-- the allocation for the answer failed
 pub record HasStarved (past : Past) (outgoing : Outgoing) : Type 0 where
   pub silent : IsSilent outgoing past.sent
   pub starved : IsStarvedAt past.asked past.received

@@ -54,7 +54,7 @@ is_whole (Body left) = false
 is_whole Whole = true
 is_whole Starved = false
 
--- memory was wanting for the body
+-- the allocation for the body failed
 abbrev pub starves : Reading → Bool
 starves Head = false
 starves (Body left) = false

@@ -68,7 +68,7 @@ starves (Watching watch) = false
 starves (Ending outcome) = false
 starves Starved = true
 
--- memory was wanting
+-- an allocation failed
 abbrev pub is_starved : Call → Bool
 is_starved call = starves call.stage
 

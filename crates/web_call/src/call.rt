@@ -9,13 +9,13 @@ use desk_core::Watch;
 /// How far a call has come.
 #[derive(Drop)]
 pub(crate) enum Stage {
-    /// Its request is read, or waits to be answered, or memory was wanting for the body.
+    /// Its request is read, or waits to be answered, or the allocation for the body failed.
     Reading(Intake),
     /// A Watch is open.
     Watching(Watch),
     /// The last of its answer is sent.
     Ending(Outcome),
-    /// Memory was wanting for the answer.
+    /// The allocation for the answer failed.
     Starved,
 }
 

@@ -48,7 +48,7 @@ pub trait Door {
         ensures watch { result.0 ≡ opened (changes_of (seen self.new)) (slot_of (names self.old) name.now) }
         ensures status { result.1 ≡ shown (seen self.new) (slot_of (names self.old) name.now) };
 
-    /// The next change of the watch's service, if there is one by now, unless the watch is behind: then it stays as it is.
+    /// The next status change of the watch's service, if there is one by now, unless the watch is behind: then it stays as it is.
     fn step(&mut self, watch: &mut Watch) -> Result<Option<Serving>, Behind>
         ensures names { names self.new ≡ names self.old }
         ensures legal { IsLegal (seen self.new) }

@@ -105,7 +105,7 @@ fn receive<R: Read>(alloc: Global, reader: &mut Tap<R>, call: &mut Call) -> bool
     true
 }
 
-/// Answers the request, where memory was not wanting for it.
+/// Answers the request, unless the allocation for it failed.
 fn reply<D: Door>(alloc: Global, door: &mut D, call: &mut Call)
     requires read { is_open call.old ≡ false }
     requires unanswered { is_answered call.old ≡ false }

@@ -10,7 +10,7 @@ pub(crate) enum Reading {
     /// So many bytes of the body are to come.
     Body { left: u32 },
     Whole,
-    /// Memory was wanting for the body.
+    /// The allocation for the body failed.
     Starved,
 }
 

@@ -9,7 +9,7 @@ pub enum Outcome {
     Status(Code),
     /// A Watch told so many messages; the count stays at its greatest number once it has reached it.
     Watched { messages: u32 },
-    /// A Watch that told so many messages was behind: its next change may be forgotten, or it is of a name without a slot, which has
+    /// A Watch that told so many messages was behind: its next status change may be forgotten, or it is of a name without a slot, which has
     /// none. It ended as a Watch ends.
     Behind { messages: u32 },
 }

@@ -41,7 +41,7 @@ enum Fare {
     Stopped,
     /// It tells that memory ran out, and had opened all jobs.
     NoMemory,
-    /// It reports all calls, and of the jobs that could be opened some ended for want of memory.
+    /// It reports all calls, and of the jobs that could be opened some ended out of memory.
     Starved,
     /// It reports all calls, and each job that could be opened was answered.
     Served,
@@ -93,7 +93,7 @@ fn fare_of(found: &Found, requests: &[Option<&[u8]>], opened: usize) -> Result<F
     Ok(fare)
 }
 
-/// How many of these orders got a reply, if each other was refused for want of memory.
+/// How many of these orders got a reply, if each other was refused out of memory.
 fn made_in(results: &[Result<Reply, Refusal>]) -> Option<usize> {
     let made = results.iter().filter(|one| one.is_ok()).count();
     let starved = results
@@ -228,20 +228,20 @@ fn fares<R: Wait + Threads + Sync>(
 }
 
 /// A crew fares so at last, and before that in each of these ways and in no other.
-fn expect_fares(fares: &[Fare], wanting: &[Fare], last: Fare) -> Result<(), Fail> {
+fn expect_fares(fares: &[Fare], scarce: &[Fare], last: Fare) -> Result<(), Fail> {
     let Some((at_last, before)) = fares.split_last() else {
         return Err(Fail::new("nothing was tried"));
     };
     same(at_last, &last, &"the last step")?;
     same(
-        &wanting.iter().all(|fare| before.contains(fare)),
+        &scarce.iter().all(|fare| before.contains(fare)),
         &true,
-        &wanting,
+        &scarce,
     )?;
     same(
-        &before.iter().all(|fare| wanting.contains(fare)),
+        &before.iter().all(|fare| scarce.contains(fare)),
         &true,
-        &wanting,
+        &scarce,
     )
 }
 
@@ -273,12 +273,12 @@ const CHECK: Trial = Trial {
 };
 
 #[test]
-fn a_call_is_lost_or_starved_or_not_reported_where_memory_is_wanting(
+fn a_call_is_lost_or_starved_or_not_reported_when_out_of_memory(
     rt: HostRuntime,
 ) -> Result<(), Fail> {
     let fares = fares(&rt, rt.alloc(), &CHECK, Fare::Served)?;
-    let wanting = [Fare::Lost, Fare::NoMemory, Fare::Starved];
-    expect_fares(&fares, &wanting, Fare::Served)
+    let scarce = [Fare::Lost, Fare::NoMemory, Fare::Starved];
+    expect_fares(&fares, &scarce, Fare::Served)
 }
 
 const LOST: Option<&[u8]> = None;

@@ -45,7 +45,7 @@ fn turn_with(
 }
 
 #[test]
-fn a_call_ends_for_want_of_memory(rt: HostRuntime) -> Result<(), Fail> {
+fn a_call_ends_out_of_memory(rt: HostRuntime) -> Result<(), Fail> {
     let staged = Staged::new(rt.alloc())?;
     let mut sent = Vec::with_capacity(rt.alloc(), 1_024)?;
     let scarcity = Scarcity::with_small_room(rt.alloc())?;

@@ -383,7 +383,7 @@ fn takes_text_alone(rt: HostRuntime) -> Result<(), Fail> {
     expect_longest(alloc, b"", b'\xff', fault)
 }
 
-/// A script is read whole, with these sizes and numbers, or memory is wanting.
+/// A script is read whole, with these sizes and numbers, or memory runs out.
 fn expect_each_growth(
     alloc: Global,
     bytes: &[u8],

@@ -111,7 +111,7 @@ fn entries(run: &mut Run<Manual>) -> Result<u64, Fail> {
     }
 }
 
-/// How many of the results are replies. The others are refusals for want of memory.
+/// How many of the results are replies. The others were refused out of memory.
 fn replies(results: &[Result<Reply, Refusal>]) -> Result<u64, Fail> {
     let mut replies = 0u64;
     for result in results {

@@ -391,7 +391,7 @@ down a
 up a
 ";
 
-/// How many of two orders got a reply, if there was room for a report. The others were refused for want of memory, and the journal
+/// How many of two orders got a reply, if there was room for a report. The others were refused out of memory, and the journal
 /// has the changes of those with a reply, and one of the setup.
 fn replies_of<P: Probe>(served: Result<Served<P>, ServeFault>) -> Result<Option<usize>, Fail> {
     let served = match served {
@@ -431,7 +431,7 @@ where
 /// With more and more memory left, up to where it suffices. It is tried with half the room first: once the C library has looked for a
 /// thread it takes single pages too where the heap is used up, and only then are those taken with the rest.
 #[test]
-fn tells_what_was_made_where_memory_is_wanting(rt: HostRuntime) -> Result<(), Fail> {
+fn tells_what_was_made_when_out_of_memory(rt: HostRuntime) -> Result<(), Fail> {
     let alloc = rt.alloc();
     same(
         &replies_in(&rt, alloc, ROOM / 32)?,

@@ -151,7 +151,7 @@ fn manual(rule: Rule) -> Result<Manual, AllocError>
     }
 }
 
-/// How many of the lines got a reply, if there was room for their results. The others were refused for want of memory, and the seat
+/// How many of the lines got a reply, if there was room for their results. The others were refused out of memory, and the seat
 /// has made the changes of those with a reply.
 fn replies_of(results: Option<&[Result<Reply, Refusal>]>, made: u64) -> Result<Option<u64>, Fail> {
     let Some(results) = results else {

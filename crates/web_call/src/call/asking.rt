@@ -29,7 +29,7 @@ use grpc_frame::Code;
 use health_wire::Serving;
 use std::alloc::{AllocError, Global};
 
-/// A call that ends with this text, or one for which memory was wanting.
+/// A call that ends with this text, or one for which an allocation failed.
 fn last(text: Result<Text, AllocError>, outcome: Outcome) -> Call
     ensures told { (part : List Piece) → IfOk text (λ made. IsTextOf made part) → ((result.stage ≡ stages.Ending outcome) × GoesOut result.outgoing [] part [])
         ⊎ ((result.stage ≡ stages.Starved) × GoesOut result.outgoing [] [] []) }

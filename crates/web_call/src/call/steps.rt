@@ -70,7 +70,7 @@ impl Call {
         }
     }
 
-    /// Whether memory was wanting, for the body or for the answer. Then nothing is sent, and the call is at its end.
+    /// Whether an allocation failed, for the body or for the answer. Then nothing is sent, and the call is at its end.
     pub fn is_starved(&self) -> bool
         ensures { result ≡ is_starved self.now }
     {
@@ -118,7 +118,7 @@ impl Call {
         }
     }
 
-    /// Whether the call is at its end: the last of its answer is sent, or memory was wanting.
+    /// Whether the call is at its end: the last of its answer is sent, or an allocation failed.
     pub fn is_done(&self) -> bool
         ensures { result ≡ is_done self.now }
     {

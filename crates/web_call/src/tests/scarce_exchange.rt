@@ -25,10 +25,10 @@ fn starved(asked: u32) -> Run {
     }
 }
 
-/// Where memory is wanting: how many bytes of the request are not read then, and how often the door was asked.
+/// Where memory runs out: how many bytes of the request are not read then, and how often the door was asked.
 type Want = (usize, u32);
 
-/// A registry, room for a response, and where memory was wanting.
+/// A registry, room for a response, and where memory ran out.
 #[derive(Drop)]
 struct Trial {
     staged: Staged,
@@ -45,7 +45,7 @@ impl Trial {
         })
     }
 
-    /// Answers a request, and tells where memory was wanting. Nothing is written then.
+    /// Answers a request, and tells where memory ran out. Nothing is written then.
     fn answer(
         &mut self,
         alloc: Global,
@@ -68,7 +68,7 @@ impl Trial {
         Ok((!is_whole).then_some((rest.len(), run.asked)))
     }
 
-    /// Answers a request with more and more memory left, and gathers where it was wanting. It has to suffice at last.
+    /// Answers a request with more and more memory left, and gathers where it ran out. It has to suffice at last.
     fn refuse(&mut self, alloc: Global, input: &[u8], response: &[u8]) -> Result<(), Fail> {
         let scarcity = Scarcity::with_small_room(alloc)?;
         let mut is_whole = false;
@@ -84,7 +84,7 @@ impl Trial {
         same(&is_whole, &true, &"the most memory")
     }
 
-    /// Memory has to be wanting here, at each of these places and nowhere else.
+    /// Memory has to run out at each of these places and nowhere else.
     fn expect_wants(
         &mut self,
         alloc: Global,

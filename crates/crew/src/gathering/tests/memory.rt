@@ -68,7 +68,7 @@ fn refuses_each_growth_where_no_fault_stands(rt: HostRuntime) -> Result<(), Fail
 }
 
 #[test]
-fn want_of_memory_hides_no_fault(rt: HostRuntime) -> Result<(), Fail> {
+fn running_out_of_memory_hides_no_fault(rt: HostRuntime) -> Result<(), Fail> {
     for (last, fault) in [
         (Some(128), CrewWhy::Stranger),
         (Some(0), CrewWhy::Doubled),

@@ -29,7 +29,7 @@ fn line_at(output: &[u8], index: usize) -> &[u8] {
         .unwrap_or(&[])
 }
 
-/// Whether a registration was taken. One that was refused for want of memory left nothing, and the run went on to its check.
+/// Whether a registration was taken. One that was refused out of memory left nothing, and the run went on to its check.
 fn is_taken(output: &[u8], change: usize, check: usize) -> Result<bool, Fail> {
     if line_at(output, change) == b"done".as_slice() {
         same(&line_at(output, check), &b"serving".as_slice(), &check)?;
