@@ -118,7 +118,7 @@ impl EventServer {
         self.calls.counts()
     }
 
-    /// Serves until all is to end and no connection is left.
+    /// Serves until all is to end and no connection is left. A loop is told news by one `News` for as long as it is there.
     pub fn run<R: Wait + Clock, D: Door>(&mut self, rt: &R, door: &mut D, news: &News)
         ensures account { KeepsAccount (held_by self.old) (held_by self.new) }
         ensures names { D.names door.new ≡ D.names door.old }
@@ -186,9 +186,13 @@ impl EventServer {
         self.queue = Queue::Empty;
     }
 
-    /// Whether it holds fewer connections than it may hold Watches, so that one more may become a Watch, whatever the others are.
+    /// Whether it may accept one more connection, and holds fewer than it may hold Watches, so that the new one may become a Watch,
+    /// whatever the others are.
     fn has_room(&self) -> bool {
-        self.calls.table().len() < self.most_watches
+        let table = self.calls.table();
+        !matches!(self.queue, Queue::Failed(_))
+            && !table.is_full()
+            && table.len() < self.most_watches
     }
 
     /// Tells the other loops whether it has room, where they were told otherwise.

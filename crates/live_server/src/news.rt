@@ -44,7 +44,7 @@ impl News {
         self.ends.load(Ordering::SeqCst) != 0
     }
 
-    /// A loop tells that it has room from now on, or none. It tells only what differs from what it told last, and first that it has room.
+    /// A loop, which has this `News` alone, tells that it has room from now on, or none. It tells only what differs from what it told last, and first that it has room.
     pub(crate) fn tell_room(&self, has_room: bool) {
         if has_room {
             self.with_room.fetch_add(1, Ordering::SeqCst);

@@ -1,3 +1,7 @@
+ghost use Rattle.std.specs.Prelude.{◌≡◌, ◌≢◌, ◌<◌};
+ghost use Rattle.std.specs.Time.{instant_nanos};
+ghost use Rattle.live_server.specs.declared.queue.Queue.TheVariants.{Empty, Waiting, Failed};
+
 use std::io::ErrorKind;
 use std::time::{Duration, Instant};
 
@@ -34,7 +38,10 @@ impl Queue {
     }
 
     /// The socket has reported a connection. That ends no waiting for another try.
-    pub fn reported(self) -> Queue {
+    pub fn reported(self) -> Queue
+        ensures empty { self ≡ Empty → result ≡ Waiting }
+        ensures others { self ≢ Empty → result ≡ self }
+    {
         match self {
             Queue::Empty => Queue::Waiting,
             _ => self,
@@ -42,7 +49,10 @@ impl Queue {
     }
 
     /// Where the time to try again has come, connections may wait.
-    pub fn retried(self, now: Instant) -> Queue {
+    pub fn retried(self, now: Instant) -> Queue
+        ensures early { (until : Instant) → self ≡ Failed until → instant_nanos now < instant_nanos until → result ≡ self }
+        ensures others { ((until : Instant) → self ≢ Failed until) → result ≡ self }
+    {
         match self {
             Queue::Failed(until) if until <= now => Queue::Waiting,
             _ => self,

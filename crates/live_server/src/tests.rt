@@ -2,6 +2,7 @@ mod bounds;
 mod calls;
 mod descriptors;
 mod ends;
+mod queues;
 mod room;
 mod scenes;
 mod times;
