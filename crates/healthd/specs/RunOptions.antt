@@ -1,5 +1,5 @@
 -- Which option of the command line is read where.
-use Rattle.std.specs.Prelude.{◌≡◌, ◌<◌, ◌⊎◌, ℕ, List, Option, None, Some, Result, codes, unwrap_or}
+use Rattle.std.specs.Prelude.{◌≡◌, ◌<◌, ◌⊎◌, ℕ, List, Option, None, Some, Result, codes, unwrap_or, []}
 use Rattle.clap.specs.Words.{first_value, one_text, ReadsOne}
 use Rattle.clap.specs.declared.parser.matches.Found.{Found}
 use Rattle.control_place.specs.declared.place.Place.{Place}
@@ -59,7 +59,7 @@ module _ {T A E : Type 0} (addr_gives : List ℕ → Result T A → Type 0) (num
 
   -- the first that is wrong of these: the address to listen at, the place of changes, the bounds
   abbrev pub IsBadIn : BadOption → Type 0
-  IsBadIn (Listen text) = IsReadAs addr_gives found (codes "listen") None
+  IsBadIn (Listen text) = IsReadAs addr_gives found (codes "listen") None × (text.now ≡ unwrap_or (first_value found (codes "listen")) [])
   IsBadIn (Control text) = HasListen × IsNoControl found text.now
   IsBadIn (Watches watches connections) = HasListen × ((place : Option Place) × IsControlIn (first_value found (codes "control")) place)
       × AreTooMany number_gives found watches connections

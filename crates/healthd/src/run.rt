@@ -1,5 +1,5 @@
 ghost use Rattle.std.specs.Net.Text.{socket_text};
-ghost use Rattle.std.specs.Prelude.{◌≡◌, ◌≤◌, ◌<◌, ◌++◌, List, Option, IfOk, IfErr, IsNone, codes, decimal, length, string_bytes, vec_len};
+ghost use Rattle.std.specs.Prelude.{◌≡◌, ◌↔◌, ◌≤◌, ◌<◌, ◌++◌, List, Option, IfOk, IfErr, IsNone, IsSome, codes, decimal, length, string_bytes, vec_len};
 ghost use Rattle.desk_core.specs.declared.call.Call.{Call};
 ghost use Rattle.desk_core.specs.Past.{past};
 ghost use Rattle.hall.specs.Seats.{new_seats};
@@ -7,7 +7,7 @@ ghost use Rattle.probe_core.specs.Made.{MakesAsked};
 ghost use Rattle.server.specs.Setup.{AreSetUp};
 ghost use Rattle.live_run.specs.Loops.{HaveServedAll};
 ghost use Rattle.control_place.specs.Place.{place_text};
-ghost use Rattle.live_run.specs.WholeRun.{HasRun};
+ghost use Rattle.live_run.specs.WholeRun.{HasRun, HasRunLoops};
 ghost use Rattle.live_run.specs.declared.run_fault.RunFault.TheVariants.{NoMemory};
 ghost use Rattle.healthd.specs.declared.run_failure.RunFailure.TheVariants.{OutOfMemory, Refused};
 ghost use Rattle.healthd.specs.Run.{AreMadeAlone, EndsSetUp, IsSetUpBy, IsWhollySetUp};
@@ -88,6 +88,7 @@ where
     requires some { 1 ≤ loops }
     requires served { loops ≤ options.bounds.connections }
     ensures each { IfOk result (λ begun. vec_len begun.servers ≡ loops) }
+    ensures controlled { IfOk result (λ begun. IsSome begun.control ↔ IsSome options.entry.control) }
 {
     let shares = options.bounds.shares(alloc, loops)?;
     let listener = listen(rt, made, options.listen)?;
@@ -203,7 +204,7 @@ fn control_at<'a, R: Files + Net, P: Probe>(
 ) -> Result<Option<ControlListener>, RunFailure<'a>>
     // nothing is bound before
     requires set_up { (calls : List (Option Call)) × IsWhollySetUp calls _made.now }
-    ensures none { IsNone place.entry → IfOk result (λ listener. IsNone listener) }
+    ensures some { IfOk result (λ listener. IsSome listener ↔ IsSome place.entry) }
 {
     let Some(place) = place else {
         return Ok(None);
@@ -321,7 +322,7 @@ fn control_loop<'a, R: Clock + Net>(
     listener: Option<ControlListener>,
     servers: &[EventServer],
 ) -> Result<Option<ControlServer>, RunFailure<'a>>
-    ensures none { IsNone listener → IfOk result (λ control. IsNone control) }
+    ensures some { IfOk result (λ control. IsSome control ↔ IsSome listener) }
 {
     let Some(listener) = listener else {
         return Ok(None);
@@ -362,7 +363,9 @@ where
     ensures servers { IfOk result (λ ran. HaveServedAll servers.items ran.servers.items) }
     // nothing but the setup and the lines of sessions makes changes
     ensures ran { IfOk result (λ ran. HasRun made.hall (vec_len servers) made.seats (past ran.desk.journal)) }
+    ensures alone { IsNone control → IfOk result (λ ran. HasRunLoops made.hall (vec_len servers) made.seats (past ran.desk.journal)) }
     ensures entries { IsNone control → IfOk result (λ ran. length ran.desk.journal ≡ length made.results) }
+    ensures sessions { IfOk result (λ ran. IsSome ran.sessions ↔ IsSome control) }
     ensures failure { IfErr result (λ failure. failure ≡ OutOfMemory) }
 {
     match run_live(rt, alloc, made, servers, control, make, news) {

@@ -68,6 +68,7 @@ impl<P: Probe, K: Keep> Seating<P, K> {
         requires { HasRoom self }
         ensures seats { result.seats.items ≡ seats_of self }
         ensures servers { result.servers.items ≡ servers_of self }
+        ensures sessions { result.sessions ≡ self.back.sessions }
     {
         let Seating { loops, spare, back } = self;
         let Back {
@@ -91,7 +92,7 @@ impl<P: Probe, K: Keep> Seating<P, K> {
 }
 
 impl<P: Probe + Send, K: Keep + Send> Seating<P, K> {
-    ghost use Rattle.std.specs.Prelude.{◌≡◌, vec_len, IsNone};
+    ghost use Rattle.std.specs.Prelude.{◌≡◌, ◌↔◌, vec_len, IsNone, IsSome};
     ghost use Rattle.std.specs.List.{All};
     ghost use Rattle.hall.specs.Seats.{IsOf};
     ghost use Rattle.probe_core.specs.Made.{MakesAsked};
@@ -118,6 +119,7 @@ impl<P: Probe + Send, K: Keep + Send> Seating<P, K> {
         ensures looked { IsNone control → SeatsHaveLooked (vec_len self.loops) (seats_of self) result.seats.items }
         ensures servers { HaveServedAll (servers_of self) result.servers.items }
         ensures ours { All (IsOf hall.now) result.seats.items }
+        ensures sessions { IsSome result.sessions ↔ IsSome control }
     {
         match control {
             None => self.serve_alone(rt, hall, news),
@@ -136,11 +138,18 @@ impl<P: Probe + Send, K: Keep + Send> Seating<P, K> {
         ensures looked { SeatsHaveLooked (vec_len self.loops) (seats_of self) result.seats.items }
         ensures servers { HaveServedAll (servers_of self) result.servers.items }
         ensures ours { All (IsOf hall.now) result.seats.items }
+        ensures sessions { IsNone result.sessions }
     {
+        let (loops, spare) = (after_serving(rt, hall, self.loops, news), self.spare);
+        let Back { servers, seats, .. } = self.back;
         let seating = Seating {
-            loops: after_serving(rt, hall, self.loops, news),
-            spare: self.spare,
-            back: self.back,
+            loops,
+            spare,
+            back: Back {
+                servers,
+                seats,
+                sessions: None,
+            },
         };
         seating.give_back()
     }
@@ -163,6 +172,7 @@ impl<P: Probe + Send, K: Keep + Send> Seating<P, K> {
         ensures served { SeatsHaveServed hall.now.names (vec_len self.loops) (seats_of self) result.seats.items }
         ensures servers { HaveServedAll (servers_of self) result.servers.items }
         ensures ours { All (IsOf hall.now) result.seats.items }
+        ensures sessions { IsSome result.sessions }
     {
         let (held, loops) = serve_beside(rt, hall, make, news, control, self.spare, self.loops);
         let Back { servers, seats, .. } = self.back;

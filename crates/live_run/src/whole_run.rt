@@ -1,4 +1,4 @@
-ghost use Rattle.std.specs.Prelude.{◌≡◌, List, Option, length, vec_len, Err, IfSome, IfNone, IsNone, IfOk, IfErr};
+ghost use Rattle.std.specs.Prelude.{◌≡◌, ◌↔◌, List, Option, length, vec_len, Err, IfSome, IfNone, IsNone, IsSome, IfOk, IfErr};
 ghost use Rattle.std.specs.List.{sum_by};
 ghost use Rattle.desk_core.specs.declared.call.Call.{Call};
 ghost use Rattle.desk_core.specs.Past.{past};
@@ -52,6 +52,8 @@ where
     // lines asked for.
     ensures ran { IfOk result (λ ran. HasRun made.hall (vec_len servers) made.seats (past ran.desk.journal)) }
     ensures most { IfOk result (λ ran. ran.desk.max_entries ≡ made.hall.most) }
+    // The loop over sessions comes back, so that its caller can take its socket's file away.
+    ensures sessions { IfOk result (λ ran. IsSome ran.sessions ↔ IsSome control) }
 
     // Without sessions nobody has made changes since the setup.
     ensures alone { IsNone control → IfOk result (λ ran. HasRunLoops made.hall (vec_len servers) made.seats (past ran.desk.journal)) }

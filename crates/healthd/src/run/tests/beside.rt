@@ -372,6 +372,7 @@ fn a_watch_is_told_what_a_session_changes(rt: HostRuntime) -> Result<(), Fail> {
 #[test]
 fn a_session_that_leaves_behind_stop_ends_the_run(rt: HostRuntime) -> Result<(), Fail> {
     let path = path_named(&rt, "left")?;
-    let (entries, _) = run_beside(&rt, DEPENDING, Client::Leaves(&path))?;
-    same(&entries, &Some(2), &"entries")
+    let (entries, beside) = run_beside(&rt, DEPENDING, Client::Leaves(&path))?;
+    same(&entries, &Some(2), &"entries")?;
+    same(&matches!(beside, Beside::Left), &true, &"the client left")
 }
