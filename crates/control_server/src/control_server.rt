@@ -95,11 +95,6 @@ impl ControlServer {
         }
     }
 
-    /// How many sessions there are.
-    pub fn sessions(&self) -> usize {
-        self.sessions.len()
-    }
-
     /// Holds sessions until all is to end, what is left to send is sent or given up, and no connection is held.
     pub fn run<R, P: Probe, K: Keep, F: Fn(Rule) -> Result<P, AllocError>>(
         &mut self,
