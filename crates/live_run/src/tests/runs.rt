@@ -86,6 +86,8 @@ fn runs_what_a_script_has_set_up(rt: HostRuntime) -> Result<(), Fail> {
             ended: 2,
             given_up: 0,
         },
+        told: 0,
+        changes: 0,
     };
     same(&found, &expected, &"a run")
 }

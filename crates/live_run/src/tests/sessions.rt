@@ -9,7 +9,7 @@ use crate::tests::talks::Talk;
 use crate::{Ran, RunFault};
 use control_place::ControlListener;
 use control_server::{ControlServer, MAX_SESSIONS};
-use desk_core::KeepMany;
+use desk_core::{Call, Entry, KeepMany, Setting, Slot};
 use live_server::{EventServer, News};
 use probe_core::Manual;
 use std::alloc::Global;
@@ -69,7 +69,7 @@ struct Clients<'a, R> {
 }
 
 impl<R: Wait + Clock + Net<Stream = TcpStream>> Clients<'_, R> {
-    fn talk(self) -> Result<(), Fail> {
+    fn talk(self) -> Result<usize, Fail> {
         let found = self
             .talk
             .play(self.rt, self.alloc, self.addresses, self.news);
@@ -83,7 +83,7 @@ fn run_and_talk<R: Wait + Threads + Clock + Sync + Net<Stream = TcpStream>>(
     ready: Ready<'_, R>,
     talk: Talk,
     addresses: Addresses,
-) -> (Result<Ran<Manual, KeepMany>, RunFault>, Result<(), Fail>) {
+) -> (Result<Ran<Manual, KeepMany>, RunFault>, Result<usize, Fail>) {
     let rt = ready.rt;
     let clients = Clients {
         rt,
@@ -99,6 +99,30 @@ fn run_and_talk<R: Wait + Threads + Clock + Sync + Net<Stream = TcpStream>>(
     )
 }
 
+/// Whether a service serves behind an entry, or None where it is not registered, if it was so before.
+fn serves_behind(entry: &Entry, slot: Slot, before: Option<bool>) -> Option<bool> {
+    match entry.call {
+        Call::Register(at, _) if at == slot => Some(true),
+        Call::Retire(at) if at == slot => None,
+        Call::Set(at, setting) if at == slot => before.map(|_| setting == Setting::Up),
+        _ => before,
+    }
+}
+
+/// How often a service that is set by hand changes its status in a history.
+fn status_changes(entries: &[Entry], slot: Slot) -> usize {
+    let mut serves = None;
+    let mut changes = 0usize;
+    for entry in entries {
+        let now = serves_behind(entry, slot, serves);
+        if now != serves {
+            changes = changes.wrapping_add(1);
+        }
+        serves = now;
+    }
+    changes
+}
+
 /// What a run has come to.
 #[derive(Clone, Copy, Debug, PartialEq, Eq)]
 pub(super) struct Outcome {
@@ -107,9 +131,16 @@ pub(super) struct Outcome {
     /// How many loops came back.
     pub(super) loops: usize,
     pub(super) calls: Counts,
+    /// How many statuses the Watch of the talk was told, where they are counted, and how often its service changed its status.
+    pub(super) told: usize,
+    pub(super) changes: usize,
 }
 
-fn outcome_of(ran: &Result<Ran<Manual, KeepMany>, RunFault>) -> Result<Outcome, Fail> {
+fn outcome_of(
+    ran: &Result<Ran<Manual, KeepMany>, RunFault>,
+    watched: Option<Slot>,
+    told: usize,
+) -> Result<Outcome, Fail> {
     let Ok(ran) = ran else {
         return Err(Fail::new("no run"));
     };
@@ -121,6 +152,8 @@ fn outcome_of(ran: &Result<Ran<Manual, KeepMany>, RunFault>) -> Result<Outcome, 
         entries: ran.entries(),
         loops: ran.servers.len(),
         calls,
+        told,
+        changes: watched.map_or(0, |slot| status_changes(ran.desk.journal_kept(), slot)),
     })
 }
 
@@ -159,6 +192,5 @@ where
         news: &news,
     };
     let (ran, talked) = run_and_talk(ready, talk, addresses);
-    talked?;
-    outcome_of(&ran)
+    outcome_of(&ran, talk.watched(), talked?)
 }

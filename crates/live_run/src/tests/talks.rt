@@ -4,6 +4,7 @@ use crate::tests::many::many;
 use crate::tests::runs::ask;
 use crate::tests::scenes::{Watcher, expect_checked};
 use crate::tests::sessions::{Addresses, SCRIPT, run_beside};
+use desk_core::Slot;
 use live_server::News;
 use std::alloc::Global;
 use std::io::{ErrorKind, Read, Write};
@@ -96,20 +97,30 @@ pub(super) enum Talk {
 }
 
 impl Talk {
+    /// Gives how many statuses a Watch was told, where they are counted.
     pub(super) fn play<R: Wait + Clock + Net<Stream = TcpStream>>(
         self,
         rt: &R,
         alloc: Global,
         addresses: Addresses,
         news: &News,
-    ) -> Result<(), Fail> {
+    ) -> Result<usize, Fail> {
         match self {
-            Talk::Calls => ask(rt, alloc, addresses.calls, news),
-            Talk::Rows => rows(rt, alloc, addresses),
+            Talk::Calls => ask(rt, alloc, addresses.calls, news).map(|()| 0),
+            Talk::Rows => rows(rt, alloc, addresses).map(|()| 0),
             Talk::Two => two(rt, alloc, addresses),
             Talk::Same => same_name(rt, alloc, addresses),
-            Talk::Limits => limits(rt, alloc, addresses),
-            Talk::Many => many(rt, alloc, addresses),
+            Talk::Limits => limits(rt, alloc, addresses).map(|()| 0),
+            Talk::Many => many(rt, alloc, addresses).map(|()| 0),
+        }
+    }
+
+    /// The service whose Watch counts what it is told.
+    pub(super) fn watched(self) -> Option<Slot> {
+        match self {
+            Talk::Two => Slot::new(0),
+            Talk::Same => Slot::new(1),
+            _ => None,
         }
     }
 }
@@ -176,23 +187,22 @@ fn is_one_of(line: &[u8], answers: &[&[u8]]) -> bool {
     false
 }
 
-/// Stops the run, and gives what the watcher is told to its end, which has to be an alternation of these two.
+/// Stops the run, and gives how many statuses the watcher is told to its end. They have to be an alternation of these two.
 fn stop_and_expect<R: Net<Stream = TcpStream>>(
     rt: &R,
     alloc: Global,
     addr: SocketAddr,
     watcher: &mut Watcher,
     statuses: [u8; 2],
-) -> Result<(), Fail> {
+) -> Result<usize, Fail> {
     let mut last = Talker::open(rt, addr)?;
     last.say(b"stop\n")?;
     last.expect(alloc, b"stopping\n")?;
     let told = watcher.statuses_to_end(alloc)?;
-    same(&told.is_empty(), &false, &"statuses")?;
     for (number, status) in told.iter().enumerate() {
         same(status, &statuses[number % 2], &number)?;
     }
-    Ok(())
+    Ok(told.len())
 }
 
 /// Two sessions, one of which takes `a` down a thousand times, while the other takes it up.
@@ -200,7 +210,7 @@ fn two<R: Net<Stream = TcpStream>>(
     rt: &R,
     alloc: Global,
     addresses: Addresses,
-) -> Result<(), Fail> {
+) -> Result<usize, Fail> {
     let mut watcher = Watcher::open(rt, addresses.calls, WATCH_OF_A)?;
     let mut first = Talker::open(rt, addresses.sessions)?;
     let mut second = Talker::open(rt, addresses.sessions)?;
@@ -216,7 +226,9 @@ fn two<R: Net<Stream = TcpStream>>(
 #[test]
 fn two_sessions_change_one_service_side_by_side(rt: HostRuntime) -> Result<(), Fail> {
     let found = run_beside(&rt, rt.alloc(), SCRIPT, Talk::Two)?;
-    same(&found.entries, &2_002, &"entries")
+    same(&found.entries, &2_002, &"entries")?;
+    // The first status change is the registration, which was before the Watch and is its first message.
+    same(&found.told, &found.changes, &"messages")
 }
 
 /// Two sessions, one of which registers `b` while the other retires it, and a third that checks it.
@@ -224,7 +236,7 @@ fn same_name<R: Net<Stream = TcpStream>>(
     rt: &R,
     alloc: Global,
     addresses: Addresses,
-) -> Result<(), Fail> {
+) -> Result<usize, Fail> {
     let mut watcher = Watcher::open(rt, addresses.calls, WATCH_OF_B)?;
     let addr = addresses.sessions;
     let mut first = Talker::open(rt, addr)?;
@@ -244,7 +256,9 @@ fn same_name<R: Net<Stream = TcpStream>>(
 #[test]
 fn a_service_is_registered_and_retired_while_others_look(rt: HostRuntime) -> Result<(), Fail> {
     let found = run_beside(&rt, rt.alloc(), SCRIPT, Talk::Same)?;
-    same(&found.entries, &2_002, &"entries")
+    same(&found.entries, &2_002, &"entries")?;
+    // The first message says that nothing is registered.
+    same(&found.told, &found.changes.wrapping_add(1), &"messages")
 }
 
 /// Sessions in pieces, with bad lines, and one too many.
