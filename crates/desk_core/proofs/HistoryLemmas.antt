@@ -5,9 +5,9 @@ use Rattle.std.proofs.lemmas.List.{reverse-append, length_push, get_or-set_same,
 use Rattle.std.proofs.lemmas.Bool.{eqb-true, eqb-false, cases_lt}
 use Rattle.probe_core.specs.declared.event.Event.{Event}
 use Rattle.probe_core.specs.declared.rule.Rule.{Rule}
-use Rattle.probe_core.specs.Rule.{fits, is_in_range, memory_next, opening_memory}
+use Rattle.probe_core.specs.Rule.{HasCounts, fits, memory_next, opening_memory}
 use Rattle.probe_core.proofs.EventLemmas.{memory_opens, memory_more}
-use Rattle.desk_core.proofs.LawfulLemmas.{rule_in_range}
+use Rattle.desk_core.proofs.LawfulLemmas.{rule_counts}
 use Rattle.probe_core.specs.Events.{memory_after}
 use Rattle.desk_core.specs.declared.call.Call.{Call}
 use Rattle.desk_core.specs.declared.call.Call.TheVariants.{Register, Retire, Observe, Set, Shutdown, Resume}
@@ -164,7 +164,7 @@ heard_done : (slot i : ℕ) (event : Event) (older : List Entry) → IsLegal old
     → states (λ r. with_event r (is_shut older) (if slot == i then Some event else None) (heard older i r)) (rule_at older i) ≡ (if slot == i then noted event (probe_at older i) else probe_at older i)
 heard_done slot i event older legal replied = by_test (slot == i) refl
   where
-    by_fit : (rule : Rule) (fit shut : Bool) → is_in_range rule ≡ true → fits rule event ≡ fit
+    by_fit : (rule : Rule) (fit shut : Bool) → HasCounts rule → fits rule event ≡ fit
         → (if fit then (if shut then Ignored else Done) else WrongKind) ≡ Done
         → state_of rule (if not shut && fit then event ∷ heard older i rule else heard older i rule)
         ≡ (rule, memory_next rule event (memory_after rule (heard older i rule)))
@@ -175,7 +175,7 @@ heard_done slot i event older legal replied = by_test (slot == i) refl
     at_slot : (o : Option Rule) (shut : Bool) → rule_at older i ≡ o → reply_to_event o shut event ≡ Done
         → states (λ r. with_event r shut (Some event) (heard older i r)) o ≡ noted event (states (heard older i) o)
     at_slot None shut said is = refl
-    at_slot (Some rule) shut said is = ap Some (by_fit rule (fits rule event) shut (rule_in_range older i rule legal said) refl is)
+    at_slot (Some rule) shut said is = ap Some (by_fit rule (fits rule event) shut (rule_counts older i rule legal said) refl is)
 
     by_test : (b : Bool) → (slot == i) ≡ b → states (λ r. with_event r (is_shut older) (if b then Some event else None) (heard older i r))
         (rule_at older i) ≡ (if b then noted event (probe_at older i) else probe_at older i)

@@ -1,6 +1,7 @@
 -- How many changes a journal can have, and which of them are kept.
 use Rattle.std.proofs.Common.{ℕ, Option, Some, None, zero, suc, ◌≡◌, ◌+◌, ◌-◌, ◌*◌, ◌<◌, ◌≤◌, Bool, true, false, if◌then◌else◌, List, [], ◌∷◌, ◌++◌}
-use Rattle.std.proofs.Common.{length, take, drop, sym, ap, ◌∙◌, inl, inr, ◌⊎◌, arith, length-append}
+use Rattle.std.proofs.Common.{length, take, drop, sym, ap, subst, ◌∙◌, inl, inr, ◌⊎◌, arith, length-append}
+use Rattle.std.specs.Prelude.{IsSome}
 use Rattle.std.proofs.lemmas.List.{length-reverse, take_all}
 use Rattle.std.proofs.Math.Seq.{drop-nil}
 use Rattle.health_wire.specs.declared.serving.Serving.{Serving}
@@ -41,20 +42,26 @@ room_left journal changes kept max_entries told same few limit =
     omega (arith, ap length told, ap length same, changes_few (past journal), length-reverse journal, few, limit)
 
 -- the next change of a watch that is not behind is kept
-pub kept_suffice : (kept : Option ℕ) (changes : List Change) (watch : WatchState) → (IsBehind kept changes watch → ⊥)
-    → forgotten kept (length changes) ≤ watch.cursor
-kept_suffice None changes watch near = omega arith
-kept_suffice (Some kept) changes watch near = by_order (search arith)
+pub kept_suffice : (kept : Option ℕ) (changes : List Change) (watch : WatchState) → IsSome watch.slot
+    → (IsBehind kept changes watch → ⊥) → forgotten kept (length changes) ≤ watch.cursor
+kept_suffice None changes watch has near = omega arith
+kept_suffice (Some kept) changes watch has near = by_order (search arith)
   where
     by_order : (watch.cursor + kept < length changes) ⊎ (length changes ≤ watch.cursor + kept) → length changes - kept ≤ watch.cursor
-    by_order (inl behind) = absurd (near behind)
+    by_order (inl behind) = absurd (near (has, behind))
     by_order (inr close) = omega (arith, close)
 
 -- a watch past all that is forgotten is not behind
 pub suffice_near : (kept : Option ℕ) (changes : List Change) (watch : WatchState) → forgotten kept (length changes) ≤ watch.cursor
     → IsBehind kept changes watch → ⊥
 suffice_near None changes watch past behind = behind
-suffice_near (Some kept) changes watch past behind = omega (arith, past, behind)
+suffice_near (Some kept) changes watch past behind = omega (arith, past, behind.1)
+
+-- a watch of no slot is not behind
+pub no_slot_near : (kept : Option ℕ) (changes : List Change) (watch : WatchState) → watch.slot ≡ None → IsBehind kept changes watch → ⊥
+no_slot_near None changes watch none behind = behind
+no_slot_near (Some kept) changes watch none behind =
+    let never : false ≡ true = subst (λ (slot : Option ℕ). IsSome slot) none behind.0 in cc
 
 -- what is left of a list behind a place is left of its end from an earlier place on
 drop_of_end : {A : Type 0} (xs : List A) (at n : ℕ) → at ≤ n → drop n xs ≡ drop (n - at) (drop at xs)
@@ -65,9 +72,10 @@ drop_of_end (x ∷ xs) (suc at) (suc n) before =
     let same : n - at ≡ suc n - suc at = omega arith in
     drop_of_end xs at n (omega (arith, before)) ∙ ap (λ left. drop left (drop at xs)) same
 
-pub part_of_kept : (kept : Option ℕ) (changes : List Change) (watch : WatchState) → (IsBehind kept changes watch → ⊥)
+pub part_of_kept : (kept : Option ℕ) (changes : List Change) (watch : WatchState) → IsSome watch.slot → (IsBehind kept changes watch → ⊥)
     → drop watch.cursor changes ≡ drop (watch.cursor - forgotten kept (length changes)) (kept_of kept changes)
-part_of_kept kept changes watch near = drop_of_end changes (forgotten kept (length changes)) watch.cursor (kept_suffice kept changes watch near)
+part_of_kept kept changes watch has near =
+    drop_of_end changes (forgotten kept (length changes)) watch.cursor (kept_suffice kept changes watch has near)
 
 -- a front is no longer than the whole
 front_short : {A : Type 0} (xs ys : List A) → take (length xs) ys ≡ xs → length xs ≤ length ys
@@ -82,4 +90,4 @@ pub stays_behind : (kept : Option ℕ) (older entries : List Entry) (watch : Wat
     → IsBehind kept (changes_of older) watch → IsBehind kept (changes_of entries) watch
 stays_behind None older entries watch grows behind = behind
 stays_behind (Some kept) older entries watch grows behind =
-    omega (arith, behind, front_short (changes_of older) (changes_of entries) (front_stays older entries grows))
+    (behind.0, omega (arith, behind.1, front_short (changes_of older) (changes_of entries) (front_stays older entries grows)))

@@ -3,7 +3,8 @@ use Rattle.std.proofs.Common.{◌≡◌, ℕ, ◌^◌, ◌<◌, ◌==◌, ◌&&�
 use Rattle.std.specs.Option.{option_or}
 use Rattle.std.proofs.lemmas.Bool.{eqb-true}
 use Rattle.probe_core.specs.declared.rule.Rule.{Rule}
-use Rattle.probe_core.specs.Rule.{relied_on, is_in_range}
+use Rattle.probe_core.specs.Rule.{HasCounts, relied_on, is_in_range}
+use Rattle.probe_core.proofs.EventLemmas.{range_counts}
 use Rattle.desk_core.specs.declared.call.Call.{Call}
 use Rattle.desk_core.specs.declared.call.Call.TheVariants.{Register, Retire, Observe, Set, Shutdown, Resume}
 use Rattle.desk_core.specs.declared.entry.Entry.{Entry}
@@ -52,10 +53,6 @@ left_true : (a b : Bool) → (a && b) ≡ true → a ≡ true
 left_true true b both = refl
 left_true false b both = let never : false ≡ true = both in cc
 
--- what a lawful rule counts to is in range
-pub lawful_range : (i : ℕ) (rule : Rule) → IsLawful i rule → is_in_range rule ≡ true
-lawful_range i rule lawful = left_true (is_in_range rule) _ lawful
-
--- so is what the rule in force counts to
-pub rule_in_range : (entries : List Entry) (i : ℕ) (rule : Rule) → IsLegal entries → rule_at entries i ≡ Some rule → is_in_range rule ≡ true
-rule_in_range entries i rule legal is = lawful_range i rule (lawful_rule entries i rule legal is)
+-- what the rule in force counts to is at least one
+pub rule_counts : (entries : List Entry) (i : ℕ) (rule : Rule) → IsLegal entries → rule_at entries i ≡ Some rule → HasCounts rule
+rule_counts entries i rule legal is = range_counts rule (left_true (is_in_range rule) _ (lawful_rule entries i rule legal is))

@@ -7,7 +7,7 @@ use Rattle.health_wire.specs.declared.serving.Serving.{Serving}
 use Rattle.health_wire.specs.declared.serving.Serving.TheVariants.{Unknown, NotServing}
 use Rattle.probe_core.specs.declared.event.Event.{Event}
 use Rattle.probe_core.specs.declared.rule.Rule.{Rule}
-use Rattle.probe_core.specs.Rule.{fits, is_unknown_at, is_up_at, relied_on, is_in_range}
+use Rattle.probe_core.specs.Rule.{fits, is_unknown_at, is_up_at, relied_on, HasCounts}
 use Rattle.probe_core.specs.Events.{all_fit, is_unknown, is_up, memory_after}
 use Rattle.desk_core.specs.declared.entry.Entry.{Entry}
 use Rattle.desk_core.specs.Shut.{is_shut}
@@ -20,7 +20,7 @@ use Rattle.desk_core.specs.Board.{packed, status_in}
 use Rattle.desk_core.specs.Slots.{covers_below, opinion_at, status_from, with_status}
 use Rattle.desk_core.specs.Desk.{Keeps, probe_at}
 use Rattle.desk_core.proofs.HistoryLemmas.{state_of}
-use Rattle.desk_core.proofs.LawfulLemmas.{lawful_rule, relied_below, rule_in_range}
+use Rattle.desk_core.proofs.LawfulLemmas.{lawful_rule, relied_below, rule_counts}
 use Rattle.desk_core.proofs.BoardLemmas.{IsKept, read_same, read_other}
 
 -- every slot of a mask below the n-th is serving where their statuses say so
@@ -81,9 +81,9 @@ heard_fits (entry ∷ older) i rule = fits_with rule (heard older i rule) (forge
 
 -- what the memory of a lawful rule tells of the events: whether the service is up, and whether it is unknown
 pub record Tells : Type 0 where
-  pub up : (rule : Rule) (events : List Event) → is_in_range rule ≡ true → all_fit rule events ≡ true
+  pub up : (rule : Rule) (events : List Event) → HasCounts rule → all_fit rule events ≡ true
       → is_up_at rule (memory_after rule events) ≡ (is_up rule events && not (is_unknown rule events))
-  pub unknown : (rule : Rule) (events : List Event) → is_in_range rule ≡ true → all_fit rule events ≡ true
+  pub unknown : (rule : Rule) (events : List Event) → HasCounts rule → all_fit rule events ≡ true
       → is_unknown_at rule (memory_after rule events) ≡ is_unknown rule events
 
 same_opinion : (unknown up covered : Bool) → (if unknown then Unknown else serving_if ((up && not unknown) && covered)) ≡ (if unknown then Unknown else serving_if (up && covered))
@@ -110,7 +110,7 @@ status_of_probe tells entries i below legal in_range known = by_rule (rule_at en
     opinion_of rule is =
         let events = heard entries i rule in
         let covers = covers_below below 16 (relied_on rule) in
-        let counts = rule_in_range entries i rule legal is in
+        let counts = rule_counts entries i rule legal is in
         let fit = heard_fits entries i rule in
         ap (λ b. if b then Unknown else serving_if (is_up_at rule (memory_after rule events) && covers)) (tells.unknown rule events counts fit)
         ∙ ap (λ b. if is_unknown rule events then Unknown else serving_if (b && covers)) (tells.up rule events counts fit)

@@ -1,5 +1,5 @@
 -- What a desk means, and what its parts keep.
-use Rattle.std.specs.Prelude.{◌≡◌, ℕ, ◌^◌, ◌<◌, ◌≤◌, Bool, Option, None, Some, List, length, slice_index_or, Result}
+use Rattle.std.specs.Prelude.{◌≡◌, ℕ, ◌^◌, ◌<◌, ◌≤◌, Bool, Option, None, Some, List, [], length, slice_index_or, Result}
 use Rattle.std.specs.Option.{option_map}
 use Rattle.probe_core.specs.declared.rule.Rule.{Rule}
 use Rattle.probe_core.specs.Events.{memory_after}
@@ -7,6 +7,7 @@ use Rattle.desk_core.specs.declared.call.Call.{Call}
 use Rattle.desk_core.specs.declared.call.Call.TheVariants.{Register, Retire, Observe, Set, Shutdown, Resume}
 use Rattle.desk_core.specs.declared.change.Change.{Change}
 use Rattle.desk_core.specs.declared.entry.Entry.{Entry}
+use Rattle.desk_core.specs.declared.keep.Capacity.{Capacity}
 use Rattle.desk_core.specs.declared.refusal.Refusal.{Refusal}
 use Rattle.desk_core.specs.declared.reply.Reply.{Reply}
 use Rattle.desk_core.specs.Past.{past}
@@ -19,11 +20,41 @@ use Rattle.desk_core.specs.Changes.{changes_of}
 use Rattle.desk_core.specs.Status.{status_at}
 use Rattle.desk_core.specs.Board.{packed}
 use Rattle.desk_core.specs.Cache.{HasDependents, Leaves}
+use Rattle.tail.specs.Tail.{most_held}
 
--- a desk: its whole journal, the oldest entry first, and how many entries it may have
+-- a desk: its whole journal, the oldest entry first; how many entries it may have; for how many entries and status changes
+-- there is memory; and how many slots have memory for a probe
 pub record State : Type 0 where
   pub journal : List Entry
   pub max_entries : ℕ
+  pub capacity : Capacity
+  pub places : ℕ
+
+-- a new desk: it has no entry, and takes no memory yet
+abbrev pub new_desk : ℕ → State
+new_desk max_entries = record {
+  journal = [];
+  max_entries = max_entries;
+  capacity = record { entries = 0; changes = 0 };
+  places = 0;
+}
+
+-- a desk has all the memory that it may take: its two lists, which keep so many entries and status changes, and its slots
+pub record HasAllMemory (kept : ℕ) (desk : State) : Type 0 where
+  pub entries : desk.capacity.entries ≡ most_held kept
+  pub changes : desk.capacity.changes ≡ most_held kept
+  pub places : 16 ≤ desk.places
+
+-- a desk that forgets has all the memory that it may take; one that keeps all never has
+abbrev pub IsAtLimit : Option ℕ → State → Type 0
+IsAtLimit None desk = ⊥
+IsAtLimit (Some kept) desk = HasAllMemory kept desk
+
+-- a desk has given no memory back
+pub record HoldsMemory (old new : State) : Type 0 where
+  pub entries : old.capacity.entries ≤ new.capacity.entries
+  pub changes : old.capacity.changes ≤ new.capacity.changes
+  pub places : old.places ≤ new.places
 
 -- the probe of a registered slot: the rule in force, and the memory of the events that it heard
 abbrev pub probe_at : List Entry → ℕ → Option (Rule × ℕ)

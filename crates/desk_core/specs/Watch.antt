@@ -1,5 +1,5 @@
 -- Watchers: after its first status (`shown`) each is told its service's later status changes, each once and in order.
-use Rattle.std.specs.Prelude.{◌≡◌, ℕ, suc, ◌+◌, ◌<◌, ◌==◌, Bool, Option, None, Some, List, [], ◌∷◌, ◌++◌, length, map, take, drop, reverse, slice_get, max, unwrap_or}
+use Rattle.std.specs.Prelude.{◌≡◌, ℕ, suc, ◌+◌, ◌<◌, ◌==◌, Bool, Option, None, Some, List, [], ◌∷◌, ◌++◌, length, map, take, drop, reverse, slice_get, max, unwrap_or, IsSome}
 use Rattle.std.specs.List.{position, filter, find}
 use Rattle.std.specs.Option.{option_map, option_and_then}
 use Rattle.health_wire.specs.declared.serving.Serving.{Serving}
@@ -38,11 +38,11 @@ abbrev pub cursor_after : List Change → WatchState → ℕ
 cursor_after changes watch =
     unwrap_or (option_map suc (next_change changes watch.slot watch.cursor)) (max watch.cursor (length changes))
 
--- the watcher is before the oldest change that is kept, so that its next one may be forgotten; also a watcher of no slot, which has
--- no change: the rule is by the cursor alone; where all are kept none ever is
+-- the watcher of a service is before the oldest change that is kept, so that its next one may be forgotten. Where all are kept
+-- none is; and a watcher of no slot has no next change
 abbrev pub IsBehind : Option ℕ → List Change → WatchState → Type 0
 IsBehind None changes watch = ⊥
-IsBehind (Some kept) changes watch = watch.cursor + kept < length changes
+IsBehind (Some kept) changes watch = IsSome watch.slot × (watch.cursor + kept < length changes)
 
 -- a step of a watcher
 abbrev pub stepped : List Change → WatchState → Option Serving × WatchState

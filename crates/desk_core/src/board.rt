@@ -18,7 +18,8 @@ pub fn board_entries(word: u64) -> u32
 /// What `Desk::check` answered for the slot when `Desk::board` gave this word.
 pub fn board_status(word: u64, slot: Slot) -> Option<Serving>
     ensures value { result ≡ status_in word slot }
-    ensures board { (entries : List Entry) → word ≡ board_of entries → result ≡ checked entries (Some slot) }
+    ensures board { (entries : List Entry) → word ≡ board_of entries
+        → result ≡ checked entries (Some slot) }
 {
     StatusWord::on_board(word).get(slot)
 }

@@ -69,7 +69,8 @@ impl Cache {
     /// changed.
     pub(crate) fn refresh<P: Probe>(&mut self, slots: &Slots<P>, is_shut: bool, touched: u16)
         ensures dependents { self.new.dependents ≡ self.old.dependents }
-        ensures statuses { IsRefreshed touched slots.now.places.items is_shut self.old.dependents self.old.statuses self.new.statuses }
+        ensures statuses { IsRefreshed touched slots.now.places.items is_shut
+            self.old.dependents self.old.statuses self.new.statuses }
     {
         let mut marked = touched;
         for number in 0..Slot::COUNT {
@@ -87,10 +88,13 @@ impl Cache {
     ) -> u16
         ensures dependents { self.new.dependents ≡ self.old.dependents }
         ensures unmarked { has_slot marked slot ≡ false → self.new.statuses ≡ self.old.statuses }
-        ensures marked { has_slot marked slot ≡ true → self.new.statuses ≡ packed (with_status (status_in self.old.statuses) slot
-            (option_map (status_from (covers_below (status_in self.old.statuses) 16) is_shut) (slice_index_or slots.now.places.items slot None))) 16 }
+        ensures marked { has_slot marked slot ≡ true
+            → self.new.statuses ≡ packed (with_status (status_in self.old.statuses) slot
+            (option_map (status_from (covers_below (status_in self.old.statuses) 16) is_shut)
+            (slice_index_or slots.now.places.items slot None))) 16 }
         ensures same { self.new.statuses ≡ self.old.statuses → result ≡ marked }
-        ensures changed { self.new.statuses ≢ self.old.statuses → result ≡ bit_or marked (slice_index_or self.old.dependents slot 0) }
+        ensures changed { self.new.statuses ≢ self.old.statuses
+            → result ≡ bit_or marked (slice_index_or self.old.dependents slot 0) }
     {
         if !has_slot(marked, slot) {
             return marked;
@@ -118,7 +122,8 @@ fn relies_on(rule: Option<Rule>, on: Slot) -> bool
 
 /// The mask with this slot, or without it.
 fn with_bit(mask: u16, slot: Slot, is_in: bool) -> u16
-    ensures { (i : ℕ) → i < 16 → has_slot result i ≡ (if i == slot then is_in else has_slot mask i) }
+    ensures { (i : ℕ) → i < 16
+        → has_slot result i ≡ (if i == slot then is_in else has_slot mask i) }
 {
     let bit = 1u16 << slot.number();
     if is_in { mask | bit } else { mask & !bit }

@@ -26,7 +26,8 @@ pub(crate) fn tell(changes: &mut Tail<Change>, at: u32, before: StatusWord, afte
     requires few { length changes.old.items + 16 < 2 ^ 63 }
     ensures kept { changes.new.keep ≡ changes.old.keep }
     ensures capacity { changes.new.capacity ≡ changes.old.capacity }
-    ensures told { changes.new.items ≡ changes.old.items ++ changed at (shown_in before) (shown_in after) 16 }
+    ensures told { changes.new.items
+        ≡ changes.old.items ++ changed at (shown_in before) (shown_in after) 16 }
 {
     let mut old = before.word();
     let mut new = after.word();
@@ -51,7 +52,9 @@ fn first_shown(word: u32) -> Serving
 fn tell_slot(changes: &mut Tail<Change>, at: u32, slot: Slot, before: Serving, after: Serving)
     requires room { 0 < changes.old.room }
     requires few { length changes.old.items + 1 < 2 ^ 63 }
-    ensures told { changes.new.items ≡ changes.old.items ++ (if is_same before after then [] else record { at = at; slot = slot; status = after } ∷ []) }
+    ensures told { changes.new.items ≡ changes.old.items
+        ++ (if is_same before after then []
+        else record { at = at; slot = slot; status = after } ∷ []) }
     ensures len { length changes.new.items ≤ length changes.old.items + 1 }
     ensures room { changes.old.room ≤ changes.new.room + 1 }
     ensures kept { changes.new.keep ≡ changes.old.keep }

@@ -31,18 +31,30 @@ pub struct Desk<P: Probe, K: Keep = KeepAll> {
 }
 
 impl<P: Probe, K: Keep> Model for Desk<P, K> {
-    ghost use Rattle.std.specs.Prelude.{◌≡◌};
+    ghost use Rattle.std.specs.Prelude.{◌≡◌, length};
     ghost use Rattle.desk_core.specs.Desk.{State, IsDesk};
 
     ghost Value = { State };
 
-    ghost view = { λ desk. record { journal = desk.history.journal.items; max_entries = desk.max_entries } };
+    ghost view = { λ desk. record {
+      journal = desk.history.journal.items;
+      max_entries = desk.max_entries;
+      capacity = record {
+        entries = desk.history.journal.capacity;
+        changes = desk.history.changes.capacity;
+      };
+      places = length desk.slots.places.items;
+    } };
 
-    ghost invariant = { λ desk. IsDesk desk.slots.places.items desk.is_shut desk.history.journal.items desk.history.changes.items desk.history.cache.statuses desk.history.cache.dependents desk.max_entries × (desk.history.journal.keep ≡ K.kept) × (desk.history.changes.keep ≡ K.kept) };
+    ghost invariant = { λ desk.
+        IsDesk desk.slots.places.items desk.is_shut desk.history.journal.items
+        desk.history.changes.items desk.history.cache.statuses
+        desk.history.cache.dependents desk.max_entries
+        × (desk.history.journal.keep ≡ K.kept) × (desk.history.changes.keep ≡ K.kept) };
 }
 
 impl<P: Probe, K: Keep> Desk<P, K> {
-    ghost use Rattle.std.specs.Prelude.{◌≡◌, ◌<◌, ◌≤◌, ◌↔◌, ℕ, [], length, None, Ok, Err, IfSome, IfNone, IfOk, IfErr, IsErr, OnOk, OnErr, MatchResult};
+    ghost use Rattle.std.specs.Prelude.{◌≡◌, ◌≢◌, ◌<◌, ◌≤◌, ◌↔◌, ℕ, length, None, Ok, Err, IfSome, IfNone, IfOk, IfErr, IsErr, OnOk, OnErr, MatchResult};
     ghost use Rattle.std.specs.Option.{option_map};
     ghost use Rattle.desk_core.specs.Past.{past};
     ghost use Rattle.desk_core.specs.Mutation.{rule_of};
@@ -54,11 +66,11 @@ impl<P: Probe, K: Keep> Desk<P, K> {
     ghost use Rattle.desk_core.specs.Watch.{IsBehind, opened, stepped};
     ghost use Rattle.tail.specs.Tail.{kept_of, most_held};
     ghost use Rattle.desk_core.specs.Board.{board_of};
-    ghost use Rattle.desk_core.specs.Desk.{HasAnswered, probe_at, probe_of};
+    ghost use Rattle.desk_core.specs.Desk.{HasAnswered, HoldsMemory, IsAtLimit, new_desk, probe_at, probe_of};
 
     /// An empty desk, whose journal takes at most so many entries. It takes no memory yet.
     pub fn new(alloc: Global, max_entries: u32) -> Desk<P, K>
-        ensures { result ≡ record { journal = []; max_entries = max_entries } }
+        ensures { result ≡ new_desk max_entries }
     {
         Desk {
             slots: Slots::new(alloc),
@@ -78,9 +90,12 @@ impl<P: Probe, K: Keep> Desk<P, K> {
 
     /// For how many entries and changes there is memory.
     pub fn capacity(&self) -> Capacity
+        ensures capacity { result ≡ self.now.capacity }
         ensures entries { length (kept_of K.kept self.now.journal) ≤ result.entries }
-        ensures changes { length (kept_of K.kept (changes_of (past self.now.journal))) ≤ result.changes }
-        ensures most { IfSome K.kept (λ kept. (result.entries ≤ most_held kept) × (result.changes ≤ most_held kept)) }
+        ensures changes { length (kept_of K.kept (changes_of (past self.now.journal)))
+            ≤ result.changes }
+        ensures most { IfSome K.kept (λ kept.
+            (result.entries ≤ most_held kept) × (result.changes ≤ most_held kept)) }
     {
         self.history.capacity()
     }
@@ -94,9 +109,15 @@ impl<P: Probe, K: Keep> Desk<P, K> {
         probe: Option<P>,
     ) -> Result<(Reply, Option<P>), (Refusal, Option<P>)>
         requires ruled { option_map P.rule probe ≡ rule_of call }
-        ensures answered { MatchResult result (λ taken. HasAnswered self.old self.new seat call (Ok taken.0)) (λ refused. HasAnswered self.old self.new seat call (Err refused.0)) }
-        ensures old { IfOk result (λ taken. option_map (λ p. (P.rule p, P.memory p)) taken.1 ≡ probe_of (past self.old.journal) call) }
+        ensures answered { MatchResult result
+            (λ taken. HasAnswered self.old self.new seat call (Ok taken.0))
+            (λ refused. HasAnswered self.old self.new seat call (Err refused.0)) }
+        ensures old { IfOk result (λ taken. option_map (λ p. (P.rule p, P.memory p)) taken.1
+            ≡ probe_of (past self.old.journal) call) }
         ensures handed_back { IfErr result (λ refused. refused.1 ≡ probe) }
+        ensures full { IsAtLimit K.kept self.old
+            → IfErr result (λ refused. refused.0 ≢ Refusal.NoMemory) }
+        ensures holds { HoldsMemory self.old self.new }
     {
         if let Some(refusal) = self.refusal_of(&call) {
             return Err((refusal, probe));
@@ -116,8 +137,11 @@ impl<P: Probe, K: Keep> Desk<P, K> {
 
     /// Why the change is refused, other than out of memory.
     fn refusal_of(&self, call: &Call) -> Option<Refusal>
-        ensures some { (seat : ℕ) → IfSome result (λ refusal. HasAnswered self.now self.now seat call.now (Err refusal)) }
-        ensures none { IfNone result (IsLawfulCall call.now × (length self.now.journal < self.now.max_entries)) }
+        ensures some { (seat : ℕ) → IfSome result (λ refusal.
+            HasAnswered self.now self.now seat call.now (Err refusal)) }
+        ensures other { IfSome result (λ refusal. refusal ≢ Refusal.NoMemory) }
+        ensures none { IfNone result
+            (IsLawfulCall call.now × (length self.now.journal < self.now.max_entries)) }
     {
         if !is_lawful_call(call) {
             return Some(Refusal::BadRule);
@@ -153,9 +177,14 @@ impl<P: Probe, K: Keep> Desk<P, K> {
 
     /// Puts a probe, in its opening state, into the slot.
     pub fn register(&mut self, seat: u16, slot: Slot, probe: P) -> Result<Registered<P>, Handed<P>>
-        ensures answered { MatchResult result (λ taken. HasAnswered self.old self.new seat (Call.Register slot (P.rule probe)) (Ok taken.reply)) (λ handed. HasAnswered self.old self.new seat (Call.Register slot (P.rule probe)) (Err handed.refusal)) }
-        ensures old { IfOk result (λ taken. option_map (λ p. (P.rule p, P.memory p)) taken.old ≡ probe_at (past self.old.journal) slot) }
+        ensures answered { let call : Call = Call.Register slot (P.rule probe) in MatchResult result
+            (λ taken. HasAnswered self.old self.new seat call (Ok taken.reply))
+            (λ handed. HasAnswered self.old self.new seat call (Err handed.refusal)) }
+        ensures old { IfOk result (λ taken. option_map (λ p. (P.rule p, P.memory p)) taken.old
+            ≡ probe_at (past self.old.journal) slot) }
         ensures handed_back { IfErr result (λ handed. handed.probe ≡ probe) }
+        ensures full { IsAtLimit K.kept self.old
+            → IfErr result (λ handed. handed.refusal ≢ Refusal.NoMemory) }
     {
         let call = Call::Register(slot, probe.rule());
         match self.change(seat, call, Some(probe)) {
@@ -169,8 +198,13 @@ impl<P: Probe, K: Keep> Desk<P, K> {
 
     /// Takes the slot's probe out, if there is one.
     pub fn retire(&mut self, seat: u16, slot: Slot) -> Result<(Reply, Option<P>), Refusal>
-        ensures answered { MatchResult result (λ taken. HasAnswered self.old self.new seat (Call.Retire slot) (Ok taken.0)) (λ refusal. HasAnswered self.old self.new seat (Call.Retire slot) (Err refusal)) }
-        ensures old { IfOk result (λ taken. option_map (λ p. (P.rule p, P.memory p)) taken.1 ≡ probe_at (past self.old.journal) slot) }
+        ensures answered { MatchResult result
+            (λ taken. HasAnswered self.old self.new seat (Call.Retire slot) (Ok taken.0))
+            (λ refusal. HasAnswered self.old self.new seat (Call.Retire slot) (Err refusal)) }
+        ensures old { IfOk result (λ taken. option_map (λ p. (P.rule p, P.memory p)) taken.1
+            ≡ probe_at (past self.old.journal) slot) }
+        ensures full { IsAtLimit K.kept self.old
+            → IfErr result (λ refusal. refusal ≢ Refusal.NoMemory) }
     {
         match self.change(seat, Call::Retire(slot), None) {
             Ok(taken) => Ok(taken),
@@ -181,6 +215,7 @@ impl<P: Probe, K: Keep> Desk<P, K> {
     /// Lets the slot's probe hear a finding.
     pub fn observe(&mut self, seat: u16, slot: Slot, finding: Finding) -> Result<Reply, Refusal>
         ensures answered { HasAnswered self.old self.new seat (Call.Observe slot finding) result }
+        ensures full { IsAtLimit K.kept self.old → result ≢ Err Refusal.NoMemory }
     {
         self.make(seat, Call::Observe(slot, finding))
     }
@@ -188,6 +223,7 @@ impl<P: Probe, K: Keep> Desk<P, K> {
     /// Lets the slot's probe hear a setting.
     pub fn set(&mut self, seat: u16, slot: Slot, setting: Setting) -> Result<Reply, Refusal>
         ensures answered { HasAnswered self.old self.new seat (Call.Set slot setting) result }
+        ensures full { IsAtLimit K.kept self.old → result ≢ Err Refusal.NoMemory }
     {
         self.make(seat, Call::Set(slot, setting))
     }
@@ -195,6 +231,7 @@ impl<P: Probe, K: Keep> Desk<P, K> {
     /// Shows every registered service as not serving, until the next resume.
     pub fn shutdown(&mut self, seat: u16) -> Result<Reply, Refusal>
         ensures answered { HasAnswered self.old self.new seat Call.Shutdown result }
+        ensures full { IsAtLimit K.kept self.old → result ≢ Err Refusal.NoMemory }
     {
         self.make(seat, Call::Shutdown)
     }
@@ -202,6 +239,7 @@ impl<P: Probe, K: Keep> Desk<P, K> {
     /// Takes every probe back to its opening state, also where nothing was shut down.
     pub fn resume(&mut self, seat: u16) -> Result<Reply, Refusal>
         ensures answered { HasAnswered self.old self.new seat Call.Resume result }
+        ensures full { IsAtLimit K.kept self.old → result ≢ Err Refusal.NoMemory }
     {
         self.make(seat, Call::Resume)
     }
@@ -209,7 +247,8 @@ impl<P: Probe, K: Keep> Desk<P, K> {
     /// Makes a change that registers nothing.
     fn make(&mut self, seat: u16, call: Call) -> Result<Reply, Refusal>
         requires { rule_of call ≡ None }
-        ensures { HasAnswered self.old self.new seat call result }
+        ensures answered { HasAnswered self.old self.new seat call result }
+        ensures full { IsAtLimit K.kept self.old → result ≢ Err Refusal.NoMemory }
     {
         match self.change(seat, call, None) {
             Ok((reply, _)) => Ok(reply),
@@ -255,9 +294,12 @@ impl<P: Probe, K: Keep> Desk<P, K> {
 
     /// The same as `step`, unless the watch is behind: then it stays as it is, and is behind for good.
     pub fn step_kept(&self, watch: &mut Watch) -> Result<Option<Serving>, Behind>
-        ensures status { IfOk result (λ status. status ≡ (stepped (changes_of (past self.now.journal)) watch.old).0) }
-        ensures watch { OnOk result (watch.new ≡ (stepped (changes_of (past self.now.journal)) watch.old).1) }
-        ensures behind { IsErr result ↔ IsBehind K.kept (changes_of (past self.now.journal)) watch.old }
+        ensures status { IfOk result
+            (λ status. status ≡ (stepped (changes_of (past self.now.journal)) watch.old).0) }
+        ensures watch { OnOk result (watch.new
+            ≡ (stepped (changes_of (past self.now.journal)) watch.old).1) }
+        ensures behind { IsErr result
+            ↔ IsBehind K.kept (changes_of (past self.now.journal)) watch.old }
         ensures stays { OnErr result (watch.new ≡ watch.old) }
         ensures legal { IsLegal (past self.now.journal) }
     {

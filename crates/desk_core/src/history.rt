@@ -38,6 +38,7 @@ impl History {
         ensures statuses { result.cache.statuses ≡ 0 }
         ensures dependents { result.cache.dependents ≡ replicate 16 0 }
         ensures kept { (result.journal.keep ≡ keep) × (result.changes.keep ≡ keep) }
+        ensures capacity { (result.journal.capacity ≡ 0) × (result.changes.capacity ≡ 0) }
     {
         History {
             journal: Tail::new(alloc, keep),
@@ -68,11 +69,16 @@ impl History {
 
     /// For how many entries and changes there is memory.
     pub(crate) fn capacity(&self) -> Capacity
-        ensures capacity { (result.entries ≡ self.now.journal.capacity) × (result.changes ≡ self.now.changes.capacity) }
-        ensures entries { length (kept_of self.now.journal.keep self.now.journal.items) ≤ result.entries }
-        ensures changes { length (kept_of self.now.changes.keep self.now.changes.items) ≤ result.changes }
-        ensures most_entries { IfSome self.now.journal.keep (λ kept. result.entries ≤ most_held kept) }
-        ensures most_changes { IfSome self.now.changes.keep (λ kept. result.changes ≤ most_held kept) }
+        ensures capacity { (result.entries ≡ self.now.journal.capacity)
+            × (result.changes ≡ self.now.changes.capacity) }
+        ensures entries { length (kept_of self.now.journal.keep self.now.journal.items)
+            ≤ result.entries }
+        ensures changes { length (kept_of self.now.changes.keep self.now.changes.items)
+            ≤ result.changes }
+        ensures most_entries { IfSome self.now.journal.keep (λ kept.
+            result.entries ≤ most_held kept) }
+        ensures most_changes { IfSome self.now.changes.keep (λ kept.
+            result.changes ≤ most_held kept) }
     {
         Capacity {
             entries: self.journal.capacity(),
@@ -89,15 +95,20 @@ impl History {
     /// Adds an entry at the end, once there is room for what it may change, and answers its place.
     pub(crate) fn append(&mut self, seat: u16, call: Call, reply: Reply) -> Result<u32, AllocError>
         requires { length self.old.journal.items < 2 ^ 32 }
-        ensures ok { OnOk result (self.new.journal.items ≡ self.old.journal.items ++ entry_of seat call reply ∷ []) }
-        ensures at { IfOk result (λ at. at ≡ length self.old.journal.items) }
+        ensures ok { IfOk result (λ at. (at ≡ length self.old.journal.items)
+            × (self.new.journal.items
+            ≡ self.old.journal.items ++ entry_of seat call reply ∷ [])) }
         ensures err { OnErr result (self.new.journal.items ≡ self.old.journal.items) }
         ensures changes { self.new.changes.items ≡ self.old.changes.items }
         ensures cache { self.new.cache ≡ self.old.cache }
         ensures room { OnOk result (16 ≤ self.new.changes.room) }
-        ensures full { (most : ℕ) → self.old.journal.keep ≡ Some most → self.old.changes.keep ≡ Some most → self.old.journal.capacity ≡ most_held most → self.old.changes.capacity ≡ most_held most → IsOk result }
-        ensures grows { (self.old.journal.capacity ≤ self.new.journal.capacity) × (self.old.changes.capacity ≤ self.new.changes.capacity) }
-        ensures kept { (self.new.journal.keep ≡ self.old.journal.keep) × (self.new.changes.keep ≡ self.old.changes.keep) }
+        ensures full { (most : ℕ) → self.old.journal.keep ≡ Some most
+            → self.old.changes.keep ≡ Some most → self.old.journal.capacity ≡ most_held most
+            → self.old.changes.capacity ≡ most_held most → IsOk result }
+        ensures grows { (self.old.journal.capacity ≤ self.new.journal.capacity)
+            × (self.old.changes.capacity ≤ self.new.changes.capacity) }
+        ensures kept { (self.new.journal.keep ≡ self.old.journal.keep)
+            × (self.new.changes.keep ≡ self.old.changes.keep) }
     {
         let at = self.journal.len() as u32;
         self.changes.reserve(usize::from(Slot::COUNT))?;
@@ -111,11 +122,16 @@ impl History {
     pub(crate) fn show<P: Probe>(&mut self, slots: &Slots<P>, is_shut: bool, call: &Call, at: u32)
         requires room { 16 ≤ self.old.changes.room }
         requires few { length self.old.changes.items + 16 < 2 ^ 63 }
-        ensures kept { (self.new.journal.keep ≡ self.old.journal.keep) × (self.new.changes.keep ≡ self.old.changes.keep) }
-        ensures capacity { (self.new.journal.capacity ≡ self.old.journal.capacity) × (self.new.changes.capacity ≡ self.old.changes.capacity) }
+        ensures kept { (self.new.journal.keep ≡ self.old.journal.keep)
+            × (self.new.changes.keep ≡ self.old.changes.keep) }
+        ensures capacity { (self.new.journal.capacity ≡ self.old.journal.capacity)
+            × (self.new.changes.capacity ≡ self.old.changes.capacity) }
         ensures journal { self.new.journal.items ≡ self.old.journal.items }
-        ensures changes { self.new.changes.items ≡ self.old.changes.items ++ changed at (shown_in self.old.cache.statuses) (shown_in self.new.cache.statuses) 16 }
-        ensures statuses { IsShown (touched call.now) slots.now.places.items is_shut self.new.cache.dependents self.old.cache.statuses self.new.cache.statuses }
+        ensures changes { self.new.changes.items
+            ≡ self.old.changes.items
+            ++ changed at (shown_in self.old.cache.statuses) (shown_in self.new.cache.statuses) 16 }
+        ensures statuses { IsShown (touched call.now) slots.now.places.items is_shut
+            self.new.cache.dependents self.old.cache.statuses self.new.cache.statuses }
         ensures dependents { IsRelated call.now self.old.cache.dependents self.new.cache.dependents }
     {
         memory_tells_status();

@@ -1,4 +1,4 @@
-ghost use Rattle.std.specs.Prelude.{◌≡◌, ◌-◌, ◌<◌, ◌≤◌, ◌↔◌, ◌⊎◌, if◌then◌else◌, List, ℕ, Option, Result, Err, take, drop, Some, None, true, false, [], ◌∷◌, ◌++◌, length, All, Contains};
+ghost use Rattle.std.specs.Prelude.{◌≡◌, ◌-◌, ◌<◌, ◌≤◌, ◌↔◌, ◌⊎◌, if◌then◌else◌, List, ℕ, Option, Result, Err, take, drop, Some, None, true, false, [], ◌∷◌, ◌++◌, length, All, Contains, IsSome};
 ghost use Rattle.std.specs.List.{last_or};
 ghost use Rattle.desk_core.specs.declared.call.Call.{Call};
 ghost use Rattle.desk_core.specs.declared.call.Call.TheVariants.{Shutdown, Resume};
@@ -50,34 +50,42 @@ pub fn faultless_names()
 /// The last Shutdown or Resume decides whether the server is shut down, and before the first it is not.
 pub fn last_call_decides()
     ensures none { is_shut [] ≡ false }
-    ensures shutdown { (entry : Entry) (older : List Entry) → entry.call ≡ Shutdown → is_shut (entry ∷ older) ≡ true }
-    ensures resume { (entry : Entry) (older : List Entry) → entry.call ≡ Resume → is_shut (entry ∷ older) ≡ false }
-    ensures others { (entry : Entry) (older : List Entry) → says_shut entry.call ≡ None → is_shut (entry ∷ older) ≡ is_shut older }
+    ensures shutdown { (entry : Entry) (older : List Entry) → entry.call ≡ Shutdown
+        → is_shut (entry ∷ older) ≡ true }
+    ensures resume { (entry : Entry) (older : List Entry) → entry.call ≡ Resume
+        → is_shut (entry ∷ older) ≡ false }
+    ensures others { (entry : Entry) (older : List Entry) → says_shut entry.call ≡ None
+        → is_shut (entry ∷ older) ≡ is_shut older }
 {}
 
 /// A service that depends on others is serving exactly where each slot of its mask is, while the server is not shut down.
 pub fn depends_on_all()
-    ensures { (entries : List Entry) (i mask : ℕ) → IsLegal entries → rule_at entries i ≡ Some (Depends mask) → is_shut entries ≡ false
+    ensures { (entries : List Entry) (i mask : ℕ) → IsLegal entries
+        → rule_at entries i ≡ Some (Depends mask) → is_shut entries ≡ false
         → ((status_at entries i ≡ Some IsServing) ↔ AllServe entries mask) }
 {}
 
 /// While the server is not shut down, a service whose rule relies on no other is unknown where it heard nothing and starts unknown, and
 /// else serving exactly where it is up by what it heard.
 pub fn events_decide()
-    ensures { (entries : List Entry) (i : ℕ) (rule : Rule) → rule_at entries i ≡ Some rule → relied_on rule ≡ 0 → is_shut entries ≡ false
+    ensures { (entries : List Entry) (i : ℕ) (rule : Rule) → rule_at entries i ≡ Some rule
+        → relied_on rule ≡ 0 → is_shut entries ≡ false
         → let events : List Event = heard entries i rule in
-        status_at entries i ≡ Some (if is_unknown rule events then Unknown else serving_if (is_up rule events)) }
+        status_at entries i
+        ≡ Some (if is_unknown rule events then Unknown else serving_if (is_up rule events)) }
 {}
 
 /// One more entry with the reply that the history gives keeps it legal.
 pub fn legal_growth()
-    ensures { (journal : List Entry) (entry : Entry) → IsLegal (past journal) → entry.reply ≡ reply_to (past journal) entry.call
+    ensures { (journal : List Entry) (entry : Entry) → IsLegal (past journal)
+        → entry.reply ≡ reply_to (past journal) entry.call
         → IsLawfulCall entry.call → IsLegal (past (journal ++ entry ∷ [])) }
 {}
 
 /// A front of a legal history is legal.
 pub fn legal_fronts()
-    ensures { (journal more : List Entry) → IsLegal (past (journal ++ more)) → IsLegal (past journal) }
+    ensures { (journal more : List Entry) → IsLegal (past (journal ++ more))
+        → IsLegal (past journal) }
 {}
 
 /// Where one history goes on from another, its changes begin with those of the other.
@@ -91,62 +99,88 @@ pub fn changes_grow()
 pub fn steps_leave_none_out()
     ensures none { (changes : List Change) (watch : WatchState) → answer_of changes watch ≡ None
         → length changes ≤ cursor_after changes watch }
-    ensures some { (changes : List Change) (watch : WatchState) (status : Serving) → answer_of changes watch ≡ Some status
-        → (watch.cursor < cursor_after changes watch) × (cursor_after changes watch ≤ length changes) }
+    ensures some { (changes : List Change) (watch : WatchState) (status : Serving)
+        → answer_of changes watch ≡ Some status
+        → (watch.cursor < cursor_after changes watch)
+        × (cursor_after changes watch ≤ length changes) }
 
     // A step moves past no change of its service but the one that it tells.
     ensures first { (changes : List Change) (watch : WatchState)
-        → story changes watch.slot watch.cursor (cursor_after changes watch) ≡ told (answer_of changes watch) }
+        → story changes watch.slot watch.cursor (cursor_after changes watch)
+        ≡ told (answer_of changes watch) }
 {}
 
 /// The steps of a watcher, taken while the journal grows, tell its service's changes from its opening up to where its
 /// cursor then stands: each once, in order, and none left out.
 pub fn walks_tell_the_story()
-    ensures story { (entries : List Entry) (later : List (List Entry)) (slot : Option ℕ) → GoOn entries later
+    ensures story { (entries : List Entry) (later : List (List Entry)) (slot : Option ℕ)
+        → GoOn entries later
         → walk (opened (changes_of entries) slot) later
-        ≡ story (changes_of (last_of entries later)) slot (length (changes_of entries)) (cursor_past (opened (changes_of entries) slot) later) }
-    ensures range { (entries : List Entry) (later : List (List Entry)) (slot : Option ℕ) → GoOn entries later
+        ≡ story (changes_of (last_of entries later)) slot (length (changes_of entries))
+        (cursor_past (opened (changes_of entries) slot) later) }
+    ensures range { (entries : List Entry) (later : List (List Entry)) (slot : Option ℕ)
+        → GoOn entries later
         → (length (changes_of entries) ≤ cursor_past (opened (changes_of entries) slot) later)
-        × (cursor_past (opened (changes_of entries) slot) later ≤ length (changes_of (last_of entries later))) }
+        × (cursor_past (opened (changes_of entries) slot) later
+        ≤ length (changes_of (last_of entries later))) }
 {}
 
 /// Whoever was told all changes of a service knows what is shown of it now: the status of the last one, and before the first
 /// SERVICE_UNKNOWN.
 pub fn last_change_is_shown()
-    ensures { (entries : List Entry) (slot : ℕ) → slot < 16 → last_told (changes_of entries) slot ≡ shown entries (Some slot) }
+    ensures { (entries : List Entry) (slot : ℕ) → slot < 16
+        → last_told (changes_of entries) slot ≡ shown entries (Some slot) }
 {}
 
 /// A watcher whose cursor is at the end of the changes is right: the last status that it was told, counting the one at its
 /// opening, is what is shown of its service now.
 pub fn watchers_end_up_right()
-    ensures walk { (entries : List Entry) (later : List (List Entry)) (slot : ℕ) → GoOn entries later → slot < 16
+    ensures walk { (entries : List Entry) (later : List (List Entry)) (slot : ℕ)
+        → GoOn entries later → slot < 16
         → let now : List Entry = last_of entries later in
         cursor_past (opened (changes_of entries) (Some slot)) later ≡ length (changes_of now)
-        → last_or None (shown entries (Some slot) ∷ walk (opened (changes_of entries) (Some slot)) later) ≡ Some (shown now (Some slot)) }
-    ensures story { (entries : List Entry) (later : List (List Entry)) (slot : ℕ) → GoOn entries later → slot < 16
+        → last_or None
+        (shown entries (Some slot) ∷ walk (opened (changes_of entries) (Some slot)) later)
+        ≡ Some (shown now (Some slot)) }
+    ensures story { (entries : List Entry) (later : List (List Entry)) (slot : ℕ)
+        → GoOn entries later → slot < 16
         → let now : List Entry = last_of entries later in
-        last_or None (shown entries (Some slot) ∷ story (changes_of now) (Some slot) (length (changes_of entries)) (length (changes_of now)))
+        last_or None (shown entries (Some slot)
+        ∷ story (changes_of now) (Some slot) (length (changes_of entries))
+        (length (changes_of now)))
         ≡ Some (shown now (Some slot)) }
 {}
 
 /// A history, and a change that is asked for, have one outcome, whatever else a registry keeps of them: where two registries with this
 /// history are asked, and memory ran out for neither, they answer the same, and have the same history afterwards.
 pub fn one_outcome()
-    ensures { (most seat : ℕ) (before after other : List Entry) (call : Option Call) (result another : Result Reply Refusal)
-        → IsAnswered most seat before after call result → IsAnswered most seat before other call another
-        → (result ≡ Err NoMemory) ⊎ (another ≡ Err NoMemory) ⊎ ((result ≡ another) × (after ≡ other)) }
+    ensures { (most seat : ℕ) (before after other : List Entry) (call : Option Call)
+        (result another : Result Reply Refusal)
+        → IsAnswered most seat before after call result
+        → IsAnswered most seat before other call another
+        → (result ≡ Err NoMemory) ⊎ (another ≡ Err NoMemory)
+        ⊎ ((result ≡ another) × (after ≡ other)) }
 {}
 
-/// A watch that is not behind has its next status change among those that are kept: those from its cursor on are a part of them.
+/// A watch of a service that is not behind has its next status change among those that are kept: those from its cursor on are a part
+/// of them. A watch of no service never is behind.
 pub fn kept_changes_suffice()
     ensures cursor { (kept : Option ℕ) (changes : List Change) (watch : WatchState)
+        → IsSome watch.slot
         → ((IsBehind kept changes watch → ⊥) ↔ (forgotten kept (length changes) ≤ watch.cursor)) }
-    ensures part { (kept : Option ℕ) (changes : List Change) (watch : WatchState) → (IsBehind kept changes watch → ⊥)
-        → drop watch.cursor changes ≡ drop (watch.cursor - forgotten kept (length changes)) (kept_of kept changes) }
+    ensures part { (kept : Option ℕ) (changes : List Change) (watch : WatchState)
+        → IsSome watch.slot
+        → (IsBehind kept changes watch → ⊥)
+        → drop watch.cursor changes
+        ≡ drop (watch.cursor - forgotten kept (length changes)) (kept_of kept changes) }
+    ensures no_slot { (kept : Option ℕ) (changes : List Change) (watch : WatchState)
+        → watch.slot ≡ None
+        → IsBehind kept changes watch → ⊥ }
 {}
 
 /// A watch that is behind stays behind while the history grows.
 pub fn behind_for_good()
-    ensures { (kept : Option ℕ) (older entries : List Entry) (watch : WatchState) → IsOlder older entries
-        → IsBehind kept (changes_of older) watch → IsBehind kept (changes_of entries) watch }
+    ensures { (kept : Option ℕ) (older entries : List Entry) (watch : WatchState)
+        → IsOlder older entries → IsBehind kept (changes_of older) watch
+        → IsBehind kept (changes_of entries) watch }
 {}

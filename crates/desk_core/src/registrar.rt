@@ -39,7 +39,8 @@ pub fn carry_out<P: Probe, D: Registrar<P>>(
     order: &Order,
 ) -> Result<Reply, Refusal>
     ensures names { D.names registrar.new ≡ D.names registrar.old }
-    ensures answered { D.answers registrar.old registrar.new (ordered (D.names registrar.old) order.now) result }
+    ensures answered { D.answers registrar.old registrar.new
+        (ordered (D.names registrar.old) order.now) result }
 {
     let call = order.call(registrar.catalogue());
     registrar.change(call, None)

@@ -17,7 +17,7 @@ pub(crate) struct Slots<P: Probe> {
 }
 
 impl<P: Probe> Slots<P> {
-    ghost use Rattle.std.specs.Prelude.{◌≡◌, ◌≢◌, ◌<◌, ℕ, List, [], None, Some, length, slice_index_or, slice_set, map, OnOk};
+    ghost use Rattle.std.specs.Prelude.{◌≡◌, ◌≢◌, ◌<◌, ◌≤◌, ℕ, List, [], None, Some, length, slice_index_or, slice_set, map, IsOk, OnOk};
     ghost use Rattle.std.specs.Option.{option_copied, option_map};
     ghost use Rattle.desk_core.specs.declared.entry.Entry.{Entry};
     ghost use Rattle.desk_core.specs.Past.{past};
@@ -39,6 +39,8 @@ impl<P: Probe> Slots<P> {
     pub(crate) fn reserve(&mut self) -> Result<(), AllocError>
         ensures same { HasSame self.old.places.items self.new.places.items }
         ensures room { OnOk result (15 < length self.new.places.items) }
+        ensures full { 15 < length self.old.places.items → IsOk result }
+        ensures grows { length self.old.places.items ≤ length self.new.places.items }
     {
         while self.places.len() < 16 {
             self.places.push(None)?;
@@ -56,7 +58,8 @@ impl<P: Probe> Slots<P> {
     }
 
     pub(crate) fn rule(&self, slot: Slot) -> Option<Rule>
-        ensures { result ≡ option_map (λ state. state.0) (slice_index_or self.now.places.items slot None) }
+        ensures { result
+            ≡ option_map (λ state. state.0) (slice_index_or self.now.places.items slot None) }
     {
         self.get(slot).map(|owned| owned.rule())
     }
@@ -67,7 +70,9 @@ impl<P: Probe> Slots<P> {
         requires room { 15 < length self.old.places.items }
         requires ruled { option_map P.rule probe ≡ rule_of call.now }
         ensures applied { IsApplied call.now reply self.old.places.items self.new.places.items }
-        ensures old { option_map (λ p. (P.rule p, P.memory p)) result ≡ held_at self.old.places.items call.now }
+        ensures old { option_map (λ p. (P.rule p, P.memory p)) result
+            ≡ held_at self.old.places.items call.now }
+        ensures places { length self.new.places.items ≡ length self.old.places.items }
     {
         match call {
             Call::Register(slot, _) => {
@@ -137,7 +142,8 @@ impl<P: Probe> Slots<P> {
 
     /// The statuses of all slots, computed anew from the first slot up.
     pub(crate) fn statuses(&self, is_shut: bool) -> StatusWord
-        ensures { (journal : List Entry) (max_entries : ℕ) → Keeps self.now.places.items is_shut journal max_entries
+        ensures { (journal : List Entry) (max_entries : ℕ)
+            → Keeps self.now.places.items is_shut journal max_entries
             → (i : ℕ) → i < 16 → status_in result i ≡ status_at (past journal) i }
     {
         memory_tells_status();

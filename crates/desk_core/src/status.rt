@@ -16,7 +16,8 @@ pub(crate) fn status_of<P: Probe>(
     is_shut: bool,
     below: StatusWord,
 ) -> Option<Serving>
-    ensures { result ≡ option_map (status_from (covers_below (status_in below) 16) is_shut) (option_copied owned.entry) }
+    ensures { result ≡ option_map (status_from (covers_below (status_in below) 16) is_shut)
+        (option_copied owned.entry) }
 {
     let owned = owned?;
     if is_shut {

@@ -1,5 +1,5 @@
 ghost use Rattle.std.specs.Prelude.{◌≡◌, position};
-ghost use Rattle.desk_core.specs.Watch.{is_of, next_change};
+ghost use Rattle.desk_core.specs.Watch.{is_of};
 
 use crate::change::Change;
 use crate::slot::Slot;
@@ -7,8 +7,8 @@ use health_wire::Serving;
 use std::marker::Model;
 use tail::Tail;
 
-/// The watch is before the oldest change that is kept, so that its next one may be forgotten. A watch of a name without a slot, which
-/// has no change, is called behind too: the rule is by the cursor alone.
+/// The watch is before the oldest change that is kept, so that its next one may be forgotten. A watch of a name without a slot never
+/// is: it has no change.
 #[derive(Clone, Copy, Debug, PartialEq, Eq)]
 pub struct Behind;
 
@@ -25,7 +25,8 @@ impl Model for Watch {
 
     ghost Value = { WatchState };
 
-    ghost view = { λ watch. record { slot = watch.slot; start = watch.start; cursor = watch.cursor } };
+    ghost view = { λ watch.
+        record { slot = watch.slot; start = watch.start; cursor = watch.cursor } };
 }
 
 impl Watch {
@@ -71,10 +72,14 @@ impl Watch {
         ensures stays { OnErr result (self.new ≡ self.old) }
     {
         let len = changes.len();
+        let Some(slot) = self.slot else {
+            self.cursor = self.cursor.max(len);
+            return Ok(None);
+        };
         let Some(rest) = changes.since(self.cursor) else {
             return Err(Behind);
         };
-        match next_in(rest, self.slot) {
+        match first_of(rest, slot) {
             Some(place) => {
                 self.cursor += place as u64 + 1;
                 Ok(Some(rest[place].status))
@@ -87,13 +92,7 @@ impl Watch {
     }
 }
 
-/// The place of the slot's first change; a watcher of no slot has none.
-fn next_in(rest: &[Change], slot: Option<Slot>) -> Option<usize>
-    ensures { result ≡ next_change rest.now slot 0 }
-{
-    first_of(rest, slot?)
-}
-
+/// The place of the slot's first change.
 fn first_of(changes: &[Change], slot: Slot) -> Option<usize>
     ensures { result ≡ position (is_of slot) changes.now }
 {

@@ -13,7 +13,7 @@ use Rattle.atomic_table.specs.Table.{State as Table, Splits, Joins, opening}
 use Rattle.atomic_table.proofs.Lists.{set_again, set_else, at_last}
 use Rattle.desk_core.specs.declared.entry.Entry.{Entry}
 use Rattle.desk_core.specs.Board.{packed}
-use Rattle.desk_core.specs.Desk.{State}
+use Rattle.desk_core.specs.Desk.{State, new_desk}
 use Rattle.desk_core.specs.Past.{past}
 use Rattle.desk_core.specs.Seats.{calls_by}
 use Rattle.desk_core.specs.Watch.{IsOlder}
@@ -45,7 +45,7 @@ first_view most zero view at = subst (IsView (beginning most) 0) (some-injective
 first_view most (suc j) view at = absurd (some-ne-none view (sym at))
 
 -- a hall begins with the empty history, the desk at home and nothing drawn
-pub opens : (key : Limits) (desk : State) → key.most < 2 ^ 32 → key.seats < 2 ^ 16 → desk ≡ record { journal = []; max_entries = key.most }
+pub opens : (key : Limits) (desk : State) → key.most < 2 ^ 32 → key.seats < 2 ^ 16 → desk ≡ new_desk key.most
     → IsGated key (opening (0 ∷ 0 ∷ 0 ∷ []) (Some desk ∷ []) (dealer 0 key.most))
 unfolding beginning packed
 opens key desk most seats empty = record {

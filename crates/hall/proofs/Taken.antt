@@ -1,7 +1,6 @@
 -- What a change leaves of the seat that made it.
 use Rattle.std.proofs.Common.{◌≡◌, ℕ, suc, ◌+◌, ◌<◌, ◌≤◌, ◌^◌, ◌==◌, Bool, true, false, if◌then◌else◌, List, [], ◌∷◌, length, sym, refl, ap, ◌∙◌, subst, arith}
 use Rattle.std.specs.Prelude.{Option, Some, None, Result, Ok, Err, drop}
-use Rattle.std.proofs.lemmas.List.{reverse-reverse}
 use Rattle.atomic_table.specs.Seated.{TableId}
 use Rattle.desk_core.specs.declared.call.Call.{Call}
 use Rattle.desk_core.specs.declared.entry.Entry.{Entry}
@@ -107,14 +106,19 @@ not_carried_out seat call none legal = rw none (record {
   unlisted = λ is. refl;
 })
 
+-- a desk's history and limit are left as they were; its memory may be more
+pub record IsLeft (before after : State) : Type 0 where
+  pub limit : after.max_entries ≡ before.max_entries
+  pub history : past after.journal ≡ past before.journal
+
 -- the seat may give the desk back as it took it
-pub may_leave : (me waiting : Seated) (number made : ℕ) (before after : State) → InHand me waiting number made before → after ≡ before
+pub may_leave : (me waiting : Seated) (number made : ℕ) (before after : State) → InHand me waiting number made before → IsLeft before after
     → HasDesk waiting (number_in waiting) after.max_entries (past after.journal)
 may_leave me waiting number made before after hand same =
     let is = hand.has.1 in
     let numbered : number_in waiting ≡ number_in me = ap number_in is in
-    let limit : after.max_entries ≡ me.0.most = ap (λ (d : State). d.max_entries) same ∙ hand.limit in
-    let history : past after.journal ≡ past before.journal = ap (λ (d : State). past d.journal) same in (
+    let limit : after.max_entries ≡ me.0.most = same.limit ∙ hand.limit in
+    let history : past after.journal ≡ past before.journal = same.history in (
       hand.has.0,
       is ∙ (ap (λ (n : ℕ). (desk_view n (past before.journal) me.0.most hand.has.0 (past before.journal), (0, None) ∷ [])) (sym numbered)
           ∙ (ap (λ (most : ℕ). (desk_view (number_in waiting) (past before.journal) most hand.has.0 (past before.journal), (0, None) ∷ [])) (sym limit)
@@ -125,12 +129,11 @@ may_leave me waiting number made before after hand same =
 pub newest : (before after : State) (seat : ℕ) (call : Call) (reply : Reply) → HasAnswered before after seat call (Ok reply) → past after.journal ≡ entry_of seat call reply ∷ past before.journal
 newest before after seat call reply answers = newest_of before.max_entries seat (past before.journal) (past after.journal) call reply answers.answer
 
-pub unchanged : (before after : State) (seat : ℕ) (call : Call) (refusal : Refusal) → HasAnswered before after seat call (Err refusal) → after ≡ before
-unchanged before after seat call refusal answers =
-    let journal : after.journal ≡ before.journal = sym (reverse-reverse after.journal)
-    ∙ (ap past (kept_of before.max_entries seat (past before.journal) (past after.journal) call refusal answers.answer)
-    ∙ reverse-reverse before.journal) in
-    ap (λ (j : List Entry). record { journal = j; max_entries = after.max_entries }) journal ∙ ap (λ (m : ℕ). record { journal = before.journal; max_entries = m }) answers.most
+pub unchanged : (before after : State) (seat : ℕ) (call : Call) (refusal : Refusal) → HasAnswered before after seat call (Err refusal) → IsLeft before after
+unchanged before after seat call refusal answers = record {
+  limit = answers.most;
+  history = kept_of before.max_entries seat (past before.journal) (past after.journal) call refusal answers.answer;
+}
 
 -- the history before the newest entry is that of the desk as it was taken out
 pub before_newest : (rested : Seated) (seat number : ℕ) (before after : State) (call : Call) (reply : Reply) → HasAnswered before after number call (Ok reply)
@@ -154,7 +157,7 @@ seat_taken me waiting rested number made counted seat before after call reply ha
 pub seat_kept : (me waiting rested : Seated) (number made : ℕ) (before after : State) (call : Call) (refusal : Refusal) → InHand me waiting number made before
     → HasAnswered before after number call (Err refusal) → rested ≡ (seat_view (number_in waiting) (past after.journal) after.max_entries, []) → IsSeat rested number made
 seat_kept me waiting rested number made before after call refusal hand answers rests =
-    let same : past after.journal ≡ past before.journal = ap (λ (d : State). past d.journal) (unchanged before after number call refusal answers) in
+    let same : past after.journal ≡ past before.journal = (unchanged before after number call refusal answers).history in
     let numbered : number_in waiting ≡ number = ap number_in hand.has.1 ∙ number_is me number made hand.seat in
     let own : calls_by (past before.journal) number ≡ calls_by (seen_in me) number =
     subst (λ (n : ℕ). calls_by (past before.journal) n ≡ calls_by (seen_in me) n) (number_is me number made hand.seat) hand.follows.own in

@@ -12,7 +12,7 @@ use Rattle.probe_core.specs.declared.rule.Rule.{Rule}
 use Rattle.probe_core.specs.declared.rule.Rule.TheVariants.{Threshold, Manual, Depends}
 use Rattle.probe_core.specs.declared.start.Start.{Start}
 use Rattle.probe_core.specs.declared.start.Start.TheVariants as starts
-use Rattle.probe_core.specs.Rule.{fits, starts_unknown, is_count, is_in_range, counted, count_next, memory_next, opening_memory, is_up_at, is_unknown_at}
+use Rattle.probe_core.specs.Rule.{HasCounts, fits, starts_unknown, is_count, is_in_range, counted, count_next, memory_next, opening_memory, is_up_at, is_unknown_at}
 use Rattle.probe_core.specs.Events.{all_fit, is_fail, is_pass, is_up, is_unknown, count_after, memory_after, newest_are, has_run, is_down}
 
 suc_le : (a b : ℕ) → nat_le (suc a) (suc b) ≡ nat_le a b
@@ -266,6 +266,13 @@ some_count number counts =
       | inr some ↦ some
     ]
 
+-- the numbers of a rule in range are at least one
+pub range_counts : (rule : Rule) → is_in_range rule ≡ true → HasCounts rule
+range_counts (Threshold fall rise start) counts =
+    let both = and_parts (is_count fall) (is_count rise) counts in (some_count fall both.0, some_count rise both.1)
+range_counts Manual counts = tt
+range_counts (Depends mask) counts = tt
+
 -- before the first event nothing is counted
 none_counted : (rule : Rule) → count_after rule [] ≡ 0
 none_counted (Threshold fall rise start) = by_test (is_down fall rise []) refl
@@ -292,14 +299,12 @@ memory_opens Manual = refl
 memory_opens (Depends mask) = refl
 
 -- the count after one more event that fits
-count_more : (rule : Rule) (event : Event) (events : List Event) → is_in_range rule ≡ true → fits rule event ≡ true
+count_more : (rule : Rule) (event : Event) (events : List Event) → HasCounts rule → fits rule event ≡ true
     → count_after rule (event ∷ events) ≡ count_next rule event (count_after rule events)
 count_more (Threshold fall rise start) Pass events counts fit =
-    let both = and_parts (is_count fall) (is_count rise) counts in
-    after_pass fall rise start events (some_count fall both.0) (some_count rise both.1)
+    after_pass fall rise start events counts.0 counts.1
 count_more (Threshold fall rise start) Fail events counts fit =
-    let both = and_parts (is_count fall) (is_count rise) counts in
-    after_fail fall rise start events (some_count fall both.0) (some_count rise both.1)
+    after_fail fall rise start events counts.0 counts.1
 count_more (Threshold fall rise start) Up events counts fit = absurd (false≢true fit)
 count_more (Threshold fall rise start) Down events counts fit = absurd (false≢true fit)
 count_more Manual Pass events counts fit = absurd (false≢true fit)
@@ -351,28 +356,26 @@ known_count : (fall rise : ℕ) (events : List Event) → 1 ≤ fall → 1 ≤ r
 known_count fall rise events some few =
     below_differs (count_after (Threshold fall rise starts.Unknown) events) (fall + rise) (count_short fall rise starts.Unknown events some few)
 
-pub memory_unknown : (rule : Rule) (events : List Event) → is_in_range rule ≡ true → all_fit rule events ≡ true → is_unknown_at rule (memory_after rule events) ≡ is_unknown rule events
+pub memory_unknown : (rule : Rule) (events : List Event) → HasCounts rule → all_fit rule events ≡ true → is_unknown_at rule (memory_after rule events) ≡ is_unknown rule events
 memory_unknown (Threshold fall rise starts.Up) events counts fit = refl
 memory_unknown (Threshold fall rise starts.Unknown) [] counts fit = eq-eqb (fall + rise) (fall + rise) refl
 memory_unknown (Threshold fall rise starts.Unknown) (newest ∷ older) counts fit =
-    let both = and_parts (is_count fall) (is_count rise) counts in
-    known_count fall rise (newest ∷ older) (some_count fall both.0) (some_count rise both.1)
+    known_count fall rise (newest ∷ older) counts.0 counts.1
 memory_unknown Manual events counts fit = refl
 memory_unknown (Depends mask) events counts fit = refl
 
 -- a memory tells what was counted
-memory_counted : (rule : Rule) (events : List Event) → is_in_range rule ≡ true → counted rule (memory_after rule events) ≡ count_after rule events
+memory_counted : (rule : Rule) (events : List Event) → HasCounts rule → counted rule (memory_after rule events) ≡ count_after rule events
 memory_counted (Threshold fall rise starts.Up) events counts = refl
 memory_counted (Threshold fall rise starts.Unknown) [] counts =
     rw (eq-eqb (fall + rise) (fall + rise) refl) (sym (none_counted (Threshold fall rise starts.Unknown)))
 memory_counted (Threshold fall rise starts.Unknown) (newest ∷ older) counts =
-    let both = and_parts (is_count fall) (is_count rise) counts in
-    ap (λ b. cond b 0 (count_after (Threshold fall rise starts.Unknown) (newest ∷ older))) (known_count fall rise (newest ∷ older) (some_count fall both.0) (some_count rise both.1))
+    ap (λ b. cond b 0 (count_after (Threshold fall rise starts.Unknown) (newest ∷ older))) (known_count fall rise (newest ∷ older) counts.0 counts.1)
 memory_counted Manual events counts = refl
 memory_counted (Depends mask) events counts = refl
 
 -- the memory after one more event that fits
-pub memory_more : (rule : Rule) (event : Event) (events : List Event) → is_in_range rule ≡ true → fits rule event ≡ true
+pub memory_more : (rule : Rule) (event : Event) (events : List Event) → HasCounts rule → fits rule event ≡ true
     → memory_after rule (event ∷ events) ≡ memory_next rule event (memory_after rule events)
 memory_more rule event events counts fit =
     ap (λ b. cond b (opening_memory rule) (count_after rule (event ∷ events))) (and_false (starts_unknown rule))
@@ -392,14 +395,14 @@ and_true : (b : Bool) → b ≡ (b && true)
 and_true true = refl
 and_true false = refl
 
-pub memory_tells : (rule : Rule) (events : List Event) → is_in_range rule ≡ true → all_fit rule events ≡ true
+pub memory_tells : (rule : Rule) (events : List Event) → HasCounts rule → all_fit rule events ≡ true
     → is_up_at rule (memory_after rule events) ≡ (is_up rule events && not (is_unknown rule events))
 memory_tells (Threshold fall rise starts.Up) events counts fit =
-    threshold_tells fall rise starts.Up events (some_count rise (and_parts (is_count fall) (is_count rise) counts).1) ∙ and_true (not (is_down fall rise events))
+    threshold_tells fall rise starts.Up events counts.1 ∙ and_true (not (is_down fall rise events))
 memory_tells (Threshold fall rise starts.Unknown) [] counts fit =
     le-ltb (fall + rise) fall (omega arith) ∙ sym (and_false (not (is_down fall rise [])))
 memory_tells (Threshold fall rise starts.Unknown) (newest ∷ older) counts fit =
-    threshold_tells fall rise starts.Unknown (newest ∷ older) (some_count rise (and_parts (is_count fall) (is_count rise) counts).1) ∙ and_true (not (is_down fall rise (newest ∷ older)))
+    threshold_tells fall rise starts.Unknown (newest ∷ older) counts.1 ∙ and_true (not (is_down fall rise (newest ∷ older)))
 memory_tells Manual [] counts fit = refl
 memory_tells Manual (Pass ∷ older) counts fit = absurd (false≢true fit)
 memory_tells Manual (Fail ∷ older) counts fit = absurd (false≢true fit)

@@ -1,5 +1,5 @@
 -- What a rule makes of one event, and of a service's memory. A threshold is HAProxy's `fall` and `rise`.
-use Rattle.std.specs.Prelude.{ℕ, ◌+◌, ◌==◌, ◌&&◌, min, nat_le, nat_lt, Bool, true, false, if◌then◌else◌}
+use Rattle.std.specs.Prelude.{ℕ, ◌+◌, ◌≤◌, ◌==◌, ◌&&◌, min, nat_le, nat_lt, Bool, true, false, if◌then◌else◌}
 use Rattle.probe_core.specs.declared.event.Event.{Event}
 use Rattle.probe_core.specs.declared.event.Event.TheVariants.{Pass, Fail, Up, Down}
 use Rattle.probe_core.specs.declared.rule.Rule.{Rule}
@@ -34,6 +34,12 @@ is_in_range (Threshold fall rise start) = is_count fall && is_count rise
 is_in_range Manual = true
 is_in_range (Depends mask) = true
 
+-- what the rule counts to is at least 1
+abbrev pub HasCounts : Rule → Type 0
+HasCounts (Threshold fall rise start) = (1 ≤ fall) × (1 ≤ rise)
+HasCounts Manual = Unit {0}
+HasCounts (Depends mask) = Unit {0}
+
 -- the service is unknown until it hears an event
 abbrev pub starts_unknown : Rule → Bool
 starts_unknown (Threshold fall rise starts.Up) = false
@@ -41,15 +47,15 @@ starts_unknown (Threshold fall rise starts.Unknown) = true
 starts_unknown Manual = false
 starts_unknown (Depends mask) = false
 
--- the memory of a service that heard nothing: of one that starts unknown a number that no count of a rule in range
--- reaches
+-- the memory of a service that heard nothing: of one that starts unknown a number that no count reaches where both numbers are at
+-- least 1
 abbrev pub opening_memory : Rule → ℕ
 opening_memory (Threshold fall rise starts.Up) = 0
 opening_memory (Threshold fall rise starts.Unknown) = fall + rise
 opening_memory Manual = 0
 opening_memory (Depends mask) = 0
 
--- the rule starts unknown, and the memory is its opening one: of a rule in range, the service heard nothing yet
+-- the rule starts unknown, and the memory is its opening one: where both numbers are at least 1, the service heard nothing yet
 abbrev pub is_unknown_at : Rule → ℕ → Bool
 is_unknown_at rule memory = starts_unknown rule && memory == opening_memory rule
 

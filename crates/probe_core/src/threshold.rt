@@ -25,7 +25,8 @@ impl Threshold {
     /// A service that was not checked yet. A registry takes numbers from 1 to 1,000.
     pub fn new(fall: u32, rise: u32, start: Start) -> Threshold
         ensures rule { ⟦<Threshold as Probe>⟧.rule result ≡ rules.Threshold fall rise start }
-        ensures memory { ⟦<Threshold as Probe>⟧.memory result ≡ opening_memory (rules.Threshold fall rise start) }
+        ensures memory { ⟦<Threshold as Probe>⟧.memory result
+            ≡ opening_memory (rules.Threshold fall rise start) }
     {
         Threshold {
             fall,
@@ -37,14 +38,16 @@ impl Threshold {
 
     /// What was counted before the next check.
     fn counted(&self) -> u64
-        ensures { result ≡ counted (rules.Threshold self.now.fall self.now.rise self.now.start) self.now.memory }
+        ensures { result
+            ≡ counted (rules.Threshold self.now.fall self.now.rise self.now.start) self.now.memory }
     {
         if self.is_unknown() { 0 } else { self.memory }
     }
 
     /// The memory after a check that passes.
     fn passed(&self) -> u64
-        ensures { result ≡ count_next (rules.Threshold self.now.fall self.now.rise self.now.start) Event.Pass
+        ensures { result
+            ≡ count_next (rules.Threshold self.now.fall self.now.rise self.now.start) Event.Pass
             (counted (rules.Threshold self.now.fall self.now.rise self.now.start) self.now.memory) }
     {
         let (fall, rise) = (u64::from(self.fall), u64::from(self.rise));

@@ -1,4 +1,4 @@
-use Rattle.probe_core.proofs.EventLemmas.{memory_opens, memory_more, memory_tells, memory_unknown}
+use Rattle.probe_core.proofs.EventLemmas.{memory_opens, memory_more, memory_tells, memory_unknown, range_counts}
 use Rattle.probe_core.proofs.laws.memory_tells_status.Goals as goal
 
 pub returns-clause-opening : goal.returns-clause-opening
@@ -12,3 +12,6 @@ returns-clause-status c = memory_tells
 
 pub returns-clause-unknown : goal.returns-clause-unknown
 returns-clause-unknown c = memory_unknown
+
+pub returns-clause-in_range : goal.returns-clause-in_range
+returns-clause-in_range c = range_counts

@@ -29,8 +29,8 @@ invariant_of-self-2 g c =
     let lawful = c.in_default.ensures.none.0 in
     let room : length c.self.inside.history.journal.items < c.self.inside.max_entries = subst (λ state. length state.journal < state.max_entries) (sym c.self.view_is) c.in_default.ensures.none.1 in (
       is_desk_changed _ _ _ _ _ _ _ _ _ _ _ _ _ _ _ _ _ _ _ _ c.args.call c.reply_to-reply.result c.self.invariant.0 c.reserve.ensures.same room lawful
-          (c.reply_to-reply.ensures ∙ ap (λ state. reply_to (past state.journal) c.args.call) (sym c.self.view_is)) c.in-Ok-append.ensures.ok c.show.ensures.journal
-          c.in-Ok-append.ensures.at c.append.ensures.changes (ap (λ cache. cache.statuses) c.append.ensures.cache) (ap (λ cache. cache.dependents) c.append.ensures.cache)
+          (c.reply_to-reply.ensures ∙ ap (λ state. reply_to (past state.journal) c.args.call) (sym c.self.view_is)) c.in-Ok-append.ensures.ok.1 c.show.ensures.journal
+          c.in-Ok-append.ensures.ok.0 c.append.ensures.changes (ap (λ cache. cache.statuses) c.append.ensures.cache) (ap (λ cache. cache.dependents) c.append.ensures.cache)
           c.apply-old.ensures.applied c.shut_after-self-inside.ensures c.show.ensures.dependents c.show.ensures.statuses c.show.ensures.changes,
       c.show.ensures.kept.0 ∙ (c.append.ensures.kept.0 ∙ c.self.invariant.1),
       c.show.ensures.kept.1 ∙ (c.append.ensures.kept.1 ∙ c.self.invariant.2),
@@ -39,5 +39,5 @@ invariant_of-self-2 g c =
 pub returns-clause-answered : goal.returns-clause-answered
 returns-clause-answered g c =
     has_answered _ _ c.args.seat c.args.call _ c.in_default.ensures.none.0 c.in_default.ensures.none.1 c.reply_to-reply.ensures
-    (c.show.ensures.journal ∙ c.in-Ok-append.ensures.ok ∙ ap (λ state. state.journal ++ entry_of c.args.seat c.args.call c.reply_to-reply.result ∷ []) c.self.view_is)
+    (c.show.ensures.journal ∙ c.in-Ok-append.ensures.ok.1 ∙ ap (λ state. state.journal ++ entry_of c.args.seat c.args.call c.reply_to-reply.result ∷ []) c.self.view_is)
     (ap (λ state. state.max_entries) c.self.view_is)
