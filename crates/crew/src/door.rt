@@ -46,11 +46,6 @@ impl<'a, R: Wait, P: Probe, K: Keep> Door for HallDoor<'a, R, P, K> {
 
     ghost follows = { IsOlder };
 
-    ghost follows_on = { λ a b c p q. record {
-      newer = q.newer ++ p.newer;
-      is = q.is ∙ (ap (λ older. q.newer ++ older) p.is ∙ sym (append_assoc q.newer p.newer a));
-    } };
-
     ghost kept = { K.kept };
 
     ghost stays = { StaysAt };

@@ -22,6 +22,10 @@ followed_by first later =
 abbrev pub GoesOnFrom : (List Entry → List Entry → Type 0) → List Entry → List Entry → Type 0
 GoesOnFrom follows entries now = (now ≡ entries) ⊎ follows entries now
 
+-- what follows a history that follows another follows that one too
+abbrev pub IsTransitive : (List Entry → List Entry → Type 0) → Type 0
+IsTransitive follows = (a b c : List Entry) → follows a b → follows b c → follows a c
+
 -- since a door had the first history a call has moved so much, and the door has this history now
 pub record HasGone (source : Source) (follows : List Entry → List Entry → Type 0) (first now : List Entry)
     (input input_now output output_now : Option (List ℕ)) (call call_now : Call) (moved : Moved) : Type 0 where

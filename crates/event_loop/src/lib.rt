@@ -37,7 +37,7 @@ mod laws;
 mod link;
 mod turning;
 
-pub use laws::turns_chain;
+pub use laws::{histories_chain, turns_chain};
 pub use link::{Last, Link};
 pub use turning::{Fate, Turned, turn};
 

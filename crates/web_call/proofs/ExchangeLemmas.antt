@@ -1,5 +1,5 @@
 -- What an exchange has read, written and asked so far.
-use Rattle.std.proofs.Common.{◌≡◌, ◌≤◌, ◌+◌, ℕ, ◌⊎◌, inl, inr, Bool, Option, true, false, Some, None, List, [], ◌∷◌, ◌++◌, length, take, drop, refl}
+use Rattle.std.proofs.Common.{◌≡◌, ◌≤◌, ◌<◌, ◌+◌, ◌||◌, ◌==◌, ℕ, ◌⊎◌, inl, inr, Bool, Option, true, false, Some, None, List, [], ◌∷◌, ◌++◌, length, take, drop, refl}
 use Rattle.std.proofs.Common.{ap, sym, ◌∙◌, subst, append_assoc, append-nil, length-append, arith}
 use Rattle.std.proofs.KnownBytes.{Appends-trans, Appends-nil}
 use Rattle.std.proofs.lemmas.List.{take-append-le, take-take, length-take-le}
@@ -26,6 +26,11 @@ given_all xs ys count wanted n within room all =
     let len = ap length same ∙ length-take-le count xs within in
     let is = all (omega (arith, len)) ∙ len in
     ap (λ l. take n l) same ∙ ap (λ k. take k (take count xs)) is ∙ take-take count count xs (omega arith)
+
+-- a call with some room leaves a tap no more idle
+pub still_idle : (idle : Bool) (n : ℕ) → 0 < n → (idle || (n == 0)) ≡ idle
+still_idle true n some = refl
+still_idle false n some = grind (arith, some)
 
 -- what a past grows by, twice
 pub received_more : (old mid new : Call) (a b : List ℕ) → Carries old mid (with_received a) → Carries mid new (with_received b) → Carries old new (with_received (a ++ b))

@@ -1,8 +1,11 @@
--- One exchange: what its door and its bell were asked.
-use Rattle.std.specs.Prelude.{ℕ, ◌≡◌, ◌≤◌, ◌+◌, ◌⊎◌, Bool, true, Option, None, Some, List, length, drop}
+-- One exchange: what its door and its bell were asked, and what it read before it failed.
+use Rattle.std.specs.Prelude.{ℕ, ◌≡◌, ◌≤◌, ◌+◌, ◌⊎◌, Bool, true, Option, None, Some, List, [], length, drop}
+use Rattle.std.specs.Io.KnownBytes.{Consumes}
 use Rattle.desk_core.specs.declared.entry.Entry.{Entry}
 use Rattle.web_call.specs.declared.outcome.Outcome.{Outcome}
 use Rattle.web_call.specs.declared.outcome.Outcome.TheVariants.{Http, Status, Watched, Behind}
+use Rattle.web_call.specs.Answer.{IsStarvedAt}
+use Rattle.web_call.specs.Request.{IsCutRequest}
 use Rattle.web_call.specs.Walk.{AsksDoor}
 
 -- a watch ends where it had all the Looks that it may take, or where its bell is over
@@ -29,3 +32,18 @@ pub record Meets {D B : Type 0} (seen : D → List Entry) (follows : List Entry 
     (looks : ℕ) (door door_after : D) (bell bell_after : B) (asked : List (List Entry)) (ending : Option Outcome) : Type 0 where
   pub asks : AsksDoor seen follows door door_after asked
   pub rings : Rings given is_over looks bell bell_after (length (drop 1 asked)) ending
+
+-- a front of a request was read, and not all of it
+pub record ReadsCut (input input_now : Option (List ℕ)) : Type 0 where
+  pub bytes : List ℕ
+  pub is_cut : IsCutRequest bytes
+  pub has_read : Consumes input input_now bytes
+
+-- an allocation failed: the first, before anything was read and anyone was asked, or one for these bytes of a request
+pub record Starves {D : Type 0} (seen : D → List Entry) (follows : List Entry → List Entry → Type 0) (door door_after : D)
+    (input input_now : Option (List ℕ)) : Type 0 where
+  pub bytes : List ℕ
+  pub asked : List (List Entry)
+  pub at : ((bytes ≡ []) × (asked ≡ [])) ⊎ IsStarvedAt asked bytes
+  pub asks : AsksDoor seen follows door door_after asked
+  pub has_read : Consumes input input_now bytes

@@ -35,8 +35,6 @@ impl<'a, P: Probe, K: Keep> Door for DeskDoor<'a, P, K> {
 
     ghost follows = { λ entries next. next ≡ entries };
 
-    ghost follows_on = { λ a b c p q. q ∙ p };
-
     ghost kept = { K.kept };
 
     ghost stays = { λ a b. b ≡ a };

@@ -3,9 +3,9 @@ use health_wire::Serving;
 
 /// What an exchange asks for statuses: a catalogue that stays, and a history of the registry that each call may look at anew.
 ///
-/// `seen` is the history that it has seen, the newest entry first, and `follows` says how a call may change it, call upon call
-/// (`follows_on`). `stays` says what else of the door every call keeps, so that whoever lends something to a door knows of it
-/// afterwards. `kept` is how many changes the registry keeps, or none where it keeps all. Each call may wait.
+/// `seen` is the history that it has seen, the newest entry first, and `follows` says how one call may change it: exactly one entry
+/// more, say, or any number. `stays` says what else of the door every call keeps, so that whoever lends something to a door knows of
+/// it afterwards. `kept` is how many changes the registry keeps, or none where it keeps all. Each call may wait.
 pub trait Door {
     ghost use Rattle.std.specs.Prelude.{◌≡◌, ◌↔◌, ℕ, List, Option, IsErr, IfOk, OnOk, OnErr};
     ghost use Rattle.desk_core.specs.declared.entry.Entry.{Entry};
@@ -20,8 +20,6 @@ pub trait Door {
     ghost seen: { Self → List Entry };
 
     ghost follows: { List Entry → List Entry → Type 0 };
-
-    ghost follows_on: { (a b c : List Entry) → follows a b → follows b c → follows a c };
 
     ghost kept: { Option ℕ };
 

@@ -3,14 +3,13 @@ ghost use Rattle.std.specs.Bool.{OnTrue, OnFalse};
 ghost use Rattle.std.specs.Io.KnownBytes.{Appends, Consumes, IsAtEnd};
 ghost use Rattle.desk_core.specs.declared.entry.Entry.{Entry};
 ghost use Rattle.web_call.specs.declared.outcome.Outcome.{Outcome};
-ghost use Rattle.web_call.specs.Answer.{IsAnswered, IsStarvedAt, Sends};
-ghost use Rattle.web_call.specs.Exchange.{HasEnded, Meets};
+ghost use Rattle.web_call.specs.Answer.{IsAnswered, Sends};
+ghost use Rattle.web_call.specs.Exchange.{HasEnded, Meets, ReadsCut, Starves};
 ghost use Rattle.web_call.specs.InputHead.{IsHead};
 ghost use Rattle.web_call.specs.Past.{Carries, CarriesFor, with_asked, with_received, with_sent};
 ghost use Rattle.web_call.specs.Pieces.{Piece, text_of, IsCut};
-ghost use Rattle.web_call.specs.Request.{IsCutRequest};
 ghost use Rattle.web_call.specs.Stages.{being_sent, ending_of, ends_watch, is_answered, is_open, is_starved, is_watching, to_send};
-ghost use Rattle.web_call.specs.Tap.{tap_inner, tap_failed};
+ghost use Rattle.web_call.specs.Tap.{tap_inner, tap_failed, tap_idle};
 ghost use Rattle.web_call.specs.Walk.{AsksDoor};
 
 use crate::bell::{Bell, Turn};
@@ -83,9 +82,11 @@ impl ExchangeFault {
 /// Reads what the call wants, and none behind it. It is false at an error of any kind, and where the input ends before.
 fn receive<R: Read>(alloc: Global, reader: &mut Tap<R>, call: &mut Call) -> bool
     requires { is_open call.old ≡ true }
-    ensures received { (bytes : List ℕ) × Consumes (R.remaining (tap_inner reader.old)) (R.remaining (tap_inner reader.new)) bytes
+    ensures received { (bytes : List ℕ)
+        × Consumes (R.remaining (tap_inner reader.old)) (R.remaining (tap_inner reader.new)) bytes
         × Carries call.old call.new (with_received bytes) }
     ensures kept { OnTrue result (tap_failed reader.new ≡ tap_failed reader.old) }
+    ensures idle { tap_idle reader.new ≡ tap_idle reader.old }
     ensures cause { OnFalse result ((tap_failed reader.new ≡ true) ⊎ IsAtEnd (R.remaining (tap_inner reader.new))) }
     ensures ends { OnTrue result (is_open call.new ≡ false) }
     ensures is_open { OnFalse result (is_open call.new ≡ true) }
@@ -109,8 +110,10 @@ fn receive<R: Read>(alloc: Global, reader: &mut Tap<R>, call: &mut Call) -> bool
 fn reply<D: Door>(alloc: Global, door: &mut D, call: &mut Call)
     requires read { is_open call.old ≡ false }
     requires unanswered { is_answered call.old ≡ false }
-    ensures asked { (asked : List (List Entry)) × (length asked ≤ 1) × AsksDoor D.seen D.follows door.old door.new asked
-        × CarriesFor (record { names = D.names door.old; kept = D.kept }) call.old call.new (with_asked asked) }
+    ensures asked { (asked : List (List Entry)) × (length asked ≤ 1)
+        × AsksDoor D.seen D.follows door.old door.new asked
+        × CarriesFor (record { names = D.names door.old; kept = D.kept }) call.old call.new
+        (with_asked asked) }
     ensures ready { is_answered call.new ≡ not (is_starved call.new) }
     ensures no_end { ends_watch (ending_of call.new) ≡ false }
     ensures names { D.names door.new ≡ D.names door.old }
@@ -124,10 +127,12 @@ fn reply<D: Door>(alloc: Global, door: &mut D, call: &mut Call)
 /// Writes what the call has to send, and flushes it; where that is nothing, it does neither. It is false at an error of any
 /// kind, and at a write that takes no byte.
 fn send<W: Write>(writer: &mut Tap<W>, call: &mut Call) -> bool
-    ensures sent { (bytes : List ℕ) × Appends (W.contents (tap_inner writer.old)) (W.contents (tap_inner writer.new)) bytes
+    ensures sent { (bytes : List ℕ)
+        × Appends (W.contents (tap_inner writer.old)) (W.contents (tap_inner writer.new)) bytes
         × Carries call.old call.new (with_sent bytes) }
     ensures kept { OnTrue result (tap_failed writer.new ≡ tap_failed writer.old) }
     ensures failed { OnFalse result (tap_failed writer.new ≡ true) }
+    ensures idle { tap_idle writer.new ≡ tap_idle writer.old }
     ensures all { OnTrue result (to_send call.new ≡ []) }
     ensures some { OnFalse result (being_sent call.new ≢ []) }
     ensures watching { is_watching call.new ≡ is_watching call.old }
@@ -156,7 +161,8 @@ fn step<D: Door, B: Bell>(door: &mut D, bell: &mut B, call: &mut Call, had: u32,
     requires told { to_send call.old ≡ [] }
     requires most { had ≤ looks }
     ensures asked { (more : List (List Entry)) × AsksDoor D.seen D.follows door.old door.new more
-        × CarriesFor (record { names = D.names door.old; kept = D.kept }) call.old call.new (with_asked more)
+        × CarriesFor (record { names = D.names door.old; kept = D.kept }) call.old call.new
+        (with_asked more)
         × (result ≡ had + length more) × (B.given bell.new ≡ B.given bell.old + length more) }
     ensures most { result ≤ looks }
     ensures goes_on { is_watching call.new ≡ true → result ≡ had + 1 }
@@ -181,8 +187,8 @@ fn step<D: Door, B: Bell>(door: &mut D, bell: &mut B, call: &mut Call, had: u32,
 /// The head is read with a call of `read` for each byte, so that all behind the request stays unread: a reader for which calls
 /// are dear has to be buffered. The writer is flushed after the last byte, and in a Watch after each message too. An error of any
 /// kind ends the exchange at once, `Interrupted` too. It waits where the reader, the writer, the door or the bell does. Memory is
-/// taken for the head, the body and the response, and none after the first byte is written. Neither tap may have failed before,
-/// or their `failed` says nothing of this exchange.
+/// taken for the head, the body and the response, and none after the first byte is written. No read and no write of its own is of an
+/// empty buffer. Neither tap may have failed or been idle before, or they say nothing of this exchange.
 pub fn exchange<R: Read, W: Write, D: Door, B: Bell>(
     alloc: Global,
     reader: &mut Tap<R>,
@@ -192,35 +198,57 @@ pub fn exchange<R: Read, W: Write, D: Door, B: Bell>(
     limits: Limits,
 ) -> Result<Outcome, ExchangeFault>
     // The request was read to its end and no further, and its whole answer was written.
-    ensures ok { IfOk result (λ outcome. (head body : List ℕ) × (asked : List (List Entry)) × (pieces : List Piece)
-        × IsHead head × Consumes (R.remaining (tap_inner reader.old)) (R.remaining (tap_inner reader.new)) (head ++ body)
-        × Meets D.seen D.follows B.given B.is_over limits.looks door.old door.new bell.old bell.new asked (Some outcome)
-        × IsAnswered (record { source = record { names = D.names door.old; kept = D.kept }; asked = asked; head = head; body = body }) pieces outcome
-        × Appends (W.contents (tap_inner writer.old)) (W.contents (tap_inner writer.new)) (text_of pieces)) }
-    ensures kept { OnOk result ((tap_failed reader.new ≡ tap_failed reader.old) × (tap_failed writer.new ≡ tap_failed writer.old)) }
+    ensures ok { IfOk result (λ outcome.
+        (head body : List ℕ) × (asked : List (List Entry)) × (pieces : List Piece) × IsHead head
+        × Consumes (R.remaining (tap_inner reader.old)) (R.remaining (tap_inner reader.new))
+        (head ++ body)
+        × Meets D.seen D.follows B.given B.is_over limits.looks door.old door.new bell.old bell.new
+        asked (Some outcome)
+        × IsAnswered (record {
+          source = record { names = D.names door.old; kept = D.kept };
+          asked = asked;
+          head = head;
+          body = body;
+        }) pieces outcome
+        × Appends (W.contents (tap_inner writer.old)) (W.contents (tap_inner writer.new))
+        (text_of pieces)) }
+    ensures kept { OnOk result ((tap_failed reader.new ≡ tap_failed reader.old)
+        × (tap_failed writer.new ≡ tap_failed writer.old)) }
 
-    // A request that was not whole: nothing was written, and nobody was asked.
-    ensures read { IfErr result (λ fault. fault.why ≡ Why.Read → ((tap_failed reader.new ≡ true) ⊎ IsAtEnd (R.remaining (tap_inner reader.new)))
-        × (fault.frames ≡ 0) × (writer.new ≡ writer.old) × (door.new ≡ door.old) × (bell.new ≡ bell.old)) }
-    ensures cut_request { IfErr result (λ fault. fault.why ≡ Why.Read → (bytes : List ℕ) × IsCutRequest bytes
-        × Consumes (R.remaining (tap_inner reader.old)) (R.remaining (tap_inner reader.new)) bytes) }
+    // The reader failed, or ended within the request: nothing was written, and nobody was asked.
+    ensures read { IfErr result (λ fault. fault.why ≡ Why.Read → (fault.frames ≡ 0)
+        × ((tap_failed reader.new ≡ true) ⊎ IsAtEnd (R.remaining (tap_inner reader.new)))
+        × ReadsCut (R.remaining (tap_inner reader.old)) (R.remaining (tap_inner reader.new))
+        × (writer.new ≡ writer.old) × (door.new ≡ door.old) × (bell.new ≡ bell.old)) }
 
     // Memory was wanted for the head, before anything was read, for the body or for the response, and nothing was written.
-    ensures no_memory { IfErr result (λ fault. fault.why ≡ Why.NoMemory → (fault.frames ≡ 0) × (writer.new ≡ writer.old)
-        × (tap_failed reader.new ≡ tap_failed reader.old) × (bell.new ≡ bell.old)) }
-    ensures starved { IfErr result (λ fault. fault.why ≡ Why.NoMemory → (bytes : List ℕ) × (asked : List (List Entry))
-        × (((bytes ≡ []) × (asked ≡ [])) ⊎ IsStarvedAt asked bytes) × AsksDoor D.seen D.follows door.old door.new asked
-        × Consumes (R.remaining (tap_inner reader.old)) (R.remaining (tap_inner reader.new)) bytes) }
+    ensures no_memory { IfErr result (λ fault. fault.why ≡ Why.NoMemory → (fault.frames ≡ 0)
+        × Starves D.seen D.follows door.old door.new
+        (R.remaining (tap_inner reader.old)) (R.remaining (tap_inner reader.new))
+        × (writer.new ≡ writer.old) × (bell.new ≡ bell.old)
+        × (tap_failed reader.new ≡ tap_failed reader.old)) }
 
     // The writer failed: of the answer, as far as its turns went, a front was written.
-    ensures write { IfErr result (λ fault. fault.why ≡ Why.Write → (tap_failed writer.new ≡ true) × (tap_failed reader.new ≡ tap_failed reader.old)) }
-    ensures cut_answer { IfErr result (λ fault. fault.why ≡ Why.Write → (head body : List ℕ) × (asked : List (List Entry))
-        × (done part : List Piece) × (ending : Option Outcome)
-        × IsHead head × Consumes (R.remaining (tap_inner reader.old)) (R.remaining (tap_inner reader.new)) (head ++ body)
-        × Meets D.seen D.follows B.given B.is_over limits.looks door.old door.new bell.old bell.new asked ending
-        × Sends (record { source = record { names = D.names door.old; kept = D.kept }; asked = asked; head = head; body = body }) done part ending × (part ≢ [])
-        × IsCut done part (W.contents (tap_inner writer.old)) (W.contents (tap_inner writer.new)) fault.frames) }
+    ensures write { IfErr result (λ fault. fault.why ≡ Why.Write → (tap_failed writer.new ≡ true)
+        × (tap_failed reader.new ≡ tap_failed reader.old)
+        × ((head body : List ℕ) × (asked : List (List Entry)) × (done part : List Piece)
+        × (ending : Option Outcome) × IsHead head
+        × Consumes (R.remaining (tap_inner reader.old)) (R.remaining (tap_inner reader.new))
+        (head ++ body)
+        × Meets D.seen D.follows B.given B.is_over limits.looks door.old door.new bell.old bell.new
+        asked ending
+        × Sends (record {
+          source = record { names = D.names door.old; kept = D.kept };
+          asked = asked;
+          head = head;
+          body = body;
+        }) done part ending
+        × (part ≢ [])
+        × IsCut done part (W.contents (tap_inner writer.old)) (W.contents (tap_inner writer.new))
+        fault.frames)) }
 
+    ensures idle { (tap_idle reader.new ≡ tap_idle reader.old)
+        × (tap_idle writer.new ≡ tap_idle writer.old) }
     ensures looks { B.given bell.new ≤ B.given bell.old + limits.looks }
     ensures names { D.names door.new ≡ D.names door.old }
     ensures stays { D.stays door.old door.new }

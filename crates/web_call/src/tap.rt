@@ -1,16 +1,17 @@
-ghost use Rattle.std.specs.Prelude.{◌≡◌, ◌||◌, false, is_err};
+ghost use Rattle.std.specs.Prelude.{◌≡◌, ◌||◌, ◌==◌, false, is_err, length};
 ghost use Rattle.std.specs.Io.{ReadsAtMost, WritesAtMost};
 ghost use Rattle.std.specs.Io.KnownBytes.{Keeps, ReadConsumes, WriteAppends};
-ghost use Rattle.web_call.specs.Tap.{tap_inner, tap_failed, is_refused};
+ghost use Rattle.web_call.specs.Tap.{tap_inner, tap_failed, tap_idle, is_refused};
 
 use std::io;
 use std::io::{Read, Write};
 
-/// A reader or a writer, and whether a call through it has failed.
+/// A reader or a writer, whether a call through it has failed, and whether one was given an empty buffer.
 #[derive(Debug, Drop)]
 pub struct Tap<T> {
     inner: T,
     failed: bool,
+    idle: bool,
 }
 
 impl<T> Tap<T> {
@@ -18,10 +19,12 @@ impl<T> Tap<T> {
     pub fn new(inner: T) -> Tap<T>
         ensures inner { tap_inner result ≡ inner }
         ensures failed { tap_failed result ≡ false }
+        ensures idle { tap_idle result ≡ false }
     {
         Tap {
             inner,
             failed: false,
+            idle: false,
         }
     }
 
@@ -30,6 +33,13 @@ impl<T> Tap<T> {
         ensures { result ≡ tap_failed self.now }
     {
         self.failed
+    }
+
+    /// Whether a read or a write was given an empty buffer: what such a call returns says nothing of the reader or writer.
+    pub fn idle(&self) -> bool
+        ensures { result ≡ tap_idle self.now }
+    {
+        self.idle
     }
 }
 
@@ -41,7 +51,9 @@ impl<R: Read> Read for Tap<R> {
         ensures bytes { ReadConsumes (R.remaining (tap_inner self.old))
             (R.remaining (tap_inner self.new)) result buf.new }
         ensures failed { tap_failed self.new ≡ (tap_failed self.old || is_err result) }
+        ensures idle { tap_idle self.new ≡ (tap_idle self.old || (length buf.old == 0)) }
     {
+        self.idle = self.idle || buf.is_empty();
         let result = self.inner.read(buf);
         self.failed = self.failed || result.is_err();
         result
@@ -56,7 +68,9 @@ impl<W: Write> Write for Tap<W> {
         ensures bytes { WriteAppends (W.contents (tap_inner self.old))
             (W.contents (tap_inner self.new)) result buf.now }
         ensures failed { tap_failed self.new ≡ (tap_failed self.old || is_refused result) }
+        ensures idle { tap_idle self.new ≡ (tap_idle self.old || (length buf.now == 0)) }
     {
+        self.idle = self.idle || buf.is_empty();
         let result = self.inner.write(buf);
         self.failed = self.failed || matches!(result, Ok(0) | Err(_));
         result
@@ -65,6 +79,7 @@ impl<W: Write> Write for Tap<W> {
     fn flush(&mut self) -> io::Result<()>
         ensures bytes { Keeps (W.contents (tap_inner self.old)) (W.contents (tap_inner self.new)) }
         ensures failed { tap_failed self.new ≡ (tap_failed self.old || is_err result) }
+        ensures idle { tap_idle self.new ≡ tap_idle self.old }
     {
         let result = self.inner.flush();
         self.failed = self.failed || result.is_err();

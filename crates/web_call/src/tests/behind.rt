@@ -64,8 +64,6 @@ impl Door for Flipping<'_> {
 
     ghost follows = { λ _ _. ⊤ };
 
-    ghost follows_on = { λ _ _ _ _ _. tt };
-
     ghost kept = { Some 16 };
 
     ghost stays = { λ _ _. ⊤ };

@@ -27,8 +27,6 @@ impl<D: Door> Door for Counted<D> {
 
     ghost follows = { D.follows };
 
-    ghost follows_on = { D.follows_on };
-
     ghost kept = { D.kept };
 
     ghost stays = { λ a b. D.stays a.door b.door };
@@ -90,8 +88,6 @@ impl Door for Changing<'_> {
     ghost seen = { λ door. past door.desk.journal };
 
     ghost follows = { λ _ _. ⊤ };
-
-    ghost follows_on = { λ _ _ _ _ _. tt };
 
     ghost kept = { None };
 

@@ -2,7 +2,7 @@ use Rattle.std.proofs.Common.{◌≡◌, refl, ap, subst, ◌∙◌, [], None, i
 use Rattle.std.proofs.KnownBytes.{Consumes-nil}
 use Rattle.std.specs.Io.KnownBytes.{Appends, Consumes}
 use Rattle.web_call.specs.Answer.{Source}
-use Rattle.web_call.specs.Exchange.{Meets}
+use Rattle.web_call.specs.Exchange.{Meets, ReadsCut, Starves}
 use Rattle.web_call.specs.Past.{CarriesFor, begun, with_asked, with_received}
 use Rattle.web_call.specs.Pieces.{text_of}
 use Rattle.web_call.specs.Stages.{is_watching, ending_of}
@@ -16,18 +16,31 @@ use Rattle.web_call.proofs.exchanging.exchange.Goals as goal
 nowhere : Source
 nowhere = record { names = []; kept = None }
 
-pub returns-then-not-receive-clause-cut_request : goal.returns-then-not-receive-clause-cut_request
-returns-then-not-receive-clause-cut_request g c = λ _.
+pub returns-then-not-receive-clause-read : goal.returns-then-not-receive-clause-read
+returns-then-not-receive-clause-read g c = λ _.
     let r = c.receive.ensures.received in
-    (r.0, read_cut nowhere (with_received r.0 begun) c.receive.new.call c.if-not-receive.ensures.is_open (r.2 nowhere begun (c.in-Ok.ensures.begun nowhere)), r.1)
+    let cut : ReadsCut (g.R.Read.remaining (tap_inner c.args.reader.now)) (g.R.Read.remaining (tap_inner c.receive.new.reader)) = record {
+      bytes = r.0;
+      is_cut = read_cut nowhere (with_received r.0 begun) c.receive.new.call c.if-not-receive.ensures.is_open (r.2 nowhere begun (c.in-Ok.ensures.begun nowhere));
+      has_read = r.1;
+    } in
+    (ap (λ fault. fault.frames) c.read.ensures, c.if-not-receive.ensures.cause, cut, refl, refl, refl)
 
-pub returns-then-is_starved-clause-starved : goal.returns-then-is_starved-clause-starved
-returns-then-is_starved-clause-starved g c = λ _.
+pub returns-then-is_starved-clause-no_memory : goal.returns-then-is_starved-clause-no_memory
+returns-then-is_starved-clause-no_memory g c = λ _.
     let r = c.receive.ensures.received in
     let a = c.reply.ensures.asked in
     let source : Source = record { names = g.D.Door.names c.args.door.now; kept = g.D.Door.kept } in
     let past = with_asked a.0 (with_received r.0 begun) in
-    (r.0, a.0, inr (starved_at source past c.reply.new.call (search rules) (a.3 (with_received r.0 begun) (r.2 source begun (c.in-Ok.ensures.begun source)))), a.2, r.1)
+    let starves : Starves g.D.Door.seen g.D.Door.follows c.args.door.now c.reply.new.door (g.R.Read.remaining (tap_inner c.args.reader.now))
+    (g.R.Read.remaining (tap_inner c.receive.new.reader)) = record {
+      bytes = r.0;
+      asked = a.0;
+      at = inr (starved_at source past c.reply.new.call (search rules) (a.3 (with_received r.0 begun) (r.2 source begun (c.in-Ok.ensures.begun source))));
+      asks = a.2;
+      has_read = r.1;
+    } in
+    (ap (λ fault. fault.frames) c.no_memory-then-is_starved.ensures, starves, refl, refl, search rules)
 
 pub loop-is_sent-init : goal.loop-is_sent-init
 loop-is_sent-init g c =
@@ -42,6 +55,7 @@ loop-is_sent-init g c =
       told = search rules;
       kept = search rules;
       failed = search rules;
+      idle = search rules;
       some = search rules;
       most = omega arith;
       names = search rules;
@@ -62,6 +76,7 @@ loop-is_sent-preserved g c =
       told = search rules;
       kept = search rules;
       failed = search rules;
+      idle = c.send-is_sent-in-loop-is_sent.ensures.idle ∙ before.idle;
       some = search rules;
       most = c.step-had.ensures.most;
       names = c.step-had.ensures.names ∙ before.names;
@@ -84,24 +99,34 @@ returns-in-Some-clause-ok g c =
       subst (Appends (g.W.Write.contents (tap_inner c.args.writer.now)) (g.W.Write.contents (tap_inner c.loop-is_sent.writer))) w.1.all_sent s.wrote,
     )
 
-pub returns-clause-cut_answer : goal.returns-clause-cut_answer
-returns-clause-cut_answer g c = λ _.
+pub returns-clause-write : goal.returns-clause-write
+returns-clause-write g c = λ _.
     let s = c.loop-is_sent.invariant.so_far in
     let unsent : c.loop-is_sent.is_sent ≡ false = search rules in
     let cut = cut_of (record { names = g.D.Door.names c.args.door.now; kept = g.D.Door.kept }) s.past c.loop-is_sent.call c.loop-is_sent.invariant.answered s.stands in (
-      cut.0.head,
-      cut.0.body,
-      s.past.asked,
-      cut.0.done,
-      cut.0.part,
-      ending_of c.loop-is_sent.call,
-      cut.0.requested.is_head,
-      subst (Consumes (g.R.Read.remaining (tap_inner c.args.reader.now)) (g.R.Read.remaining (tap_inner c.receive.new.reader))) cut.0.requested.is s.has_read,
-      s.meets,
-      cut.0.sends,
-      λ none. c.loop-is_sent.invariant.some unsent (cut.1 ∙ ap text_of none),
-      cut_written cut.0 s.wrote (search rules),
+      c.loop-is_sent.invariant.failed unsent,
+      search rules,
+      (
+        cut.0.head,
+        cut.0.body,
+        s.past.asked,
+        cut.0.done,
+        cut.0.part,
+        ending_of c.loop-is_sent.call,
+        cut.0.requested.is_head,
+        subst (Consumes (g.R.Read.remaining (tap_inner c.args.reader.now)) (g.R.Read.remaining (tap_inner c.receive.new.reader))) cut.0.requested.is s.has_read,
+        s.meets,
+        cut.0.sends,
+        λ none. c.loop-is_sent.invariant.some unsent (cut.1 ∙ ap text_of none),
+        cut_written cut.0 s.wrote (search rules),
+      ),
     )
 
-pub returns-in_default-clause-starved : goal.returns-in_default-clause-starved
-returns-in_default-clause-starved g c = λ _. ([], [], inl (refl, refl), AsksDoor-none, Consumes-nil _)
+pub returns-in_default-clause-no_memory : goal.returns-in_default-clause-no_memory
+returns-in_default-clause-no_memory g c = λ _. (
+  ap (λ fault. fault.frames) c.no_memory.ensures,
+  record { bytes = []; asked = []; at = inl (refl, refl); asks = AsksDoor-none; has_read = Consumes-nil _ },
+  refl,
+  refl,
+  refl,
+)

@@ -1,6 +1,6 @@
 use Rattle.std.proofs.Common.{◌≡◌, ◌≢◌, ◌≤◌, ◌+◌, ◌-◌, true, false, [], cond}
 use Rattle.web_call.specs.Stages.{being_sent, is_answered, is_watching, to_send}
-use Rattle.web_call.specs.Tap.{tap_inner, tap_failed}
+use Rattle.web_call.specs.Tap.{tap_inner, tap_failed, tap_idle}
 use Rattle.web_call.proofs.ExchangeLemmas.{SoFar}
 use Rattle.web_call.proofs.exchanging.exchange.Given as goal
 
@@ -13,6 +13,7 @@ invariant-loop-is_sent g l = record {
   told : l.is_sent ≡ true → to_send l.call ≡ [];
   kept : l.is_sent ≡ true → tap_failed l.writer ≡ tap_failed l.fn.writer;
   failed : l.is_sent ≡ false → tap_failed l.writer ≡ true;
+  idle : tap_idle l.writer ≡ tap_idle l.fn.writer;
   some : l.is_sent ≡ false → being_sent l.call ≢ [];
   most : l.had ≤ l.limits.looks;
   names : g.D.Door.names l.door ≡ g.D.Door.names l.fn.door;

@@ -1,7 +1,8 @@
-use Rattle.std.proofs.Common.{subst, ◌++◌, take, drop, rules}
+use Rattle.std.proofs.Common.{subst, ◌∙◌, ◌++◌, take, drop, rules}
 use Rattle.std.proofs.KnownBytes.{Consumes-trans}
 use Rattle.web_call.specs.Past.{Carries, with_received}
-use Rattle.web_call.proofs.ExchangeLemmas.{given_all, received_more}
+use Rattle.web_call.specs.Tap.{tap_idle}
+use Rattle.web_call.proofs.ExchangeLemmas.{given_all, received_more, still_idle}
 use Rattle.web_call.proofs.exchanging.receive.Goals as goal
 
 pub loop-alloc-preserved : goal.loop-alloc-preserved
@@ -16,6 +17,7 @@ loop-alloc-preserved g c =
         received_more c.args.call.now c.loop-alloc.call c.give.new.self before.0 bytes before.2 given,
       );
       kept = search rules;
+      idle = c.read.ensures.idle ∙ still_idle (tap_idle c.loop-alloc.reader) _ (search rules) ∙ c.loop-alloc.invariant.idle;
       unanswered = search rules;
       len = search rules;
     }

@@ -10,7 +10,7 @@ pub returns-then-is_empty-clause-sent : goal.returns-then-is_empty-clause-sent
 returns-then-is_empty-clause-sent g c = ([], Appends-nil _, sent_none c.args.call.now)
 
 pub loop-writer-init : goal.loop-writer-init
-loop-writer-init g c = record { sent = ([], Appends-nil _, sent_none c.args.call.now); kept = refl; watching = refl; ending = refl; answered = refl; text = refl }
+loop-writer-init g c = record { sent = ([], Appends-nil _, sent_none c.args.call.now); kept = refl; idle = refl; watching = refl; ending = refl; answered = refl; text = refl }
 
 pub loop-writer-preserved : goal.loop-writer-preserved
 loop-writer-preserved g c =
@@ -20,6 +20,7 @@ loop-writer-preserved g c =
     (take c.in-Ok.count l)) c.to_send-in-loop-writer-2.ensures c.in-Ok.ensures.bytes in record {
       sent = (before.0 ++ bytes, Appends-trans _ _ _ before.0 bytes before.1 wrote, sent_more c.args.call.now c.loop-writer.call c.sent.new.self before.0 bytes before.2 c.sent.ensures.carries);
       kept = search rules;
+      idle = search rules;
       watching = c.sent.ensures.watching ∙ c.loop-writer.invariant.watching;
       ending = c.sent.ensures.ending ∙ c.loop-writer.invariant.ending;
       answered = c.sent.ensures.answered ∙ c.loop-writer.invariant.answered;
