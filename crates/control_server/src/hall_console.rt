@@ -2,6 +2,7 @@ ghost use Rattle.std.specs.Prelude.{◌≡◌, IfSome};
 ghost use Rattle.std.specs.Option.{option_map};
 ghost use Rattle.crew.specs.Looking.{HasLooked};
 ghost use Rattle.desk_core.specs.Mutation.{rule_of};
+ghost use Rattle.desk_core.specs.Order.{IsListed};
 ghost use Rattle.hall.specs.Seats.{IsOf, IsCarriedOut};
 
 use crate::overview::{Overview, counts_of};
@@ -56,6 +57,7 @@ impl<'a, R: Wait, P: Probe, K: Keep> Console<P> for HallConsole<'a, R, P, K> {
     ghost use Rattle.std.specs.Prelude.{◌≡◌, IfSome};
     ghost use Rattle.std.specs.Option.{option_map};
     ghost use Rattle.desk_core.specs.Mutation.{rule_of};
+    ghost use Rattle.desk_core.specs.Order.{IsListed};
     ghost use Rattle.control_server.specs.HallConsole.{CarriesOut, LooksOn, console_hall, console_seat};
 
     ghost names = { λ console. (console_hall console).names };
@@ -71,6 +73,7 @@ impl<'a, R: Wait, P: Probe, K: Keep> Console<P> for HallConsole<'a, R, P, K> {
     }
 
     fn change(&mut self, call: Option<Call>, probe: Option<P>) -> Result<Reply, Refusal>
+        requires listed { IfSome call (IsListed (console_hall self.old).names) }
         requires ruled { IfSome call (λ c. option_map P.rule probe ≡ rule_of c) }
         ensures names { (console_hall self.new).names ≡ (console_hall self.old).names }
         ensures changed { CarriesOut self.old self.new call result }
@@ -123,6 +126,7 @@ fn change_by<R: Wait, P: Probe, K: Keep>(
     probe: Option<P>,
 ) -> Result<Reply, Refusal>
     requires ours { IsOf hall.now seat.old }
+    requires listed { IfSome call (IsListed hall.now.names) }
     requires ruled { IfSome call (λ c. option_map P.rule probe ≡ rule_of c) }
     ensures { IsCarriedOut seat.old seat.new call result }
 {

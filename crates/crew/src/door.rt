@@ -89,6 +89,7 @@ impl<'a, R: Wait, P: Probe, K: Keep> Registrar<P> for HallDoor<'a, R, P, K> {
     ghost use Rattle.std.specs.Prelude.{◌≡◌, IfSome};
     ghost use Rattle.std.specs.Option.{option_map};
     ghost use Rattle.desk_core.specs.Mutation.{rule_of};
+    ghost use Rattle.desk_core.specs.Order.{IsListed};
     ghost use Rattle.crew.specs.HallDoor.{door_hall, CarriesOut};
 
     ghost names = { λ door. (door_hall door).names };
@@ -100,6 +101,7 @@ impl<'a, R: Wait, P: Probe, K: Keep> Registrar<P> for HallDoor<'a, R, P, K> {
     }
 
     fn change(&mut self, call: Option<Call>, probe: Option<P>) -> Result<Reply, Refusal>
+        requires listed { IfSome call (IsListed (door_hall self.old).names) }
         requires ruled { IfSome call (λ c. option_map P.rule probe ≡ rule_of c) }
         ensures names { (door_hall self.new).names ≡ (door_hall self.old).names }
         ensures answered { CarriesOut self.old self.new call result }

@@ -14,11 +14,12 @@ pub enum Order {
 impl Order {
     ghost use Rattle.std.specs.Prelude.{◌≡◌, None, IfSome};
     ghost use Rattle.desk_core.specs.Mutation.{rule_of};
-    ghost use Rattle.desk_core.specs.Order.{ordered};
+    ghost use Rattle.desk_core.specs.Order.{ordered, IsListed};
 
     /// The change that is asked for, if its name is listed.
     pub fn call(&self, catalogue: &Catalogue) -> Option<Call>
         ensures call { result ≡ ordered catalogue.now self.now }
+        ensures listed { IfSome result (IsListed catalogue.now) }
         ensures registers_none { IfSome result (λ call. rule_of call ≡ None) }
     {
         match self {

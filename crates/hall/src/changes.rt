@@ -16,7 +16,7 @@ impl<P: Probe, K: Keep> Hall<P, K> {
     ghost use Rattle.desk_core.specs.Catalogue.{slot_of};
     ghost use Rattle.desk_core.specs.Desk.{probe_at, probe_of};
     ghost use Rattle.desk_core.specs.Mutation.{rule_of};
-    ghost use Rattle.desk_core.specs.Order.{call_at};
+    ghost use Rattle.desk_core.specs.Order.{call_at, IsListed};
     ghost use Rattle.hall.specs.Seats.{IsOf, IsCarriedOut};
 
     /// Makes a change, with the probe that it registers, in its opening state, if it registers one. There is no call where its name
@@ -29,9 +29,13 @@ impl<P: Probe, K: Keep> Hall<P, K> {
         probe: Option<P>,
     ) -> Result<(Reply, Option<P>), (Refusal, Option<P>)>
         requires ours { IsOf self.now seat.old }
+        requires listed { IfSome call (IsListed self.now.names) }
         requires ruled { IfSome call (λ c. option_map P.rule probe ≡ rule_of c) }
-        ensures answered { MatchResult result (λ taken. IsCarriedOut seat.old seat.new call (Ok taken.0)) (λ refused. IsCarriedOut seat.old seat.new call (Err refused.0)) }
-        ensures old { IfOk result (λ taken. IfSome call (λ c. option_map (λ p. (P.rule p, P.memory p)) taken.1 ≡ probe_of (drop 1 seat.new.seen) c)) }
+        ensures answered { MatchResult result
+            (λ taken. IsCarriedOut seat.old seat.new call (Ok taken.0))
+            (λ refused. IsCarriedOut seat.old seat.new call (Err refused.0)) }
+        ensures old { IfOk result (λ taken. IfSome call (λ c.
+            option_map (λ p. (P.rule p, P.memory p)) taken.1 ≡ probe_of (drop 1 seat.new.seen) c)) }
         ensures handed_back { IfErr result (λ refused. refused.1 ≡ probe) }
     {
         let number = seat.number;
@@ -62,8 +66,14 @@ impl<P: Probe, K: Keep> Hall<P, K> {
         probe: P,
     ) -> Result<Registered<P>, Handed<P>>
         requires { IsOf self.now seat.old }
-        ensures answered { MatchResult result (λ taken. IsCarriedOut seat.old seat.new (call_at self.now.names (λ slot. calls.Register slot (P.rule probe)) name.now) (Ok taken.reply)) (λ handed. IsCarriedOut seat.old seat.new (call_at self.now.names (λ slot. calls.Register slot (P.rule probe)) name.now) (Err handed.refusal)) }
-        ensures old { IfOk result (λ taken. IfSome (slot_of self.now.names name.now) (λ slot. option_map (λ p. (P.rule p, P.memory p)) taken.old ≡ probe_at (drop 1 seat.new.seen) slot)) }
+        ensures answered { let call = call_at self.now.names
+            (λ slot. calls.Register slot (P.rule probe)) name.now in
+            MatchResult result
+            (λ taken. IsCarriedOut seat.old seat.new call (Ok taken.reply))
+            (λ handed. IsCarriedOut seat.old seat.new call (Err handed.refusal)) }
+        ensures old { IfOk result (λ taken. IfSome (slot_of self.now.names name.now) (λ slot.
+            option_map (λ p. (P.rule p, P.memory p)) taken.old
+            ≡ probe_at (drop 1 seat.new.seen) slot)) }
         ensures handed_back { IfErr result (λ handed. handed.probe ≡ probe) }
     {
         let rule = probe.rule();
@@ -88,8 +98,14 @@ impl<P: Probe, K: Keep> Hall<P, K> {
         name: &str,
     ) -> Result<(Reply, Option<P>), Refusal>
         requires { IsOf self.now seat.old }
-        ensures answered { MatchResult result (λ taken. IsCarriedOut seat.old seat.new (call_at self.now.names (λ slot. calls.Retire slot) name.now) (Ok taken.0)) (λ refusal. IsCarriedOut seat.old seat.new (call_at self.now.names (λ slot. calls.Retire slot) name.now) (Err refusal)) }
-        ensures old { IfOk result (λ taken. IfSome (slot_of self.now.names name.now) (λ slot. option_map (λ p. (P.rule p, P.memory p)) taken.1 ≡ probe_at (drop 1 seat.new.seen) slot)) }
+        ensures answered { let call = call_at self.now.names
+            (λ slot. calls.Retire slot) name.now in
+            MatchResult result
+            (λ taken. IsCarriedOut seat.old seat.new call (Ok taken.0))
+            (λ refusal. IsCarriedOut seat.old seat.new call (Err refusal)) }
+        ensures old { IfOk result (λ taken. IfSome (slot_of self.now.names name.now) (λ slot.
+            option_map (λ p. (P.rule p, P.memory p)) taken.1
+            ≡ probe_at (drop 1 seat.new.seen) slot)) }
     {
         let call = self.catalogue.slot(name).map(|slot| Call::Retire(slot));
         match self.change(rt, seat, call, None) {
@@ -107,7 +123,8 @@ impl<P: Probe, K: Keep> Hall<P, K> {
         finding: Finding,
     ) -> Result<Reply, Refusal>
         requires { IsOf self.now seat.old }
-        ensures answered { IsCarriedOut seat.old seat.new (call_at self.now.names (λ slot. calls.Observe slot finding) name.now) result }
+        ensures answered { IsCarriedOut seat.old seat.new
+            (call_at self.now.names (λ slot. calls.Observe slot finding) name.now) result }
     {
         let call = self
             .catalogue
@@ -125,7 +142,8 @@ impl<P: Probe, K: Keep> Hall<P, K> {
         setting: Setting,
     ) -> Result<Reply, Refusal>
         requires { IsOf self.now seat.old }
-        ensures answered { IsCarriedOut seat.old seat.new (call_at self.now.names (λ slot. calls.Set slot setting) name.now) result }
+        ensures answered { IsCarriedOut seat.old seat.new
+            (call_at self.now.names (λ slot. calls.Set slot setting) name.now) result }
     {
         let call = self
             .catalogue
@@ -158,6 +176,7 @@ impl<P: Probe, K: Keep> Hall<P, K> {
         call: Option<Call>,
     ) -> Result<Reply, Refusal>
         requires ours { IsOf self.now seat.old }
+        requires listed { IfSome call (IsListed self.now.names) }
         requires ruled { IfSome call (λ c. rule_of c ≡ None) }
         ensures answered { IsCarriedOut seat.old seat.new call result }
     {

@@ -38,11 +38,15 @@ impl<P: Probe, K: Keep> Hall<P, K> {
     pub fn close(self, seats: Vec<Seat<P, K>>) -> Result<Closed<P, K>, Unclosed<P, K>>
         requires { All (IsOf self) seats.items }
         ensures closed { IfOk result (λ closed. length seats.items ≡ self.seats) }
-        ensures unclosed { IfErr result (λ unclosed. (length seats.items ≢ self.seats) × (unclosed.hall ≡ self) × (unclosed.seats.items ≡ seats.items)) }
-        ensures kept { IfOk result (λ closed. (closed.catalogue ≡ self.names) × (closed.desk.max_entries ≡ self.most)) }
+        ensures unclosed { IfErr result (λ unclosed. (length seats.items ≢ self.seats)
+            × (unclosed.hall ≡ self) × (unclosed.seats.items ≡ seats.items)) }
+        ensures kept { IfOk result (λ closed.
+            (closed.catalogue ≡ self.names) × (closed.desk.max_entries ≡ self.most)) }
         ensures legal { IfOk result (λ closed. IsLegal (past closed.desk.journal)) }
-        ensures seats { IfOk result (λ closed. All (IsSeenIn (past closed.desk.journal)) seats.items) }
-        ensures counted { IfOk result (λ closed. length closed.desk.journal ≡ sum_by (λ seat. length (own_calls seat)) seats.items) }
+        ensures seats { IfOk result (λ closed.
+            All (IsSeenIn (past closed.desk.journal)) seats.items) }
+        ensures counted { IfOk result (λ closed.
+            length closed.desk.journal ≡ sum_by (λ seat. length (own_calls seat)) seats.items) }
     {
         if seats.len() != self.seats as usize {
             return Err(Unclosed { hall: self, seats });

@@ -38,8 +38,10 @@ pub(crate) fn enter<P: Probe, K: Keep, R: Wait>(
     ensures place { place.new.table_id ≡ place.old.table_id }
     ensures limit { result.max_entries ≡ place.old.me.0.most }
     ensures room { length result.journal ≤ result.max_entries }
-    ensures desk { HasDesk place.new.me (number_in place.old.me) place.old.me.0.most (past result.journal) }
-    ensures follows { Follows (number_in place.old.me) (seen_in place.old.me) (past result.journal) }
+    ensures desk { HasDesk place.new.me (number_in place.old.me) place.old.me.0.most
+        (past result.journal) }
+    ensures follows { Follows (number_in place.old.me) (seen_in place.old.me)
+        (past result.journal) }
 {
     let ticket = draw(shared, place);
     let mut looks: u32 = 0;
@@ -62,7 +64,8 @@ fn draw<P: Probe, K: Keep>(shared: &Shared<P, K>, place: &mut Place<P, K>) -> u6
     requires table { IsHall shared.now.table_id × (place.old.table_id ≡ shared.now.table_id) }
     requires rests { Rests place.old.me }
     ensures place { place.new.table_id ≡ place.old.table_id }
-    ensures ticket { (ticket : ℕ) × (result ≡ ticket % 2 ^ 64) × (place.new.me ≡ (at_stage place.old.me.0 (Queued ticket), [])) }
+    ensures ticket { (ticket : ℕ) × (result ≡ ticket % 2 ^ 64)
+        × (place.new.me ≡ (at_stage place.old.me.0 (Queued ticket), [])) }
 {
     shared.fetch_add::<Draw>(place, DRAWN, 1)
 }
@@ -97,9 +100,11 @@ pub(crate) fn finish<P: Probe, K: Keep>(
     requires table { IsHall shared.now.table_id × (place.old.table_id ≡ shared.now.table_id) }
     requires desk { HasDesk place.old.me entry.seat desk.max_entries (seen_in place.old.me) }
     requires newest { past desk.journal ≡ entry ∷ seen_in place.old.me }
-    requires limit { (made.old ≤ length (seen_in place.old.me)) × (length (seen_in place.old.me) < 2 ^ 32) }
+    requires limit { (made.old ≤ length (seen_in place.old.me))
+        × (length (seen_in place.old.me) < 2 ^ 32) }
     ensures place { place.new.table_id ≡ place.old.table_id }
-    ensures rests { place.new.me ≡ (seat_view entry.seat (past desk.journal) desk.max_entries, []) }
+    ensures rests { place.new.me
+        ≡ (seat_view entry.seat (past desk.journal) desk.max_entries, []) }
     ensures made { made.new ≡ made.old + 1 }
     ensures legal { IsLegal (past desk.journal) }
     ensures room { length desk.journal ≤ desk.max_entries }
@@ -116,9 +121,11 @@ pub(crate) fn leave<P: Probe, K: Keep>(
     desk: Desk<P, K>,
 )
     requires table { IsHall shared.now.table_id × (place.old.table_id ≡ shared.now.table_id) }
-    requires desk { HasDesk place.old.me (number_in place.old.me) desk.max_entries (past desk.journal) }
+    requires desk { HasDesk place.old.me (number_in place.old.me) desk.max_entries
+        (past desk.journal) }
     ensures place { place.new.table_id ≡ place.old.table_id }
-    ensures rests { place.new.me ≡ (seat_view (number_in place.old.me) (past desk.journal) desk.max_entries, []) }
+    ensures rests { place.new.me
+        ≡ (seat_view (number_in place.old.me) (past desk.journal) desk.max_entries, []) }
 {
     // The slot is empty, so nothing is dropped while the desk is held.
     let None = shared.exchange(place, DESK, Some(desk)) else {

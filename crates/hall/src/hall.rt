@@ -44,8 +44,10 @@ impl<P: Probe, K: Keep> Hall<P, K> {
         max_entries: u32,
         seats: u16,
     ) -> Result<(Hall<P, K>, Vec<Seat<P, K>>), HallFault>
-        ensures hall { IfOk result (λ made. (made.0.most ≡ max_entries) × (made.0.seats ≡ seats) × (made.0.names ≡ catalogue)) }
-        ensures seats { IfOk result (λ made. made.1.items ≡ new_seats made.0.table max_entries seats) }
+        ensures hall { IfOk result (λ made. (made.0.most ≡ max_entries)
+            × (made.0.seats ≡ seats) × (made.0.names ≡ catalogue)) }
+        ensures seats { IfOk result (λ made.
+            made.1.items ≡ new_seats made.0.table max_entries seats) }
         ensures fault { IfSome (hall_fault seats) (λ fault. result ≡ Err fault) }
         ensures no_fault { IfNone (hall_fault seats) (IsOkUnless result HallFault.NoMemory) }
     {
@@ -82,8 +84,10 @@ fn lay<P: Probe, K: Keep>(
     most: u32,
     seats: u16,
 ) -> Result<(Table<P, K>, Place<P, K>), AllocError>
-    ensures table { IfOk result (λ made. IsHall made.0.shared.table_id × (made.0.shared.key ≡ record { most = most; seats = seats })) }
-    ensures dealer { IfOk result (λ made. (made.1.table_id ≡ made.0.shared.table_id) × (made.1.me ≡ (dealer 0 most, []))) }
+    ensures table { IfOk result (λ made. IsHall made.0.shared.table_id
+        × (made.0.shared.key ≡ record { most = most; seats = seats })) }
+    ensures dealer { IfOk result (λ made. (made.1.table_id ≡ made.0.shared.table_id)
+        × (made.1.me ≡ (dealer 0 most, []))) }
 {
     let mut slots = Vec::with_capacity(alloc, 1)?;
     slots.push(Some(Desk::new(alloc, most)))?;
@@ -102,9 +106,12 @@ fn deal<P: Probe, K: Keep>(
     most: u32,
     seats: u16,
 ) -> Result<Vec<Seat<P, K>>, AllocError>
-    requires table { IsHall table.now.shared.table_id × (table.now.shared.key ≡ record { most = most; seats = seats }) }
-    requires first { (first.old.table_id ≡ table.now.shared.table_id) × (first.old.me ≡ (dealer 0 most, [])) }
-    ensures { IfOk result (λ dealt. dealt.items ≡ new_seats table.now.shared.table_id most seats) }
+    requires table { IsHall table.now.shared.table_id
+        × (table.now.shared.key ≡ record { most = most; seats = seats }) }
+    requires first { (first.old.table_id ≡ table.now.shared.table_id)
+        × (first.old.me ≡ (dealer 0 most, [])) }
+    ensures { IfOk result (λ dealt.
+        dealt.items ≡ new_seats table.now.shared.table_id most seats) }
 {
     let mut dealt = Vec::with_capacity(alloc, seats as usize)?;
     for number in 0..seats {

@@ -18,7 +18,8 @@
 //! /// Whether a service is serving by now. The seat sees all that it saw before.
 //! pub fn is_serving<P: Probe, K: Keep>(hall: &Hall<P, K>, seat: &mut Seat<P, K>, name: &str) -> bool
 //!     requires seat { IsOf hall.now seat.old }
-//!     ensures serving { IsTrue result → status_map hall.now.names seat.new.seen name.now ≡ Some IsServing }
+//!     ensures serving { IsTrue result
+//!         → status_map hall.now.names seat.new.seen name.now ≡ Some IsServing }
 //!     ensures goes_on { GoesOn seat.old seat.new }
 //! {
 //!     matches!(hall.check(seat, name).status, Some(Serving::Serving))
@@ -46,6 +47,3 @@ pub use fault::HallFault;
 pub use hall::Hall;
 pub use note::Note;
 pub use seat::Seat;
-
-#[cfg(test)]
-mod tests;

@@ -58,7 +58,8 @@ impl<P: Probe, K: Keep> Hall<P, K> {
         ensures goes_on { GoesOn seat.old seat.new }
         ensures kept { own_calls seat.new ≡ own_calls seat.old }
         ensures entries { result.entries ≡ length seat.new.seen }
-        ensures in_memory { result.kept ≡ length seat.new.seen - forgotten K.kept (length seat.new.seen) }
+        ensures in_memory { result.kept
+            ≡ length seat.new.seen - forgotten K.kept (length seat.new.seen) }
     {
         let desk = enter(rt, &self.table.shared, &mut seat.place);
         let extent = Extent {
@@ -74,7 +75,8 @@ impl<P: Probe, K: Keep> Hall<P, K> {
         requires { IsOf self.now seat.old }
         ensures goes_on { GoesOn seat.old seat.new }
         ensures kept { own_calls seat.new ≡ own_calls seat.old }
-        ensures watch { result.0 ≡ opened (changes_of seat.new.seen) (slot_of self.now.names name.now) }
+        ensures watch { result.0
+            ≡ opened (changes_of seat.new.seen) (slot_of self.now.names name.now) }
         ensures status { result.1 ≡ shown seat.new.seen (slot_of self.now.names name.now) }
     {
         let slot = self.catalogue.slot(name);
@@ -95,8 +97,10 @@ impl<P: Probe, K: Keep> Hall<P, K> {
         requires { IsOf self.now seat.old }
         ensures goes_on { GoesOn seat.old seat.new }
         ensures kept { own_calls seat.new ≡ own_calls seat.old }
-        ensures status { IfOk result (λ status. status ≡ (stepped (changes_of seat.new.seen) watch.old).0) }
-        ensures watch { OnOk result (watch.new ≡ (stepped (changes_of seat.new.seen) watch.old).1) }
+        ensures status { IfOk result (λ status.
+            status ≡ (stepped (changes_of seat.new.seen) watch.old).0) }
+        ensures watch { OnOk result
+            (watch.new ≡ (stepped (changes_of seat.new.seen) watch.old).1) }
         ensures behind { IsErr result ↔ IsBehind K.kept (changes_of seat.new.seen) watch.old }
         ensures stays { OnErr result (watch.new ≡ watch.old) }
     {
@@ -155,7 +159,8 @@ impl<P: Probe> Hall<P, KeepAll> {
 
 /// The status of a slot on the board; none for a name that has no slot.
 fn status_on(board: u64, slot: Option<Slot>) -> Option<Serving>
-    ensures { (entries : List Entry) → board ≡ board_of entries → result ≡ checked entries slot }
+    ensures { (entries : List Entry) → board ≡ board_of entries
+        → result ≡ checked entries slot }
 {
     board_status(board, slot?)
 }

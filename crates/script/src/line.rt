@@ -29,6 +29,7 @@ pub enum Line {
 impl Line {
     ghost use Rattle.std.specs.Prelude.{◌≡◌, ◌+◌, ◌^◌, ◌<◌, ◌↔◌, IsTrue, IfSome};
     ghost use Rattle.desk_core.specs.Mutation.{rule_of};
+    ghost use Rattle.desk_core.specs.Order.{IsListed};
     ghost use Rattle.script.specs.Change.{line_change};
     ghost use Rattle.script.specs.Rules.{rule_in};
     ghost use Rattle.script.specs.Script.{IsAllowed, watches_after};
@@ -46,6 +47,7 @@ impl Line {
     /// The change that the line asks for, if it asks for one; the change is none where its name is not listed.
     pub fn call(&self, catalogue: &Catalogue) -> Option<Option<Call>>
         ensures change { result ≡ line_change catalogue.now self.now }
+        ensures listed { IfSome result (λ change. IfSome change (IsListed catalogue.now)) }
         ensures ruled { IfSome result (λ change. IfSome change (λ call. rule_of call ≡ rule_in self.now)) }
     {
         match self {

@@ -16,6 +16,7 @@ pub trait Console<P: Probe> {
     ghost use Rattle.desk_core.specs.declared.reply.Reply.{Reply};
     ghost use Rattle.desk_core.specs.Board.{board_of};
     ghost use Rattle.desk_core.specs.Mutation.{rule_of};
+    ghost use Rattle.desk_core.specs.Order.{IsListed};
     ghost use Rattle.desk_core.specs.Status.{status_map};
 
     ghost names: { Self → List (List ℕ) };
@@ -31,6 +32,7 @@ pub trait Console<P: Probe> {
 
     /// Makes the change, with the probe that it registers if it registers one. There is no call where its name is not listed.
     fn change(&mut self, call: Option<Call>, probe: Option<P>) -> Result<Reply, Refusal>
+        requires listed { IfSome call (IsListed (names self.old)) }
         requires ruled { IfSome call (λ c. option_map P.rule probe ≡ rule_of c) }
         ensures names { names self.new ≡ names self.old }
         ensures changed { changes self.old self.new call result };

@@ -1,0 +1,72 @@
+//! A hall with two seats, as the tests begin with it.
+
+ghost use Rattle.std.specs.Prelude.{◌≡◌, IfOk};
+ghost use Rattle.hall.specs.Seats.{IsOf};
+
+use crate::drops::Counters;
+use desk_core::{Catalogue, Keep, Watch};
+use hall::{Hall, Seat};
+use probe_core::Probe;
+use std::alloc::Global;
+use std::test::Fail;
+
+/// A seat, and what goes with it.
+#[derive(Drop)]
+pub(crate) struct Guest<P: Probe, K: Keep> {
+    pub(crate) seat: Seat<P, K>,
+    /// The probes that it is to hand in, the next one last.
+    pub(crate) probes: Vec<P>,
+    /// The probe that came back last.
+    pub(crate) held: Option<P>,
+    pub(crate) watch: Option<Watch>,
+    /// What counts the drops of the probes, if something does.
+    pub(crate) counters: Option<Counters>,
+}
+
+/// The probes of two seats, the next ones last, and what counts the drops of those of the first.
+#[derive(Drop)]
+pub(crate) struct Probes<P: Probe> {
+    pub(crate) first: Vec<P>,
+    pub(crate) second: Vec<P>,
+    pub(crate) counters: Option<Counters>,
+}
+
+pub(crate) fn catalogue(alloc: Global, names: &[&str]) -> Result<Catalogue, Fail> {
+    let mut listed = Vec::new(alloc);
+    for name in names {
+        listed.push(String::from_str(alloc, name)?)?;
+    }
+    Ok(Catalogue::new(alloc, listed)?)
+}
+
+fn guest_of<P: Probe, K: Keep>(
+    seat: Seat<P, K>,
+    probes: Vec<P>,
+    counters: Option<Counters>,
+) -> Guest<P, K>
+    ensures { result.seat ≡ seat }
+{
+    Guest {
+        seat,
+        probes,
+        held: None,
+        watch: None,
+        counters,
+    }
+}
+
+/// A hall with its two seats in the order of their numbers.
+pub(crate) fn two_seats<P: Probe, K: Keep>(
+    alloc: Global,
+    names: &[&str],
+    max_entries: u32,
+    probes: Probes<P>,
+) -> Result<(Hall<P, K>, Guest<P, K>, Guest<P, K>), Fail>
+    ensures first { IfOk result (λ made. IsOf made.0 made.1.seat) }
+    ensures second { IfOk result (λ made. IsOf made.0 made.2.seat) }
+{
+    let (hall, mut seats) = Hall::new(alloc, catalogue(alloc, names)?, max_entries, 2)?;
+    let second = guest_of(seats.pop().unwrap(), probes.second, None);
+    let first = guest_of(seats.pop().unwrap(), probes.first, probes.counters);
+    Ok((hall, first, second))
+}

@@ -1,0 +1,148 @@
+//! Halls over a registry that keeps four entries, and four status changes.
+
+use crate::changes::{Story, Turn, Who, expect_story};
+use crate::guest::Probes;
+use crate::race::{Race, closed_after};
+use crate::rows::{DONE, Found, Row, Step};
+use desk_core::{Behind, Keep, Setting};
+use hall::Extent;
+use health_wire::Serving;
+use probe_core::Manual;
+use std::alloc::{AllocError, Global};
+use std::test::Fail;
+use test_support::same;
+
+/// The last four.
+#[derive(Drop)]
+pub(crate) struct KeepFour;
+
+impl Keep for KeepFour {
+    ghost use Rattle.std.specs.Prelude.{Some};
+
+    ghost kept = { Some 4 };
+
+    fn kept() -> Option<u32> {
+        Some(4)
+    }
+}
+
+const DOWN: Turn = (Who::First, Step::Set("a", Setting::Down), DONE);
+
+const UP: Turn = (Who::First, Step::Set("a", Setting::Up), DONE);
+
+const BEHIND: Turn = (Who::Second, Step::Next, Found::Next(Err(Behind)));
+
+/// Where the next change of a watch is the oldest that is kept it is told; one change later the watch is behind for good.
+static FORGETTING: Story = Story {
+    max_entries: 100,
+    turns: &[
+        (Who::First, Step::Register("a"), DONE),
+        (Who::First, Step::Open("a"), Found::Opened(Serving::Serving)),
+        (
+            Who::Second,
+            Step::Open("a"),
+            Found::Opened(Serving::Serving),
+        ),
+        DOWN,
+        UP,
+        DOWN,
+        UP,
+        (
+            Who::First,
+            Step::Next,
+            Found::Next(Ok(Some(Serving::NotServing))),
+        ),
+        DOWN,
+        BEHIND,
+        BEHIND,
+        (
+            Who::First,
+            Step::Next,
+            Found::Next(Ok(Some(Serving::Serving))),
+        ),
+        (
+            Who::Second,
+            Step::Extent,
+            Found::Extent(Extent {
+                entries: 6,
+                kept: 4,
+            }),
+        ),
+    ],
+};
+
+#[test]
+fn a_hall_forgets_and_says_so(rt: HostRuntime) -> Result<(), Fail> {
+    let alloc = rt.alloc();
+    let probes = Probes {
+        first: Vec::from_array(alloc, [Manual::new()])?,
+        second: Vec::new(alloc),
+        counters: None,
+    };
+    expect_story::<HostRuntime, Manual, KeepFour>(&rt, alloc, &FORGETTING, probes)
+}
+
+/// Each call under a name, of which five are changes. What a watch is told depends on the other thread.
+const EACH_OF_A: &[Row] = &[
+    (Step::Register("a"), Found::Reply),
+    (Step::Note, Found::Nothing),
+    (Step::Set("a", Setting::Down), Found::Reply),
+    (Step::Look("a"), Found::Nothing),
+    (Step::Shutdown, Found::Reply),
+    (Step::Look("a"), Found::Nothing),
+    (Step::Resume, Found::Reply),
+    (Step::Note, Found::Nothing),
+    (Step::Retire("a"), Found::Reply),
+];
+
+const EACH_OF_B: &[Row] = &[
+    (Step::Register("b"), Found::Reply),
+    (Step::Note, Found::Nothing),
+    (Step::Shutdown, Found::Reply),
+    (Step::Look("b"), Found::Nothing),
+    (Step::Set("b", Setting::Down), Found::Reply),
+    (Step::Look("b"), Found::Nothing),
+    (Step::Resume, Found::Reply),
+    (Step::Note, Found::Nothing),
+    (Step::Retire("b"), Found::Reply),
+];
+
+static EACH_CALL: Race = Race {
+    names: &["a", "b", ""],
+    max_entries: 1_000,
+    before: &[],
+    threads: (EACH_OF_A, EACH_OF_B),
+    counts: (180, 180),
+    after: (
+        &[
+            (Step::Made, Found::Made(100)),
+            (Step::Check("a"), Found::Check(200, None)),
+        ],
+        &[
+            (Step::Made, Found::Made(100)),
+            (Step::Check("b"), Found::Check(200, None)),
+        ],
+    ),
+    entries: 200,
+};
+
+/// Twenty probes.
+fn manuals(alloc: Global) -> Result<Vec<Manual>, AllocError> {
+    let mut probes = Vec::new(alloc);
+    for _ in 0..20 {
+        probes.push(Manual::new())?;
+    }
+    Ok(probes)
+}
+
+#[test]
+fn a_hall_that_forgets_takes_each_call_of_two_threads(rt: HostRuntime) -> Result<(), Fail> {
+    let alloc = rt.alloc();
+    let probes = Probes {
+        first: manuals(alloc)?,
+        second: manuals(alloc)?,
+        counters: None,
+    };
+    let closed = closed_after::<HostRuntime, Manual, KeepFour>(&rt, alloc, &EACH_CALL, probes)?;
+    same(&closed.desk.journal_kept().len(), &4, &"what is kept")
+}

@@ -1,0 +1,122 @@
+ghost use Rattle.hall.specs.Seats.{IsOf};
+
+use crate::faults::last_seat_of;
+use crate::guest::{Guest, Probes, catalogue, two_seats};
+use crate::rows::{DONE, Found, Row, Step, first_wrong, result_of};
+use desk_core::{Finding, KeepAll, Refusal, Reply, Setting};
+use hall::{Hall, HallFault};
+use probe_core::{Start, Threshold};
+use std::alloc::{AllocError, Global};
+use std::sync::Wait;
+use std::test::Fail;
+use test_support::{Scarcity, same};
+
+/// More steps of memory than any of the calls needs.
+const STEPS: usize = 1_024;
+
+/// With how many steps of memory a hall of two seats was refused.
+fn refusals_of_a_hall(alloc: Global) -> Result<usize, Fail> {
+    for step in 0..STEPS {
+        let names = catalogue(alloc, &["a", ""])?;
+        let scarcity = Scarcity::with_small_room(alloc)?;
+        let filler = scarcity.leave_steps(step)?;
+        let made = last_seat_of(alloc, names, 2);
+        drop(filler);
+        drop(scarcity);
+        if made == Ok(Some(1)) {
+            return Ok(step);
+        }
+        same(&made, &Err(HallFault::NoMemory), &step)?;
+    }
+    Ok(STEPS)
+}
+
+#[test]
+fn refuses_each_growth_of_a_hall(rt: HostRuntime) -> Result<(), Fail> {
+    let refused = refusals_of_a_hall(rt.alloc())?;
+    same(&(2 < refused && refused < STEPS), &true, &refused)
+}
+
+/// A change behind so many entries, and what comes of it with enough memory.
+type Case = (usize, Step, Found);
+
+/// The first change of a hall, and one where its journal grows.
+static CASES: [Case; 8] = [
+    (0, Step::Register("a"), DONE),
+    (0, Step::Resume, DONE),
+    (16, Step::Register("a"), Found::Change(Ok(Reply::Replaced))),
+    (16, Step::Retire("a"), DONE),
+    (16, Step::Observe("a", Finding::Fail), DONE),
+    (
+        16,
+        Step::Set("a", Setting::Up),
+        Found::Change(Ok(Reply::WrongKind)),
+    ),
+    (16, Step::Shutdown, DONE),
+    (16, Step::Resume, DONE),
+];
+
+/// An entry that registers, and then others that flip the service.
+static BEFORE: [Row; 4] = [
+    (Step::Register("a"), Found::Reply),
+    (Step::Observe("a", Finding::Fail), DONE),
+    (Step::Observe("a", Finding::Pass), DONE),
+    (Step::Resume, DONE),
+];
+
+/// What comes of a call with so many steps of memory left.
+fn result_with<R: Wait>(
+    rt: &R,
+    alloc: Global,
+    hall: &Hall<Threshold>,
+    guest: &mut Guest<Threshold, KeepAll>,
+    step: usize,
+    change: Step,
+) -> Result<Found, AllocError>
+    requires { IsOf hall.now guest.old.seat }
+{
+    let scarcity = Scarcity::with_small_room(alloc)?;
+    let filler = scarcity.leave_steps(step)?;
+    let found = result_of(rt, hall, guest, change);
+    drop(filler);
+    drop(scarcity);
+    Ok(found)
+}
+
+/// What comes of the change with so many steps of memory left.
+fn found_with<R: Wait>(rt: &R, alloc: Global, case: &Case, step: usize) -> Result<Found, Fail> {
+    let mut probes = Vec::new(alloc);
+    for _ in 0..5 {
+        probes.push(Threshold::new(1, 1, Start::Up))?;
+    }
+    let probes = Probes {
+        first: probes,
+        second: Vec::new(alloc),
+        counters: None,
+    };
+    let (hall, mut guest, _) = two_seats(alloc, &["a", ""], 100, probes)?;
+    let wrong = first_wrong(rt, &hall, &mut guest, &BEFORE, case.0);
+    same(&wrong, &None, &step)?;
+    Ok(result_with(rt, alloc, &hall, &mut guest, step, case.1)?)
+}
+
+/// With how many steps of memory the change was refused.
+fn refusals_of<R: Wait>(rt: &R, alloc: Global, case: &Case) -> Result<usize, Fail> {
+    for step in 0..STEPS {
+        let found = found_with(rt, alloc, case, step)?;
+        if found == case.2 {
+            return Ok(step);
+        }
+        same(&found, &Found::Change(Err(Refusal::NoMemory)), &step)?;
+    }
+    Ok(STEPS)
+}
+
+#[test]
+fn refuses_each_growth_of_each_change(rt: HostRuntime) -> Result<(), Fail> {
+    for (index, case) in CASES.iter().enumerate() {
+        let refused = refusals_of(&rt, rt.alloc(), case)?;
+        same(&(2 < refused && refused < STEPS), &true, &(index, refused))?;
+    }
+    Ok(())
+}
