@@ -22,6 +22,18 @@ pub enum FrameFault {
     BadFlag = 6,
 }
 
+impl FrameFault {
+    ghost use Rattle.std.specs.Prelude.{◌≡◌};
+    ghost use Rattle.grpc_frame.specs.Fault.{fault_number};
+
+    /// The number that a program may print.
+    pub fn number(self) -> u8
+        ensures { result ≡ fault_number self }
+    {
+        self as u8
+    }
+}
+
 impl fmt::Display for FrameFault {
     ghost use Rattle.std.specs.Prelude.{Some};
     ghost use Rattle.grpc_frame.specs.Fault.{text_of};
@@ -49,6 +61,18 @@ pub enum SplitFault {
     NoMemory = 1,
     /// The next frame's length is over 1,048,576 bytes. Each later call answers the same.
     TooLong = 2,
+}
+
+impl SplitFault {
+    ghost use Rattle.std.specs.Prelude.{◌≡◌};
+    ghost use Rattle.grpc_frame.specs.Fault.{split_fault_number};
+
+    /// The number that a program may print.
+    pub fn number(self) -> u8
+        ensures { result ≡ split_fault_number self }
+    {
+        self as u8
+    }
 }
 
 impl fmt::Display for SplitFault {
@@ -98,6 +122,18 @@ pub enum TrailerFault {
     NoStatus = 2,
     /// The status is not one to nine ASCII digits.
     BadStatus = 3,
+}
+
+impl TrailerFault {
+    ghost use Rattle.std.specs.Prelude.{◌≡◌};
+    ghost use Rattle.grpc_frame.specs.Fault.{trailer_fault_number};
+
+    /// The number that a program may print.
+    pub fn number(self) -> u8
+        ensures { result ≡ trailer_fault_number self }
+    {
+        self as u8
+    }
 }
 
 impl fmt::Display for TrailerFault {

@@ -16,7 +16,8 @@
 //! /// The body of a response whose call went well: its message, and then its trailers.
 //! pub fn response_body(alloc: Global, message: &[u8]) -> Result<Vec<u8>, NoMemory>
 //!     requires short { length message.now < 2 ^ 32 }
-//!     ensures body { IfOk result (λ body. body.items ≡ frame 0 message.now ++ frame 128 (block status.Ok [])) }
+//!     ensures body { IfOk result (λ body.
+//!         body.items ≡ frame 0 message.now ++ frame 128 (block status.Ok [])) }
 //! {
 //!     let mut body = Vec::new(alloc);
 //!     put_message(&mut body, message)?;
@@ -46,6 +47,3 @@ pub use lines::trim;
 pub use message::{one_message, put_message};
 pub use splitter::Splitter;
 pub use trailers::{Trailers, put_trailers, read_trailers};
-
-#[cfg(test)]
-mod tests;

@@ -23,6 +23,18 @@ pub enum WireFault {
     NoMemory = 5,
 }
 
+impl WireFault {
+    ghost use Rattle.std.specs.Prelude.{◌≡◌};
+    ghost use Rattle.health_wire.specs.Fault.{fault_number};
+
+    /// The number that a program may print.
+    pub fn number(self) -> u8
+        ensures { result ≡ fault_number self }
+    {
+        self as u8
+    }
+}
+
 impl fmt::Display for WireFault {
     ghost output = { λ fault. Some (text_of fault) };
 

@@ -35,7 +35,8 @@ pub struct Field<'a> {
 
 /// The field at the front, and the bytes after it.
 pub(crate) fn field_at(bytes: &[u8]) -> Result<(Field<'_>, &[u8]), WireFault>
-    ensures found { IfOk result (λ x. Begins (λ front. IsField front (field_of x.0)) bytes.now x.1.now) }
+    ensures found { IfOk result (λ x.
+        Begins (λ front. IsField front (field_of x.0)) bytes.now x.1.now) }
     ensures shorter { IfOk result (λ x. length x.1.now < length bytes.now) }
     ensures fault { IfErr result (λ fault. IsFieldFault bytes.now fault) }
 {
@@ -58,7 +59,8 @@ fn field_number(number: u64) -> Option<u32>
 
 /// The value of the wire type at the front, and the bytes after it.
 fn value_at(wire_type: u8, bytes: &[u8]) -> Result<(Value<'_>, &[u8]), WireFault>
-    ensures found { IfOk result (λ x. Begins (λ front. IsPayload front (payload_of x.0)) bytes.now x.1.now) }
+    ensures found { IfOk result (λ x.
+        Begins (λ front. IsPayload front (payload_of x.0)) bytes.now x.1.now) }
     ensures wire_type { IfOk result (λ x. wire_type_of (payload_of x.0) ≡ wire_type) }
     ensures fault { IfErr result (λ fault. IsPayloadFault bytes.now wire_type fault) }
 {
@@ -85,7 +87,8 @@ fn value_at(wire_type: u8, bytes: &[u8]) -> Result<(Value<'_>, &[u8]), WireFault
 
 /// The bytes behind their length at the front, and the bytes after them.
 fn text_at(bytes: &[u8]) -> Result<(&[u8], &[u8]), WireFault>
-    ensures found { IfOk result (λ x. Begins (λ front. IsPayload front (Len x.0.now)) bytes.now x.1.now) }
+    ensures found { IfOk result (λ x.
+        Begins (λ front. IsPayload front (Len x.0.now)) bytes.now x.1.now) }
     ensures fault { IfErr result (λ fault. IsPayloadFault bytes.now 2 fault) }
 {
     let (len, rest) = varint_at(bytes)?;

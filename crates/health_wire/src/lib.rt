@@ -14,7 +14,8 @@
 //!
 //! /// Answers a request where one service is known, which is serving.
 //! pub fn answer(request: &[u8], known: &str) -> Result<Message, WireFault>
-//!     ensures serving { IfOk result (λ message. message ≡ response_bytes IsServing → IsRequest request.now known.now) }
+//!     ensures serving { IfOk result (λ message.
+//!         message ≡ response_bytes IsServing → IsRequest request.now known.now) }
 //!     ensures fault { IfErr result (λ fault. IsRequestFault request.now fault) }
 //! {
 //!     let name = read_request(request)?;
@@ -43,6 +44,3 @@ pub use message::fields;
 pub use request::{read_request, write_request};
 pub use response::{Message, read_response, write_response};
 pub use serving::Serving;
-
-#[cfg(test)]
-mod tests;

@@ -46,7 +46,8 @@ fn varint_value(varint: &[u8]) -> u64
 
 /// Writes the shortest spelling of the value at the end.
 pub(crate) fn put_varint(out: &mut Vec<u8>, value: u64) -> Result<(), NoMemory>
-    ensures { OnOk result (Appends (λ varint. IsShortestVarint varint value) out.old.items out.new.items) }
+    ensures { OnOk result
+        (Appends (λ varint. IsShortestVarint varint value) out.old.items out.new.items) }
 {
     let mut rest = value;
     while rest >= 0x80 {

@@ -24,6 +24,7 @@
 mod depends;
 mod event;
 mod laws;
+mod maker;
 mod manual;
 mod probe;
 mod rule;
@@ -34,6 +35,7 @@ pub mod tracked;
 pub use depends::Depends;
 pub use event::Event;
 pub use laws::{memory_tells_status, plain_threshold};
+pub use maker::{FnMaker, Maker, ProbeFn};
 pub use manual::Manual;
 pub use probe::Probe;
 pub use rule::Rule;

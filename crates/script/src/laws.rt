@@ -7,13 +7,18 @@ ghost use Rattle.script.specs.Script.{ScriptParts, IsScript, IsScriptFault};
 
 /// In a mode bytes are one script at most, or have one fault at most, and never both.
 pub fn one_script()
-    ensures script { (mode : Mode) (bytes : List ℕ) (a b : ScriptParts) → IsScript mode bytes a → IsScript mode bytes b → a ≡ b }
-    ensures fault { (mode : Mode) (bytes : List ℕ) (a b : ScriptFault) → IsScriptFault mode bytes a → IsScriptFault mode bytes b → a ≡ b }
-    ensures either { (mode : Mode) (bytes : List ℕ) (script : ScriptParts) (fault : ScriptFault) → IsScript mode bytes script → ¬ IsScriptFault mode bytes fault }
+    ensures script { (mode : Mode) (bytes : List ℕ) (a b : ScriptParts)
+        → IsScript mode bytes a → IsScript mode bytes b → a ≡ b }
+    ensures fault { (mode : Mode) (bytes : List ℕ) (a b : ScriptFault)
+        → IsScriptFault mode bytes a → IsScriptFault mode bytes b → a ≡ b }
+    ensures either { (mode : Mode) (bytes : List ℕ) (script : ScriptParts) (fault : ScriptFault)
+        → IsScript mode bytes script → ¬ IsScriptFault mode bytes fault }
 {}
 
 /// Each line of a script to serve or to run asks for a change, so that what comes of the changes stands in the places of the lines.
 pub fn changes_in_place()
-    ensures { (mode : Mode) (bytes : List ℕ) (script : ScriptParts) → mode ≢ Replay → IsScript mode bytes script
-        → map (λ call. Some call) (line_changes script.names script.lines) ≡ map (line_change script.names) script.lines }
+    ensures { (mode : Mode) (bytes : List ℕ) (script : ScriptParts)
+        → mode ≢ Replay → IsScript mode bytes script
+        → map (λ call. Some call) (line_changes script.names script.lines)
+        ≡ map (line_change script.names) script.lines }
 {}

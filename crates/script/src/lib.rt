@@ -6,28 +6,26 @@
 //! #![tactic(auto)]
 //!
 //! ghost use Rattle.std.specs.Prelude.{◌≡◌, ◌≢◌, IfOk, IfErr};
-//! ghost use Rattle.probe_core.specs.Made.{MakesAsked};
 //! ghost use Rattle.script.specs.Run.{IsScriptRun};
 //! ghost use Rattle.script.specs.Script.{ScriptParts, IsScript, IsScriptFault};
 //!
-//! use probe_core::{Probe, Rule};
+//! use probe_core::{Maker, Probe};
 //! use script::{Mode, ScriptFault, read_script, run_script};
-//! use std::alloc::{AllocError, Global};
+//! use std::alloc::Global;
 //!
 //! /// Runs the text of a script. It gives what the lines come to, or the first fault of the text.
-//! pub fn replay<P: Probe, F: Fn(Rule) -> Result<P, AllocError>>(
+//! pub fn replay<P: Probe, M: Maker<P>>(
 //!     alloc: Global,
 //!     text: &[u8],
-//!     make: &F,
+//!     maker: &M,
 //! ) -> Result<Vec<u8>, ScriptFault>
-//!     requires callable { F.IsAlwaysCallable make.now }
-//!     requires asked { MakesAsked P.rule P.memory (F.post make.now) }
 //!     ensures ran { IfOk result (λ output. (script : ScriptParts)
 //!         × IsScript Mode.Replay text.now script × IsScriptRun script output.items) }
-//!     ensures fault { IfErr result (λ fault. fault ≢ ScriptFault.NoMemory → IsScriptFault Mode.Replay text.now fault) }
+//!     ensures fault { IfErr result (λ fault. fault ≢ ScriptFault.NoMemory
+//!         → IsScriptFault Mode.Replay text.now fault) }
 //! {
 //!     let script = read_script(alloc, text, Mode::Replay)?;
-//!     Ok(run_script(alloc, script, make)?)
+//!     Ok(run_script(alloc, script, maker)?)
 //! }
 //! ```
 #![tactic(auto)]
@@ -61,6 +59,3 @@ pub use script_fault::ScriptFault;
 pub use setup::set_up;
 pub use text_lines::without_cr;
 pub use texts::{changed_text, checked_text};
-
-#[cfg(test)]
-mod tests;

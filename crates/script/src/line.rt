@@ -48,7 +48,8 @@ impl Line {
     pub fn call(&self, catalogue: &Catalogue) -> Option<Option<Call>>
         ensures change { result ≡ line_change catalogue.now self.now }
         ensures listed { IfSome result (λ change. IfSome change (IsListed catalogue.now)) }
-        ensures ruled { IfSome result (λ change. IfSome change (λ call. rule_of call ≡ rule_in self.now)) }
+        ensures ruled { IfSome result (λ change.
+            IfSome change (λ call. rule_of call ≡ rule_in self.now)) }
     {
         match self {
             Line::Register(name, rule) => {

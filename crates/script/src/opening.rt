@@ -17,7 +17,8 @@ use std::alloc::{AllocError, Global};
 /// Takes the line with the names of the catalogue.
 pub(crate) fn read_catalogue(alloc: Global, lines: &mut Lines<'_>) -> Result<Catalogue, ScriptFault>
     ensures ok { IfOk result (λ catalogue. TakesCatalogue lines.old catalogue lines.new) }
-    ensures fault { IfErr result (λ fault. fault ≢ ScriptFault.NoMemory → IsCatalogueFault lines.old fault) }
+    ensures fault { IfErr result (λ fault. fault ≢ ScriptFault.NoMemory
+        → IsCatalogueFault lines.old fault) }
 {
     let (number, line) = match lines.next() {
         Ok(next) => next,
@@ -33,7 +34,8 @@ pub(crate) fn read_catalogue(alloc: Global, lines: &mut Lines<'_>) -> Result<Cat
 /// Takes the line that says how many entries the journal may have.
 pub(crate) fn read_max(alloc: Global, lines: &mut Lines<'_>) -> Result<u32, ScriptFault>
     ensures ok { IfOk result (λ max. TakesMax lines.old max lines.new) }
-    ensures fault { IfErr result (λ fault. fault ≢ ScriptFault.NoMemory → IsMaxFault lines.old fault) }
+    ensures fault { IfErr result (λ fault. fault ≢ ScriptFault.NoMemory
+        → IsMaxFault lines.old fault) }
 {
     let (number, line) = match lines.next() {
         Ok(next) => next,
@@ -62,7 +64,8 @@ fn catalogue_of(alloc: Global, names: Vec<String>) -> Result<Catalogue, ScriptFa
 }
 
 fn names_in(alloc: Global, line: &str) -> Result<Option<Vec<String>>, AllocError>
-    ensures { IfOk result (λ found. IsReading IsCatalogueLine line.now (option_map (λ names. map string_bytes names.items) found)) }
+    ensures { IfOk result (λ found. IsReading IsCatalogueLine line.now
+        (option_map (λ names. map string_bytes names.items) found)) }
 {
     let Some(words) = words_of(alloc, line)? else {
         return Ok(None);

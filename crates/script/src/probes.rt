@@ -2,46 +2,40 @@ ghost use Rattle.std.specs.Prelude.{◌≡◌, ◌++◌, List, map, All, IfOk, I
 ghost use Rattle.std.specs.Option.{option_map, option_to_list};
 ghost use Rattle.std.specs.Vec.Iter.{into_iter_items};
 ghost use Rattle.probe_core.specs.declared.rule.Rule.{Rule};
-ghost use Rattle.probe_core.specs.Made.{MakesAsked};
 ghost use Rattle.probe_core.specs.Rule.{opening_memory};
 ghost use Rattle.script.specs.Rules.{rule_in, rules_in};
 
 use crate::line::Line;
-use probe_core::{Probe, Rule};
+use probe_core::{Maker, Probe};
 use std::alloc::{AllocError, Global};
 use std::vec::IntoIter;
 
 /// A probe for the line, if it registers one.
-pub fn probe_for<P: Probe, F: Fn(Rule) -> Result<P, AllocError>>(
-    make: &F,
-    line: &Line,
-) -> Result<Option<P>, AllocError>
-    requires callable { F.IsAlwaysCallable make.now }
-    requires asked { MakesAsked P.rule P.memory (F.post make.now) }
+pub fn probe_for<P: Probe, M: Maker<P>>(maker: &M, line: &Line) -> Result<Option<P>, AllocError>
     ensures rule { IfOk result (λ probe. option_map P.rule probe ≡ rule_in line.now) }
-    ensures memory { IfOk result (λ probe. IfSome probe (λ one. P.memory one ≡ opening_memory (P.rule one))) }
+    ensures memory { IfOk result (λ probe. IfSome probe (λ one.
+        P.memory one ≡ opening_memory (P.rule one))) }
 {
     match line.rule() {
-        Some(rule) => Ok(Some(make(rule)?)),
+        Some(rule) => Ok(Some(maker.make(rule)?)),
         None => Ok(None),
     }
 }
 
 /// A probe for each of the lines that register one, in their order.
-pub fn probes_for<P: Probe, F: Fn(Rule) -> Result<P, AllocError>>(
+pub fn probes_for<P: Probe, M: Maker<P>>(
     alloc: Global,
-    make: &F,
+    maker: &M,
     lines: &[Line],
 ) -> Result<Vec<P>, AllocError>
-    requires callable { F.IsAlwaysCallable make.now }
-    requires asked { MakesAsked P.rule P.memory (F.post make.now) }
     ensures rules { IfOk result (λ probes. map P.rule probes.items ≡ rules_in lines.now) }
-    ensures memories { IfOk result (λ probes. All (λ probe. P.memory probe ≡ opening_memory (P.rule probe)) probes.items) }
+    ensures memories { IfOk result (λ probes.
+        All (λ probe. P.memory probe ≡ opening_memory (P.rule probe)) probes.items) }
 {
     let mut probes = Vec::new(alloc);
     for line in lines {
         if let Some(rule) = line.rule() {
-            probes.push(make(rule)?)?;
+            probes.push(maker.make(rule)?)?;
         }
     }
     Ok(probes)
@@ -49,9 +43,11 @@ pub fn probes_for<P: Probe, F: Fn(Rule) -> Result<P, AllocError>>(
 
 /// The next probe, where the line registers one.
 pub(crate) fn probe_of<P: Probe>(line: &Line, probes: &mut IntoIter<P>) -> Option<P>
-    requires handed_in { (others : List Rule) × (map P.rule (into_iter_items probes.old) ≡ option_to_list (rule_in line.now) ++ others) }
+    requires handed_in { (others : List Rule)
+        × (map P.rule (into_iter_items probes.old) ≡ option_to_list (rule_in line.now) ++ others) }
     ensures ruled { option_map P.rule result ≡ rule_in line.now }
-    ensures left { map P.rule (into_iter_items probes.old) ≡ option_to_list (rule_in line.now) ++ map P.rule (into_iter_items probes.new) }
+    ensures left { map P.rule (into_iter_items probes.old)
+        ≡ option_to_list (rule_in line.now) ++ map P.rule (into_iter_items probes.new) }
 {
     match line.rule() {
         Some(_) => probes.next(),

@@ -17,7 +17,8 @@ const MAX_LEN: usize = 65_536;
 /// Reads the bytes as a script, up to the first fault.
 pub fn read_script(alloc: Global, bytes: &[u8], mode: Mode) -> Result<Script, ScriptFault>
     ensures ok { IfOk result (λ script. IsScript mode bytes.now script) }
-    ensures fault { IfErr result (λ fault. fault ≢ ScriptFault.NoMemory → IsScriptFault mode bytes.now fault) }
+    ensures fault { IfErr result (λ fault. fault ≢ ScriptFault.NoMemory
+        → IsScriptFault mode bytes.now fault) }
 
     // Running out of memory comes after too many bytes and after bytes that are no text.
     ensures no_memory { IfErr result (λ fault. fault ≡ ScriptFault.NoMemory → IsText bytes.now) }
@@ -43,10 +44,13 @@ fn read_lines(
     catalogue: &Catalogue,
     lines: &mut Lines<'_>,
 ) -> Result<(Vec<Line>, Vec<u32>), ScriptFault>
-    ensures ok { IfOk result (λ taken. TakesLines mode catalogue.now 0 lines.old.lines taken.0.items lines.new.lines) }
-    ensures numbers { IfOk result (λ taken. taken.1.items ≡ first_numbers (length taken.0.items) lines.old.lines) }
+    ensures ok { IfOk result (λ taken.
+        TakesLines mode catalogue.now 0 lines.old.lines taken.0.items lines.new.lines) }
+    ensures numbers { IfOk result (λ taken.
+        taken.1.items ≡ first_numbers (length taken.0.items) lines.old.lines) }
     ensures each { IfOk result (λ taken. length taken.1.items ≡ length taken.0.items) }
-    ensures fault { IfErr result (λ fault. fault ≢ ScriptFault.NoMemory → IsLinesFault mode catalogue.now 0 lines.old.lines fault) }
+    ensures fault { IfErr result (λ fault. fault ≢ ScriptFault.NoMemory
+        → IsLinesFault mode catalogue.now 0 lines.old.lines fault) }
 {
     let mut taken = Vec::new(alloc);
     let mut numbers = Vec::new(alloc);
@@ -78,7 +82,8 @@ fn next_line(
     watches: usize,
     text: &str,
 ) -> Result<Option<Line>, AllocError>
-    ensures { IfOk result (λ line. IsReading (IsNextLine mode catalogue.now watches) text.now line) }
+    ensures { IfOk result (λ line.
+        IsReading (IsNextLine mode catalogue.now watches) text.now line) }
 {
     let Some(line) = read_line(alloc, catalogue, text)? else {
         return Ok(None);
@@ -92,7 +97,8 @@ fn next_line(
 /// Takes all lines as orders.
 fn read_orders(alloc: Global, lines: &mut Lines<'_>) -> Result<Vec<Order>, ScriptFault>
     ensures ok { IfOk result (λ orders. AreOrders lines.old.lines orders.items) }
-    ensures fault { IfErr result (λ fault. fault ≢ ScriptFault.NoMemory → IsOrdersFault lines.old.lines fault) }
+    ensures fault { IfErr result (λ fault. fault ≢ ScriptFault.NoMemory
+        → IsOrdersFault lines.old.lines fault) }
 {
     let mut orders = Vec::new(alloc);
     while let Ok((number, text)) = lines.next() {
@@ -103,6 +109,3 @@ fn read_orders(alloc: Global, lines: &mut Lines<'_>) -> Result<Vec<Order>, Scrip
     }
     Ok(orders)
 }
-
-#[cfg(test)]
-mod tests;

@@ -1,26 +1,23 @@
 ghost use Rattle.std.specs.Prelude.{IfOk};
-ghost use Rattle.probe_core.specs.Made.{MakesAsked};
 ghost use Rattle.script.specs.Run.{IsScriptRun};
 
 use crate::probes::{probe_of, probes_for};
 use crate::run::Run;
 use crate::script::Script;
-use probe_core::{Probe, Rule};
+use probe_core::{Maker, Probe};
 use std::alloc::{AllocError, Global};
 use std::fmt::Write;
 
 /// What the lines of a script come to, each in a line of its own. All probes are made before the first line is met.
-pub fn run_script<P: Probe, F: Fn(Rule) -> Result<P, AllocError>>(
+pub fn run_script<P: Probe, M: Maker<P>>(
     alloc: Global,
     script: Script,
-    make: &F,
+    maker: &M,
 ) -> Result<Vec<u8>, AllocError>
-    requires callable { F.IsAlwaysCallable make.now }
-    requires asked { MakesAsked P.rule P.memory (F.post make.now) }
     ensures { IfOk result (λ output. IsScriptRun script output.items) }
 {
     let (catalogue, max, lines, _) = script.into_parts();
-    let mut probes = probes_for(alloc, make, &lines)?.into_iter();
+    let mut probes = probes_for(alloc, maker, &lines)?.into_iter();
     let mut run = Run::new(alloc, catalogue, max);
     let mut output = String::new(alloc);
     for line in &lines {
@@ -30,6 +27,3 @@ pub fn run_script<P: Probe, F: Fn(Rule) -> Result<P, AllocError>>(
     }
     Ok(output.into_bytes())
 }
-
-#[cfg(test)]
-mod tests;

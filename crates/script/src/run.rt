@@ -23,7 +23,12 @@ impl<P: Probe> Model for Run<P> {
 
     ghost Value = { RunState };
 
-    ghost view = { λ run. record { names = run.catalogue; max_entries = run.desk.max_entries; entries = past run.desk.journal; watches = run.watches.items } };
+    ghost view = { λ run. record {
+      names = run.catalogue;
+      max_entries = run.desk.max_entries;
+      entries = past run.desk.journal;
+      watches = run.watches.items;
+    } };
 }
 
 impl<P: Probe> Run<P> {
@@ -71,8 +76,10 @@ impl<P: Probe> Run<P> {
     }
 
     fn open(&mut self, slot: Option<Slot>) -> Result<Outcome, AllocError>
-        ensures watch { OnOk result (self.new ≡ with_watches self.old (self.old.watches ++ opened (changes_of self.old.entries) slot ∷ [])) }
-        ensures shown { IfOk result (λ outcome. outcome ≡ Outcome.Opened (length self.old.watches) (shown self.old.entries slot)) }
+        ensures watch { OnOk result (self.new ≡ with_watches self.old
+            (self.old.watches ++ opened (changes_of self.old.entries) slot ∷ [])) }
+        ensures shown { IfOk result (λ outcome.
+            outcome ≡ Outcome.Opened (length self.old.watches) (shown self.old.entries slot)) }
     {
         let number = self.watches.len();
         let (watch, status) = self.desk.open(slot);

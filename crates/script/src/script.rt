@@ -27,9 +27,16 @@ impl Model for Script {
 
     ghost Value = { ScriptParts };
 
-    ghost view = { λ script. record { names = script.catalogue; max = script.max; lines = script.lines.items; numbers = script.numbers.items; orders = script.orders.items } };
+    ghost view = { λ script. record {
+      names = script.catalogue;
+      max = script.max;
+      lines = script.lines.items;
+      numbers = script.numbers.items;
+      orders = script.orders.items;
+    } };
 
-    ghost invariant = { λ script. StepsFollow 0 script.lines.items × (length script.numbers.items ≡ length script.lines.items) };
+    ghost invariant = { λ script. StepsFollow 0 script.lines.items
+        × (length script.numbers.items ≡ length script.lines.items) };
 }
 
 impl Script {
@@ -46,7 +53,13 @@ impl Script {
     ) -> Script
         requires steps { StepsFollow 0 lines.items }
         requires each { length numbers.items ≡ length lines.items }
-        ensures { result ≡ record { names = catalogue; max = max; lines = lines.items; numbers = numbers.items; orders = orders.items } }
+        ensures { result ≡ record {
+          names = catalogue;
+          max = max;
+          lines = lines.items;
+          numbers = numbers.items;
+          orders = orders.items;
+        } }
     {
         Script {
             catalogue,

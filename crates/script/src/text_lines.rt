@@ -43,7 +43,8 @@ impl<'a> Lines<'a> {
     /// Takes the next line of which a byte is read, with its number. Where there is none it gives the number after the last line.
     pub(crate) fn next(&mut self) -> Result<(u32, &'a str), u32>
         ensures line { IfOk result (λ line. self.old ≡ with_line (line.0, line.1.now) self.new) }
-        ensures none { IfErr result (λ end. (self.old.lines ≡ []) × (self.new.lines ≡ []) × (end ≡ self.old.end)) }
+        ensures none { IfErr result (λ end.
+            (self.old.lines ≡ []) × (self.new.lines ≡ []) × (end ≡ self.old.end)) }
     {
         while !self.rest.is_empty() {
             let (line, rest) = first_line(self.rest);

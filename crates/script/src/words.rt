@@ -8,7 +8,8 @@ use std::alloc::{AllocError, Global};
 
 /// The words of a line, if none of them is empty.
 pub(crate) fn words_of(alloc: Global, line: &str) -> Result<Option<Vec<&str>>, AllocError>
-    ensures { IfOk result (λ found. IsReading AreWords line.now (option_map (λ words. texts words.items) found)) }
+    ensures { IfOk result (λ found. IsReading AreWords line.now
+        (option_map (λ words. texts words.items) found)) }
 {
     let words = cut(alloc, line)?;
     if has_empty_word(&words) {

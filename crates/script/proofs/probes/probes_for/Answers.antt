@@ -7,7 +7,7 @@ pub loop-line-preserved : goal.loop-line-preserved
 loop-line-preserved g c = elim c.match-rule.branch [
   | in-Some+in_ok-make+in_ok-push w ↦
       made_one g.P.Probe.rule g.P.Probe.memory c.args.lines.now c.loop-line.line-index c.line-item.result _ _ _ _ _ _ (omega arith) c.line-item.is c.rule.ensures w.in-Some.is
-      (c.requires.asked _ _ w.make.ensures) w.in_ok-make.was (ap (λ v. v.items) w.probes-is ∙ w.in_ok-push.ensures.items) c.loop-line.invariant
+      w.make.ensures w.in_ok-make.was (ap (λ v. v.items) w.probes-is ∙ w.in_ok-push.ensures.items) c.loop-line.invariant
   | in_default w ↦
       let Made = λ (v : Vec g.row.P.Denot Global). AreMade g.P.Probe.rule g.P.Probe.memory (take (c.loop-line.line-index + 1) c.args.lines.now) v.items in
       subst Made (sym w.probes-is) (made_none g.P.Probe.rule g.P.Probe.memory c.args.lines.now c.loop-line.line-index c.line-item.result _ _

@@ -2,14 +2,11 @@ ghost use Rattle.std.specs.Prelude.{IfOk};
 ghost use Rattle.probe_core.specs.Made.{IsAsked};
 ghost use Rattle.script.specs.Run.{IsScriptRun};
 
-use super::*;
-use crate::reading::read_script;
-use crate::script::Mode;
-use probe_core::{Depends, Manual, Threshold};
+use probe_core::{Depends, FnMaker, Manual, Probe, ProbeFn, Rule, Threshold};
+use script::{Mode, Script, read_script, run_script};
+use std::alloc::{AllocError, Global};
 use std::test::Fail;
-use test_support::same;
-
-mod memory;
+use test_support::{Scarcity, same};
 
 /// The first two lines of a script, and its others with what each prints.
 type Run = (&'static str, &'static [(&'static str, &'static str)]);
@@ -196,31 +193,42 @@ static RUNS: [Run; 10] = [
     ),
 ];
 
-fn script_of(alloc: Global, opening: &str, lines: &[(&str, &str)]) -> Result<Script, Fail> {
+/// The script that the lines make, and what a run of it is to print.
+fn texts_of(
+    alloc: Global,
+    opening: &str,
+    lines: &[(&str, &str)],
+) -> Result<(String, String), AllocError> {
     let mut text = String::from_str(alloc, opening)?;
-    for (line, _) in lines {
+    let mut output = String::new(alloc);
+    for (line, printed) in lines {
         text.push_str(line)?;
         text.push('\n')?;
+        output.push_str(printed)?;
+        output.push('\n')?;
     }
-    Ok(read_script(alloc, text.as_bytes(), Mode::Replay)?)
+    Ok((text, output))
 }
 
-/// What a run is to print, in one text.
-fn text_of(alloc: Global, lines: &[(&str, &str)]) -> Result<String, AllocError> {
-    let mut text = String::new(alloc);
-    for (_, printed) in lines {
-        text.push_str(printed)?;
-        text.push('\n')?;
-    }
-    Ok(text)
+/// What a run prints, with the probes that the closure makes.
+fn printed_by<P: Probe, F: ProbeFn<Made = P> + Drop>(
+    alloc: Global,
+    script: Script,
+    make: F,
+) -> Result<Vec<u8>, AllocError>
+    requires { F.makes_asked make }
+    ensures { IfOk result (λ output. IsScriptRun script output.items) }
+{
+    run_script(alloc, script, &FnMaker::new(make))
 }
 
-/// What a run prints, with probes of the three kinds.
+/// What a run prints, with boxed probes of the three kinds.
 fn printed(alloc: Global, script: Script) -> Result<Vec<u8>, AllocError>
     ensures { IfOk result (λ output. IsScriptRun script output.items) }
 {
     let make = |rule: Rule| -> Result<Box<dyn Probe + Send>, AllocError>
-        ensures { IsAsked (λ probe. (Probe-box probe).rule probe.value) (λ probe. (Probe-box probe).memory probe.value) rule result }
+        ensures { IsAsked (λ probe. (Probe-box probe).rule probe.value)
+            (λ probe. (Probe-box probe).memory probe.value) rule result }
     {
         let probe: Box<dyn Probe + Send> = match rule {
             Rule::Threshold(fall, rise, start) => Box::new(
@@ -232,13 +240,14 @@ fn printed(alloc: Global, script: Script) -> Result<Vec<u8>, AllocError>
         };
         Ok(probe)
     };
-    run_script(alloc, script, &make)
+    printed_by(alloc, script, make)
 }
 
 fn expect_run(alloc: Global, opening: &str, lines: &[(&str, &str)]) -> Result<(), Fail> {
-    let output = printed(alloc, script_of(alloc, opening, lines)?)?;
-    let expected = text_of(alloc, lines)?;
-    same(&str::from_utf8(&output)?, &expected.as_str(), &opening)
+    let (text, expected) = texts_of(alloc, opening, lines)?;
+    let script = read_script(alloc, text.as_bytes(), Mode::Replay)?;
+    let output = printed(alloc, script)?;
+    same(&output.as_slice(), &expected.as_bytes(), &opening)
 }
 
 /// An answer of `NoMemory` in place of every output meets the contract of `run_script`, as of each call that takes memory:
@@ -249,4 +258,62 @@ fn prints_what_each_line_comes_to(rt: HostRuntime) -> Result<(), Fail> {
         expect_run(rt.alloc(), *opening, *lines)?;
     }
     Ok(())
+}
+
+/// Which of the outputs a run prints with so many steps of memory left, if it prints one.
+fn output_in(
+    alloc: Global,
+    text: &str,
+    outputs: &[&str],
+    steps: usize,
+) -> Result<Option<usize>, Fail> {
+    let script = read_script(alloc, text.as_bytes(), Mode::Replay)?;
+    let scarcity = Scarcity::with_small_room(alloc)?;
+    let filler = scarcity.leave_steps(steps)?;
+    let output = printed(alloc, script).ok();
+    drop(filler);
+    drop(scarcity);
+    let Some(output) = output else {
+        return Ok(None);
+    };
+    let row = outputs
+        .iter()
+        .position(|text| text.as_bytes() == output.as_slice());
+    same(&row.is_some(), &true, &steps)?;
+    Ok(row)
+}
+
+/// With more and more memory a run prints no output first, and then each of these, from the first to the last.
+fn expect_ends(alloc: Global, text: &str, outputs: &[&str]) -> Result<(), Fail> {
+    let mut seen = 0usize;
+    for steps in 0..512usize {
+        let row = output_in(alloc, text, outputs, steps)?;
+        let expected = if seen == 0 {
+            None
+        } else {
+            Some(seen.wrapping_sub(1))
+        };
+        if row != expected {
+            same(&row, &Some(seen), &steps)?;
+            seen = seen.wrapping_add(1);
+        }
+    }
+    same(&seen, &outputs.len(), &text)
+}
+
+/// A registration that is refused out of memory leaves nothing, and the run goes on.
+#[test]
+fn goes_on_after_each_refused_change(rt: HostRuntime) -> Result<(), Fail> {
+    let text = "catalogue a -\nmax 100\nregister a manual\ncheck a\n";
+    let refused = "refused no memory\nnot found\n";
+    expect_ends(rt.alloc(), text, &[refused, "done\nserving\n"])
+}
+
+/// The fifth watch needs room that the first four don't.
+#[test]
+fn ends_where_a_watch_finds_no_memory(rt: HostRuntime) -> Result<(), Fail> {
+    let text = "catalogue a -\nmax 9\nopen a\nopen a\nopen a\nopen a\nopen a\nstep 4\n";
+    let whole = "watch 0 service unknown\nwatch 1 service unknown\nwatch 2 service unknown\n\
+        watch 3 service unknown\nwatch 4 service unknown\nnone\n";
+    expect_ends(rt.alloc(), text, &[whole])
 }

@@ -1,10 +1,12 @@
-use super::*;
+use health_wire::{
+    Field, Serving, Value, WireFault, fields, read_request, read_response, write_request,
+    write_response,
+};
+use std::alloc::Global;
 use std::test::Fail;
-use test_support::same;
+use test_support::{Scarcity, same};
 
-mod memory;
-
-const REQUESTS: [(&[u8], Result<&str, WireFault>); 31] = [
+const REQUESTS: [(&[u8], Result<&str, WireFault>); 27] = [
     (b"", Ok("")),
     (b"\x0a\x01a", Ok("a")),
     (b"\x0a\x02a", Err(WireFault::Truncated)),
@@ -47,12 +49,8 @@ const REQUESTS: [(&[u8], Result<&str, WireFault>); 31] = [
     ),
     // the empty name of a later field counts too
     (b"\x0a\x01a\x0a\x00", Ok("")),
-    (b"\x0a\x01a\x48\x05\x0a\x01b", Ok("b")),
-    // each front of a request, from no byte to all eight
-    (b"", Ok("")),
-    (b"\x0a", Err(WireFault::Truncated)),
+    // each longer front of a request
     (b"\x0a\x01", Err(WireFault::Truncated)),
-    (b"\x0a\x01a", Ok("a")),
     (b"\x0a\x01a\x48", Err(WireFault::Truncated)),
     (b"\x0a\x01a\x48\x05", Ok("a")),
     (b"\x0a\x01a\x48\x05\x0a", Err(WireFault::Truncated)),
@@ -89,43 +87,33 @@ fn reads_the_last_status_number_or_the_first_fault() -> Result<(), Fail> {
     Ok(())
 }
 
-const FIELDS: [(&[u8], [Field<'static>; 2]); 2] = [
-    (
-        b"\x0a\x01a\x48\x05",
-        [
-            Field {
-                number: 1,
-                value: Value::Bytes(b"a"),
-            },
-            Field {
-                number: 9,
-                value: Value::Varint(5),
-            },
-        ],
-    ),
-    (
-        b"\x11\x01\x02\x03\x04\x05\x06\x07\x08\x1d\x01\x02\x03\x04",
-        [
-            Field {
-                number: 2,
-                value: Value::Eight([1, 2, 3, 4, 5, 6, 7, 8]),
-            },
-            Field {
-                number: 3,
-                value: Value::Four([1, 2, 3, 4]),
-            },
-        ],
-    ),
+/// A field of each wire type.
+const FOUR_FIELDS: &[u8] =
+    b"\x0a\x01a\x48\x05\x11\x01\x02\x03\x04\x05\x06\x07\x08\x1d\x01\x02\x03\x04";
+
+const FIELDS: [Field<'static>; 4] = [
+    Field {
+        number: 1,
+        value: Value::Bytes(b"a"),
+    },
+    Field {
+        number: 9,
+        value: Value::Varint(5),
+    },
+    Field {
+        number: 2,
+        value: Value::Eight([1, 2, 3, 4, 5, 6, 7, 8]),
+    },
+    Field {
+        number: 3,
+        value: Value::Four([1, 2, 3, 4]),
+    },
 ];
 
 #[test]
 fn reads_fields_in_order(rt: HostRuntime) -> Result<(), Fail> {
-    for (bytes, expected) in &FIELDS {
-        let found = fields(rt.alloc(), *bytes)?;
-        same(&found.as_slice(), &expected.as_slice(), bytes)?;
-    }
-    let cut = fields(rt.alloc(), b"\x0a\x01a\x48").err();
-    same(&cut, &Some(WireFault::Truncated), &"a cut field")
+    let found = fields(rt.alloc(), FOUR_FIELDS)?;
+    same(&found.as_slice(), &FIELDS.as_slice(), &FOUR_FIELDS)
 }
 
 const STATUSES: [(Serving, &[u8]); 4] = [
@@ -154,11 +142,79 @@ const LONG_REQUEST: &[u8] =
 /// Names, and the requests for them, each of which takes more memory than the one before.
 const NAMES: [(&str, &[u8]); 3] = [("", b""), ("a", b"\x0a\x01a"), (LONG_NAME, LONG_REQUEST)];
 
+/// The first of the names for whose request there is no memory.
+fn refused_name(alloc: Global) -> Result<Option<usize>, Fail> {
+    for (row, (name, expected)) in NAMES.iter().enumerate() {
+        match write_request(alloc, *name) {
+            Ok(bytes) => same(&bytes.as_slice(), expected, name)?,
+            Err(_) => return Ok(Some(row)),
+        }
+    }
+    Ok(None)
+}
+
 #[test]
 fn writes_a_name_behind_its_shortest_length(rt: HostRuntime) -> Result<(), Fail> {
-    for (name, expected) in &NAMES {
-        let bytes = write_request(rt.alloc(), *name)?;
-        same(&bytes.as_slice(), expected, name)?;
+    same(&refused_name(rt.alloc())?, &None, &"a name without memory")
+}
+
+// always_out_of_memory, a body that never has memory, meets its contract. The last end of each test below refuses it.
+
+/// The numbers 1 to 5, each in a field of its own.
+const FIVE: &[u8] = b"\x08\x01\x08\x02\x08\x03\x08\x04\x08\x05";
+
+/// The fewest of the five fields for which there is no memory.
+fn refused_fields(alloc: Global) -> Result<Option<usize>, Fail> {
+    for count in 0..6usize {
+        match fields(alloc, &FIVE[..2 * count]) {
+            Ok(found) => same(&found.len(), &count, &"fields")?,
+            Err(fault) => {
+                same(&fault, &WireFault::NoMemory, &count)?;
+                return Ok(Some(count));
+            }
+        }
+    }
+    Ok(None)
+}
+
+/// Adds an end that was not met before.
+fn note(ends: &mut Vec<Option<usize>>, end: Option<usize>) -> Result<(), Fail> {
+    if !ends.contains(&end) {
+        ends.push(end)?;
     }
     Ok(())
+}
+
+/// The vector of the fields grows at the first of them and at the fifth.
+#[test]
+fn refuses_each_growth_of_the_fields(rt: HostRuntime) -> Result<(), Fail> {
+    let mut ends = Vec::with_capacity(rt.alloc(), 8)?;
+    let scarcity = Scarcity::with_small_room(rt.alloc())?;
+    for steps in 0..64usize {
+        let filler = scarcity.leave_steps(steps)?;
+        note(&mut ends, refused_fields(rt.alloc())?)?;
+        drop(filler);
+    }
+    same(
+        &ends.as_slice(),
+        &[Some(1), Some(5), None].as_slice(),
+        &FIVE,
+    )
+}
+
+/// A request grows at its tag, and again where its name is long. The request for the empty name takes no memory.
+#[test]
+fn refuses_each_growth_of_a_written_request(rt: HostRuntime) -> Result<(), Fail> {
+    let mut ends = Vec::with_capacity(rt.alloc(), 8)?;
+    let scarcity = Scarcity::with_small_room(rt.alloc())?;
+    for steps in 0..64usize {
+        let filler = scarcity.leave_steps(steps)?;
+        note(&mut ends, refused_name(rt.alloc())?)?;
+        drop(filler);
+    }
+    same(
+        &ends.as_slice(),
+        &[Some(1), Some(2), None].as_slice(),
+        &"requests",
+    )
 }

@@ -1,0 +1,9 @@
+//! Tests of scripts, by public calls alone.
+#![tactic(auto)]
+
+#[cfg(test)]
+mod reading;
+#[cfg(test)]
+mod replay;
+#[cfg(test)]
+mod setup;
