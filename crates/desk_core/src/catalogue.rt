@@ -170,6 +170,3 @@ fn set_of(alloc: Global, names: Vec<String>) -> Result<IndexSet<String>, AllocEr
 {
     names.into_iter().collect(alloc)
 }
-
-#[cfg(test)]
-mod tests;

@@ -71,6 +71,3 @@ pub use registration::{Handed, Registered};
 pub use reply::Reply;
 pub use slot::Slot;
 pub use watch::{Behind, Watch};
-
-#[cfg(test)]
-mod tests;

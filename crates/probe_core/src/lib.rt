@@ -41,6 +41,3 @@ pub use probe::Probe;
 pub use rule::Rule;
 pub use start::Start;
 pub use threshold::Threshold;
-
-#[cfg(test)]
-mod tests;

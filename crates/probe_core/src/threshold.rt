@@ -105,6 +105,3 @@ fn opening_memory(fall: u32, rise: u32, start: Start) -> u64
         Start::Unknown => u64::from(fall) + u64::from(rise),
     }
 }
-
-#[cfg(test)]
-mod tests;

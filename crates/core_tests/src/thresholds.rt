@@ -1,38 +1,6 @@
-use super::*;
+use probe_core::{Event, Probe, Start, Threshold};
 use std::test::Fail;
 use test_support::same;
-
-const MOST: u64 = 4_294_967_295;
-
-/// The greatest memory is the sum of both numbers less one. No run gets there.
-#[test]
-fn counts_up_to_the_sum_of_both_numbers() -> Result<(), Fail> {
-    let mut probe = Threshold {
-        fall: u32::MAX,
-        rise: u32::MAX,
-        start: Start::Up,
-        memory: MOST + MOST - 2,
-    };
-    let passed = (probe.note(Event::Pass), probe.memory, probe.is_up());
-    same(&passed, &(true, MOST + MOST - 1, false), &"a pass")?;
-    let failed = (probe.note(Event::Fail), probe.memory, probe.is_up());
-    same(&failed, &(true, MOST, false), &"a failure")?;
-    probe.memory = MOST + MOST - 1;
-    let risen = (probe.note(Event::Pass), probe.memory, probe.is_up());
-    same(&risen, &(true, 0, true), &"the last pass")
-}
-
-/// The memory of a service that is unknown is one more.
-#[test]
-fn is_unknown_at_the_sum_of_both_numbers() -> Result<(), Fail> {
-    let mut probe = Threshold::new(u32::MAX, u32::MAX, Start::Unknown);
-    let opening = (probe.memory, probe.is_unknown(), probe.is_up());
-    same(&opening, &(MOST + MOST, true, false), &"before an event")?;
-    let failed = (probe.note(Event::Fail), probe.memory, probe.is_unknown());
-    same(&failed, &(true, 1, false), &"a failure")?;
-    probe.memory = MOST + MOST - 1;
-    same(&probe.is_unknown(), &false, &"a pass before the last")
-}
 
 /// Numbers that look random, and are the same in each run.
 #[derive(Drop)]

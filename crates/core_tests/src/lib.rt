@@ -1,0 +1,25 @@
+//! Tests of `tail`, `probe_core` and `desk_core` by their public calls, and what a registry keeps in tests.
+#![tactic(auto)]
+
+mod sixteen;
+
+pub use sixteen::KeepSixteen;
+
+#[cfg(test)]
+mod catalogues;
+#[cfg(test)]
+mod events;
+#[cfg(test)]
+mod given_back;
+#[cfg(test)]
+mod histories;
+#[cfg(test)]
+mod keeping;
+#[cfg(test)]
+mod memory;
+#[cfg(test)]
+mod rows;
+#[cfg(test)]
+mod tails;
+#[cfg(test)]
+mod thresholds;

@@ -1,0 +1,124 @@
+use desk_core::{Desk, Finding, Handed, Refusal, Registered, Reply, Setting, Slot, Watch};
+use health_wire::Serving;
+use probe_core::{Probe, Rule};
+use std::test::Fail;
+use test_support::same;
+
+/// The answer to a change.
+pub(crate) type Answer = Result<Reply, Refusal>;
+
+/// The answer to a change, and of the probe that it gives back the rule and whether it is up.
+pub(crate) type Given = (Answer, Option<(Rule, bool)>);
+
+/// What is done to a desk or asked of it, and what has to come of it. Slots are named by their numbers.
+#[derive(Clone, Copy)]
+pub(crate) enum Row {
+    /// Registers the next probe in a slot that has none.
+    New(u8),
+    /// Registers the next probe.
+    Register(u8, Given),
+    Retire(u8, Given),
+    Observe(u8, Finding, Answer),
+    Set(u8, Setting, Answer),
+    Shutdown(Answer),
+    Resume(Answer),
+    Status(u8, Option<Serving>),
+    Board(u64),
+    /// Opens the watch, of a slot or of a name that has none, and is shown this.
+    Open(Option<u8>, Serving),
+    /// A step of the watch, and where it stands then.
+    Told(Option<Serving>, u64),
+}
+
+fn slot(number: u8) -> Result<Slot, Fail> {
+    Ok(Slot::new(number).ok_or("no slot")?)
+}
+
+fn register<P: Probe>(desk: &mut Desk<P>, slot: Slot, probe: P) -> Given {
+    match desk.register(0, slot, probe) {
+        Ok(Registered { reply, old }) => match old {
+            Some(old) => (Ok(reply), Some((old.rule(), old.is_up()))),
+            None => (Ok(reply), None),
+        },
+        Err(Handed { refusal, probe }) => (Err(refusal), Some((probe.rule(), probe.is_up()))),
+    }
+}
+
+fn retire<P: Probe>(desk: &mut Desk<P>, slot: Slot) -> Given {
+    match desk.retire(0, slot) {
+        Ok((reply, Some(old))) => (Ok(reply), Some((old.rule(), old.is_up()))),
+        Ok((reply, None)) => (Ok(reply), None),
+        Err(refusal) => (Err(refusal), None),
+    }
+}
+
+/// Makes the change of a row that registers nothing, and looks at its answer.
+fn expect_change<P: Probe>(desk: &mut Desk<P>, row: Row, at: usize) -> Result<(), Fail> {
+    match row {
+        Row::Retire(number, given) => same(&retire(desk, slot(number)?), &given, &at),
+        Row::Observe(number, finding, answer) => {
+            same(&desk.observe(0, slot(number)?, finding), &answer, &at)
+        }
+        Row::Set(number, setting, answer) => {
+            same(&desk.set(0, slot(number)?, setting), &answer, &at)
+        }
+        Row::Shutdown(answer) => same(&desk.shutdown(0), &answer, &at),
+        Row::Resume(answer) => same(&desk.resume(0), &answer, &at),
+        _ => Ok(()),
+    }
+}
+
+/// Asks what a row asks of the desk and of the watch.
+fn expect_seen<P: Probe>(
+    desk: &Desk<P>,
+    watch: &mut Watch,
+    row: Row,
+    at: usize,
+) -> Result<(), Fail> {
+    match row {
+        Row::Status(number, status) => same(&desk.check(Some(slot(number)?)), &status, &at),
+        Row::Board(word) => same(&desk.board(), &word, &at),
+        Row::Open(number, first) => {
+            let (opened, status) = desk.open(number.and_then(|number| Slot::new(number)));
+            *watch = opened;
+            same(&status, &first, &at)
+        }
+        Row::Told(told, cursor) => {
+            same(&(desk.step(watch), watch.cursor()), &(told, cursor), &at)
+        }
+        _ => Ok(()),
+    }
+}
+
+/// Registers the next probe, if the row does.
+fn expect_registered<P: Probe>(
+    desk: &mut Desk<P>,
+    probes: &mut Vec<P>,
+    row: Row,
+    at: usize,
+) -> Result<(), Fail> {
+    let (number, given) = match row {
+        Row::New(number) => (number, (Ok(Reply::Done), None)),
+        Row::Register(number, given) => (number, given),
+        _ => return Ok(()),
+    };
+    let probe = probes.pop().ok_or("no probe")?;
+    same(&register(desk, slot(number)?, probe), &given, &at)
+}
+
+/// Goes through the rows, each at a desk that the rows before it changed; the probes are registered from the last one on. What the
+/// desk keeps has to be what computing anew gives after each.
+pub(crate) fn expect_rows<P: Probe>(
+    desk: &mut Desk<P>,
+    probes: &mut Vec<P>,
+    rows: &[Row],
+) -> Result<(), Fail> {
+    let (mut watch, _) = desk.open(None);
+    for (at, row) in rows.iter().enumerate() {
+        expect_registered(desk, probes, *row, at)?;
+        expect_change(desk, *row, at)?;
+        expect_seen(desk, &mut watch, *row, at)?;
+        same(&desk.board(), &desk.board_anew(), &at)?;
+    }
+    Ok(())
+}

@@ -1,0 +1,15 @@
+use desk_core::Keep;
+
+/// The last sixteen: in tests much is soon forgotten.
+#[derive(Drop)]
+pub struct KeepSixteen;
+
+impl Keep for KeepSixteen {
+    ghost use Rattle.std.specs.Prelude.{Some};
+
+    ghost kept = { Some 16 };
+
+    fn kept() -> Option<u32> {
+        Some(16)
+    }
+}

@@ -1,0 +1,73 @@
+use std::alloc::{AllocError, Global};
+use std::test::Fail;
+use tail::Tail;
+use test_support::{Scarcity, same};
+
+/// More items than any list has here.
+const MOST: u64 = 1_000;
+
+/// Puts the numbers from the length of the list up to before `end` at its end, with room taken for each.
+fn put(tail: &mut Tail<u64>, end: u64) -> Result<(), AllocError> {
+    for number in tail.len()..end {
+        tail.reserve(1)?;
+        if tail.len() < MOST {
+            tail.push(number);
+        }
+    }
+    Ok(())
+}
+
+/// Of forty numbers, of which sixteen are kept: a place, and how many items there are from it on and the first of them; or one of
+/// them is forgotten.
+const OF_FORTY: [(u64, Option<(usize, Option<u64>)>); 5] = [
+    (0, None),
+    (23, None),
+    (24, Some((16, Some(24)))),
+    (39, Some((1, Some(39)))),
+    (40, Some((0, None))),
+];
+
+fn expect_sixteen_of_forty(tail: &Tail<u64>) -> Result<(), Fail> {
+    for (place, expected) in &OF_FORTY {
+        let found = match tail.since(*place) {
+            Some(items) => Some((items.len(), items.first().copied())),
+            None => None,
+        };
+        same(&found, expected, place)?;
+    }
+    let found = (
+        tail.len(),
+        tail.forgotten(),
+        tail.kept().len(),
+        tail.capacity(),
+    );
+    same(&found, &(40, 24, 16, 32), &"what is kept")
+}
+
+#[test]
+fn keeps_the_last_sixteen_or_all(rt: HostRuntime) -> Result<(), Fail> {
+    let mut some = Tail::new(rt.alloc(), Some(16));
+    put(&mut some, 40)?;
+    expect_sixteen_of_forty(&some)?;
+    let mut all = Tail::new(rt.alloc(), None);
+    put(&mut all, 40)?;
+    same(&(all.forgotten(), all.kept().len()), &(0, 40), &"all")
+}
+
+#[test]
+fn takes_no_memory_at_its_limit(rt: HostRuntime) -> Result<(), Fail> {
+    let alloc: Global = rt.alloc();
+    let mut full = Tail::new(alloc, Some(16));
+    put(&mut full, 40)?;
+    let mut empty: Tail<u64> = Tail::new(alloc, Some(16));
+    let scarcity = Scarcity::with_small_room(alloc)?;
+    let rest = scarcity.leave_steps(0)?;
+    let is_refused = empty.reserve(1).is_err();
+    let goes_on = put(&mut full, 80).is_ok();
+    drop(rest);
+    drop(scarcity);
+    let found = (is_refused, goes_on, empty.capacity(), full.capacity());
+    same(&found, &(true, true, 0, 32), &"without memory")?;
+    put(&mut empty, 40)?;
+    expect_sixteen_of_forty(&empty)
+}
