@@ -135,6 +135,10 @@ unchanged before after seat call refusal answers = record {
   history = kept_of before.max_entries seat (past before.journal) (past after.journal) call refusal answers.answer;
 }
 
+-- an entry by the number of the seat is the seat's own
+pub own_entry : (entry : Entry) (seat number : ℕ) (call : Call) (reply : Reply) → entry ≡ entry_of seat call reply → seat ≡ number → entry ≡ entry_of number call reply
+own_entry entry seat number call reply is numbered = is ∙ ap (λ n. entry_of n call reply) numbered
+
 -- the history before the newest entry is that of the desk as it was taken out
 pub before_newest : (rested : Seated) (seat number : ℕ) (before after : State) (call : Call) (reply : Reply) → HasAnswered before after number call (Ok reply)
     → rested ≡ (seat_view seat (past after.journal) after.max_entries, []) → drop 1 (seen_in rested) ≡ past before.journal

@@ -35,7 +35,8 @@ impl<P: Probe, K: Keep> Hall<P, K> {
             (λ taken. IsCarriedOut seat.old seat.new call (Ok taken.0))
             (λ refused. IsCarriedOut seat.old seat.new call (Err refused.0)) }
         ensures old { IfOk result (λ taken. IfSome call (λ c.
-            option_map (λ p. (P.rule p, P.memory p)) taken.1 ≡ probe_of (drop 1 seat.new.seen) c)) }
+            option_map (λ p. (P.rule p, P.memory p)) taken.1
+            ≡ probe_of (drop 1 seat.new.seen) c)) }
         ensures handed_back { IfErr result (λ refused. refused.1 ≡ probe) }
     {
         let number = seat.number;

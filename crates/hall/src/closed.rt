@@ -51,6 +51,7 @@ impl<P: Probe, K: Keep> Hall<P, K> {
         if seats.len() != self.seats as usize {
             return Err(Unclosed { hall: self, seats });
         }
+        // Every field is named, here and in `gather`: one to answer from could not be added unseen.
         let Hall {
             table,
             catalogue,

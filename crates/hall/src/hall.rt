@@ -27,9 +27,15 @@ impl<P: Probe, K: Keep> Model for Hall<P, K> {
 
     ghost Value = { HallState };
 
-    ghost view = { λ hall. record { table = hall.table.shared.table_id; most = hall.table.shared.key.most; seats = hall.seats; names = hall.catalogue } };
+    ghost view = { λ hall. record {
+      table = hall.table.shared.table_id;
+      most = hall.table.shared.key.most;
+      seats = hall.seats;
+      names = hall.catalogue;
+    } };
 
-    ghost invariant = { λ hall. IsHall hall.table.shared.table_id × (hall.table.shared.key.seats ≡ hall.seats) × (0 < hall.seats) };
+    ghost invariant = { λ hall. IsHall hall.table.shared.table_id
+        × (hall.table.shared.key.seats ≡ hall.seats) × (0 < hall.seats) };
 }
 
 impl<P: Probe, K: Keep> Hall<P, K> {

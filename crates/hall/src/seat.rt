@@ -17,7 +17,12 @@ impl<P: Probe, K: Keep> Model for Seat<P, K> {
 
     ghost Value = { SeatState };
 
-    ghost view = { λ seat. record { table = seat.place.table_id; most = seat.place.me.0.most; number = seat.number; seen = seen_in seat.place.me } };
+    ghost view = { λ seat. record {
+      table = seat.place.table_id;
+      most = seat.place.me.0.most;
+      number = seat.number;
+      seen = seen_in seat.place.me;
+    } };
 
     ghost invariant = { λ seat. IsSeat seat.place.me seat.number seat.made };
 }

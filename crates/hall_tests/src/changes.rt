@@ -38,12 +38,13 @@ fn first_wrong<R: Wait, P: Probe, K: Keep>(
     requires first { IsOf hall.now first.old.seat }
     requires second { IsOf hall.now second.old.seat }
 {
-    for (index, (who, step, wanted)) in turns.iter().enumerate() {
+    for index in 0..turns.len() {
+        let (who, step, wanted) = turns[index];
         let found = match who {
-            Who::First => result_of(rt, hall, first, *step),
-            Who::Second => result_of(rt, hall, second, *step),
+            Who::First => result_of(rt, hall, first, step),
+            Who::Second => result_of(rt, hall, second, step),
         };
-        if !is_as(&found, wanted) {
+        if !is_as(&found, &wanted) {
             return Some((index, found));
         }
     }

@@ -1,4 +1,4 @@
-//! What the contracts of the shared registry do not say: that its calls succeed, and in threads of their own. It is for tests alone.
+//! Tests of halls, of the crews over them and of their servers, by public calls alone.
 #![tactic(auto)]
 
 #[cfg(test)]

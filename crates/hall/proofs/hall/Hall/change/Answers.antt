@@ -1,11 +1,11 @@
-use Rattle.std.proofs.Common.{List, ◌∷◌, Ok, Err, ap, sym, subst, ◌∙◌}
+use Rattle.std.proofs.Common.{List, ◌∷◌, Ok, Err, ap, sym, subst, arith, ◌∙◌}
 use Rattle.desk_core.specs.declared.entry.Entry.{Entry}
 use Rattle.desk_core.specs.Desk.{probe_of}
 use Rattle.desk_core.specs.Legal.{IsLegal}
 use Rattle.desk_core.specs.Mutation.{entry_of}
 use Rattle.hall.specs.Seats.{SeatState}
 use Rattle.hall.specs.Steps.{HasDesk, seen_in}
-use Rattle.hall.proofs.Taken.{may_commit, may_count, may_leave, carried_out, not_carried_out, newest, unchanged, before_newest, seat_taken, seat_kept}
+use Rattle.hall.proofs.Taken.{may_commit, may_count, may_leave, carried_out, not_carried_out, newest, unchanged, before_newest, seat_taken, seat_kept, own_entry}
 use Rattle.hall.proofs.hall.Hall.change.Goals as goal
 
 pub returns-in_default-clause-answered : goal.returns-in_default-clause-answered
@@ -15,7 +15,7 @@ returns-in_default-clause-answered g c =
 pub finish-requires-clause-desk : goal.finish-requires-clause-desk
 finish-requires-clause-desk g c =
     let waiting = c.enter-desk.new.place.me in
-    subst (λ seat. HasDesk waiting seat c.change.new.self.max_entries (seen_in waiting)) (sym (ap (λ e. e.seat) c.entry-entry.ensures))
+    subst (λ seat. HasDesk waiting seat c.change.new.self.max_entries (seen_in waiting)) (sym (ap (λ e. e.seat) (own_entry _ _ c.seat.inside.number _ _ c.entry-entry.ensures (omega arith))))
     (may_commit c.seat.inside.place.me waiting c.seat.inside.number c.seat.inside.made c.enter-desk.result c.change.new.self
     (record { seat = c.seat.invariant; limit = c.enter-desk.ensures.limit; has = c.enter-desk.ensures.desk; follows = c.enter-desk.ensures.follows })
     c.in-Ok.ensures.answered.most)
@@ -23,7 +23,7 @@ finish-requires-clause-desk g c =
 pub finish-requires-clause-newest : goal.finish-requires-clause-newest
 finish-requires-clause-newest g c =
     newest _ _ _ _ _ c.in-Ok.ensures.answered ∙ ap (λ (h : List Entry). entry_of c.seat.inside.number c.in-Some.call c.in-Ok.reply ∷ h) (sym (ap seen_in c.enter-desk.ensures.desk.1))
-    ∙ ap (λ e. e ∷ seen_in c.enter-desk.new.place.me) (sym c.entry-entry.ensures)
+    ∙ ap (λ e. e ∷ seen_in c.enter-desk.new.place.me) (sym (own_entry _ _ c.seat.inside.number _ _ c.entry-entry.ensures (omega arith)))
 
 pub finish-requires-clause-limit : goal.finish-requires-clause-limit
 finish-requires-clause-limit g c =
@@ -34,7 +34,7 @@ pub invariant_of-seat : goal.invariant_of-seat
 invariant_of-seat g c =
     seat_taken c.seat.inside.place.me c.enter-desk.new.place.me _ _ c.seat.inside.made _ c.entry-entry.result.seat c.enter-desk.result _ _ _
     (record { seat = c.seat.invariant; limit = c.enter-desk.ensures.limit; has = c.enter-desk.ensures.desk; follows = c.enter-desk.ensures.follows })
-    c.in-Ok.ensures.answered (ap (λ e. e.seat) c.entry-entry.ensures) c.finish.ensures.rests c.finish.ensures.made c.finish.ensures.legal
+    c.in-Ok.ensures.answered (ap (λ e. e.seat) (own_entry _ _ c.seat.inside.number _ _ c.entry-entry.ensures (omega arith))) c.finish.ensures.rests c.finish.ensures.made c.finish.ensures.legal
 
 pub leave-requires-clause-desk : goal.leave-requires-clause-desk
 leave-requires-clause-desk g c =
