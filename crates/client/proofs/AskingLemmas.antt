@@ -1,10 +1,22 @@
 -- A response that is read in pieces.
-use Rattle.std.proofs.Common.{ℕ, ◌≡◌, ◌<◌, List, subst, arith}
+use Rattle.std.proofs.Common.{ℕ, ◌≡◌, ◌+◌, ◌<◌, ◌≤◌, Bool, List, [], ◌∷◌, ◌++◌, Option, length, refl, sym, ap, ◌∙◌, subst, inr, arith, length-append}
+use Rattle.std.proofs.KnownBytes.{Consumes-nil, Consumes-kept}
+use Rattle.std.proofs.lemmas.List.{append-nil}
+use Rattle.std.proofs.lemmas.Bool.Decides.{nat_tests}
+use Rattle.std.specs.Prelude.{IfOk, IfErr, Result, Ok, Err, vec_len}
+use Rattle.std.specs.Io.KnownBytes.{Consumes, Keeps}
+use Rattle.client.specs.declared.ask_fault.AskFault.{AskFault}
+use Rattle.client.specs.declared.ask_fault.AskFault.TheVariants.{Read, Write, BadResponse, Http, NoMemory}
+use Rattle.client.specs.declared.reply.Reply.{Reply}
+use Rattle.client.specs.declared.told.Ended.{Ended}
+use Rattle.client.specs.declared.told.Told.{Told as Answered}
+use Rattle.client.specs.Ask.{HasReadCause, IsFaultAt, IsReadFor, Says}
 use Rattle.web_call.specs.declared.method.Method.{Method}
+use Rattle.web_call.specs.declared.method.Method.TheVariants.{Check, Watch}
 use Rattle.client.specs.declared.reply.Stage.{Stage}
 use Rattle.client.specs.declared.reply.Stage.TheVariants.{Head, Body, Told}
-use Rattle.client.specs.Reply.{IsOpen, InHead, InBody}
-use Rattle.client.specs.Stages.{StandsAt, wanted_at}
+use Rattle.client.specs.Reply.{IsBad, IsOfResponse, IsOpen, IsRefused, IsTold, InHead, InBody, ByTrailers, ByCount, ByEnd}
+use Rattle.client.specs.Stages.{Holds, StandsAt, method_of, most_of, wanted_at}
 
 -- a response that wants bytes is open
 pub open_at : (method : Method) (most : ℕ) (bytes head : List ℕ) (stage : Stage) → 0 < wanted_at stage → StandsAt method most bytes head stage
@@ -18,3 +30,56 @@ open_at method most bytes head (Told told) wants stands = absurd (omega arith)
 pub asked_for : (P : Method → ℕ → Type 0) (method asked : Method) (most wanted : ℕ) → method ≡ asked → most ≡ wanted → P method most → P asked wanted
 asked_for P method asked most wanted same as_many holds =
     subst (λ (n : ℕ). P asked n) as_many (subst (λ (m : Method). P m most) same holds)
+
+-- no byte came where the known bytes are kept
+pub Consumes-none : (old new : Option (List ℕ)) → Keeps old new → Consumes old new []
+Consumes-none old new kept = Consumes-kept old old new [] (Consumes-nil old) kept
+
+-- a fault that the last bytes show is the answer of all of them
+pub fault_says : (fault : AskFault) (method : Method) (most : ℕ) (front piece : List ℕ) → IsOpen method most front
+    → IsFaultAt fault method most front piece → Says (Err fault) method most (front ++ piece)
+fault_says Read method most front piece front_open none =
+    subst (λ (all : List ℕ). IsOpen method most all) (sym (ap (λ (all : List ℕ). front ++ all) none ∙ append-nil front)) front_open
+fault_says Write method most front piece front_open none = absurd none
+fault_says BadResponse method most front piece front_open bad = bad
+fault_says (Http status) method most front piece front_open refused = refused
+fault_says NoMemory method most front piece front_open none = inr (front, piece, refl, front_open)
+
+-- what a response answers to bytes that were read for it
+pub given_fault : (result : Result Reply AskFault) (old new : Option (List ℕ)) (piece : List ℕ) (reply : Reply) → Consumes old new piece
+    → (result ≡ Err BadResponse → (bytes : List ℕ) → Holds bytes reply → IsBad (method_of reply) (most_of reply) (bytes ++ piece))
+    → ((status : ℕ) → result ≡ Err (Http status) → (bytes : List ℕ) → Holds bytes reply → IsRefused (bytes ++ piece) status)
+    → IfErr result IsOfResponse
+    → IfErr result (λ fault. (bytes : List ℕ) × Consumes old new bytes
+    × ((front : List ℕ) → Holds front reply → IsFaultAt fault (method_of reply) (most_of reply) front bytes))
+given_fault (Ok after) old new piece reply read bad refused faults = tt
+given_fault (Err Read) old new piece reply read bad refused faults = absurd (faults.0 refl)
+given_fault (Err Write) old new piece reply read bad refused faults = absurd (faults.1 refl)
+given_fault (Err BadResponse) old new piece reply read bad refused faults = (piece, read, bad refl)
+given_fault (Err (Http status)) old new piece reply read bad refused faults = (piece, read, refused status refl)
+given_fault (Err NoMemory) old new piece reply read bad refused faults = (piece, read, λ front holds. tt)
+
+-- no read failed where the fault is one of the response
+pub given_cause : {T : Type 0} (result : Result T AskFault) (failed failed_after : Bool) → IfErr result IsOfResponse → failed_after ≡ failed
+    → HasReadCause result failed failed_after
+given_cause (Ok value) failed failed_after faults kept = kept
+given_cause (Err Read) failed failed_after faults kept = absurd (faults.0 refl)
+given_cause (Err Write) failed failed_after faults kept = absurd (faults.1 refl)
+given_cause (Err BadResponse) failed failed_after faults kept = kept
+given_cause (Err (Http status)) failed failed_after faults kept = kept
+given_cause (Err NoMemory) failed failed_after faults kept = kept
+
+-- a Watch's bytes tell as many statuses as it asks for, at most
+few_told : (method : Method) (most : ℕ) (bytes told : List ℕ) (end : Option Ended) → method ≡ Watch → 1 ≤ most → IsTold method most bytes told end → length told ≤ most
+few_told Watch most bytes told end is some (ByTrailers next more block ended ends unfinished none trailers same) = grind (arith, nat_tests)
+few_told Watch most bytes told end is some (ByCount next more statuses message status ends fits unfinished response push enough none) =
+    let len : length told ≡ length statuses + 1 = ap length push ∙ length-append statuses (status ∷ []) in grind (arith, nat_tests, len)
+few_told Watch most bytes told end is some (ByEnd more watch reply unfinished none) = grind (arith, nat_tests)
+few_told Check most bytes told end is some says = cc
+
+-- so a Watch that is answered has so many at most
+pub few_answered : (result : Result Answered AskFault) (method : Method) (most : ℕ) (remaining after : Option (List ℕ)) → IsReadFor result method most remaining after
+    → 1 ≤ most → method ≡ Watch → IfOk result (λ told. vec_len told.statuses ≤ most)
+few_answered (Ok told) method most remaining after read some is =
+    let few = few_told method most read.0 told.statuses.items told.end is some read.2 in omega (arith, told.statuses.ok.0, few)
+few_answered (Err fault) method most remaining after read some is = tt

@@ -1,5 +1,5 @@
 -- What the bytes of a response mean to a call of gRPC-Web, however they were cut (RFC 9112; doc/PROTOCOL-WEB.md of grpc; health.proto).
-use Rattle.std.specs.Prelude.{ℕ, ◌≡◌, ◌<◌, ◌≤◌, Bool, true, false, nat_le, Option, Some, None, Ok, Err, List, [], ◌∷◌, ◌++◌, length}
+use Rattle.std.specs.Prelude.{ℕ, ◌≡◌, ◌≢◌, ◌<◌, ◌≤◌, Bool, true, false, nat_le, Option, Some, None, Ok, Err, List, [], ◌∷◌, ◌++◌, length}
 use Rattle.grpc_frame.specs.Frame.{frame}
 use Rattle.grpc_frame.specs.Lines.{lines}
 use Rattle.grpc_frame.specs.Split.{BeginsWithNoFrame, max_content_len}
@@ -11,7 +11,8 @@ use Rattle.health_wire.specs.declared.fault.WireFault.{WireFault}
 use Rattle.web_call.specs.InputHead.{IsHead, IsOpenHead}
 use Rattle.web_call.specs.declared.method.Method.{Method}
 use Rattle.web_call.specs.declared.method.Method.TheVariants.{Check, Watch}
-use Rattle.client.specs.declared.ask_fault.AskFault.TheVariants.{BadResponse, Http}
+use Rattle.client.specs.declared.ask_fault.AskFault.{AskFault}
+use Rattle.client.specs.declared.ask_fault.AskFault.TheVariants.{Read, Write, BadResponse, Http}
 use Rattle.client.specs.declared.http_framing.Framing.{Framing}
 use Rattle.client.specs.declared.response_body.Next.{Next}
 use Rattle.client.specs.declared.response_body.Next.TheVariants.{Last}
@@ -102,3 +103,7 @@ pub data IsBad (method : Method) (most : ℕ) (bytes : List ℕ) : Type 0 where
 pub record IsRefused (bytes : List ℕ) (status : ℕ) : Type 0 where
   pub is_head : IsHead bytes
   pub framed : IsFramed bytes (Err (Http status))
+
+-- a fault of the response, or of memory, and neither of the reader nor of the writer
+abbrev pub IsOfResponse : AskFault → Type 0
+IsOfResponse fault = (fault ≢ Read) × (fault ≢ Write)

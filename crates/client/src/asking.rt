@@ -1,10 +1,12 @@
-ghost use Rattle.std.specs.Prelude.{◌≡◌, ◌≤◌, ◌<◌, ◌⊎◌, ◌++◌, List, length, vec_len, OnOk, IfOk, IsErrOf, IsSome, ℕ};
-ghost use Rattle.std.specs.Io.KnownBytes.{Consumes, Keeps};
-ghost use Rattle.client.specs.Reply.{IsBad, IsOpen, IsRefused, IsTold};
+ghost use Rattle.std.specs.Prelude.{◌≡◌, ◌≢◌, ◌≤◌, ◌<◌, ◌⊎◌, ◌++◌, List, length, vec_len, IfOk, IfErr, IsErrOf, IsSome, ℕ};
+ghost use Rattle.std.specs.Io.KnownBytes.{Consumes};
+ghost use Rattle.client.specs.Ask.{HasReadCause, HasWriteCause, IsFaultAt, IsReadFor, IsSentFor};
+ghost use Rattle.client.specs.Lent.{lent_inner, lent_failed};
+ghost use Rattle.client.specs.Request.{WritesRequest};
 ghost use Rattle.client.specs.Stages.{Holds, method_of, most_of, owed_of, wanted_of};
-ghost use Rattle.client.specs.Request.{WritesRequest, WritesRequestFront};
 
 use crate::ask_fault::AskFault;
+use crate::lent::Lent;
 use crate::reply::Reply;
 use crate::request::request_text;
 use crate::told::Told;
@@ -17,7 +19,8 @@ use web_call::Method;
 ///
 /// The request is written whole and flushed before anything is read. The response is read as far as is needed and no further, its
 /// head and the lines of its chunks with a call of `read` for each byte: a reader for which calls are dear has to be buffered. An
-/// error of any kind ends the call at once, `Interrupted` too. A Check doesn't look at `most`.
+/// error of any kind ends the call at once, `Interrupted` too. A Check doesn't look at `most`. It is `ask_through`, whose contract
+/// says when the reader or the writer failed.
 pub fn ask<R: Read, W: Write>(
     alloc: Global,
     reader: &mut R,
@@ -28,70 +31,80 @@ pub fn ask<R: Read, W: Write>(
 ) -> Result<Told, AskFault>
     requires name { length name.now ≤ 1048576 }
     requires most { 1 ≤ most }
-    // Whatever came of the response, the request was written whole.
-    ensures ok { OnOk result
-        (WritesRequest method name.now (W.contents writer.old) (W.contents writer.new)) }
-    ensures read { IsErrOf result AskFault.Read
-        → WritesRequest method name.now (W.contents writer.old) (W.contents writer.new) }
-    ensures bad_response { IsErrOf result AskFault.BadResponse
-        → WritesRequest method name.now (W.contents writer.old) (W.contents writer.new) }
-    ensures http { (status : ℕ) → IsErrOf result (AskFault.Http status)
-        → WritesRequest method name.now (W.contents writer.old) (W.contents writer.new) }
-
-    ensures write { IsErrOf result AskFault.Write
-        → WritesRequestFront method name.now (W.contents writer.old) (W.contents writer.new) }
+    ensures request { IsSentFor result method name.now
+        (W.contents writer.old) (W.contents writer.new) }
+    ensures response { IsReadFor result method most
+        (R.remaining reader.old) (R.remaining reader.new) }
     // Memory was wanted for the request, or for the response.
     ensures no_memory { IsErrOf result AskFault.NoMemory
         → ((writer.new ≡ writer.old) × (reader.new ≡ reader.old))
         ⊎ WritesRequest method name.now (W.contents writer.old) (W.contents writer.new) }
-
     ensures check { method ≡ Method.Check → IfOk result (λ told. IsSome told.end) }
     ensures watch { method ≡ Method.Watch → IfOk result (λ told. vec_len told.statuses ≤ most) }
-
-    // What is told is what the bytes say that were read, whatever the cuts in which they came, and none was read behind it.
-    ensures told { IfOk result (λ told. (bytes : List ℕ)
-        × Consumes (R.remaining reader.old) (R.remaining reader.new) bytes
-        × IsTold method most bytes told.statuses.items told.end) }
-    ensures bad { IsErrOf result AskFault.BadResponse → (bytes : List ℕ)
-        × Consumes (R.remaining reader.old) (R.remaining reader.new) bytes
-        × IsBad method most bytes }
-    ensures refused { (status : ℕ) → IsErrOf result (AskFault.Http status) → (bytes : List ℕ)
-        × Consumes (R.remaining reader.old) (R.remaining reader.new) bytes
-        × IsRefused bytes status }
-    ensures no_more { IsErrOf result AskFault.Read → (bytes : List ℕ)
-        × Consumes (R.remaining reader.old) (R.remaining reader.new) bytes
-        × IsOpen method most bytes }
 {
-    let request = request_text(alloc, method, name)?;
-    send(writer, &request)?;
-    read_told(alloc, reader, method, most)
+    let mut reader = Lent::new(reader);
+    let mut writer = Lent::new(writer);
+    ask_through(alloc, &mut reader, &mut writer, method, name, most)
+}
+
+/// The same through a reader and a writer that tell whether they have failed. The answer is `Read` or `Write` just where they have:
+/// neither may have failed before.
+pub fn ask_through<R: Read, W: Write>(
+    alloc: Global,
+    reader: &mut Lent<'_, R>,
+    writer: &mut Lent<'_, W>,
+    method: Method,
+    name: &str,
+    most: u32,
+) -> Result<Told, AskFault>
+    requires name { length name.now ≤ 1048576 }
+    requires most { 1 ≤ most }
+    ensures reference { (reader.new.inner.ghost_name ≡ reader.old.inner.ghost_name)
+        × (writer.new.inner.ghost_name ≡ writer.old.inner.ghost_name) }
+    ensures request { IsSentFor result method name.now
+        (W.contents (lent_inner writer.old)) (W.contents (lent_inner writer.new)) }
+    ensures response { IsReadFor result method most
+        (R.remaining (lent_inner reader.old)) (R.remaining (lent_inner reader.new)) }
+    // Memory was wanted for the request, or for the response.
+    ensures no_memory { IsErrOf result AskFault.NoMemory
+        → ((lent_inner writer.new ≡ lent_inner writer.old)
+        × (lent_inner reader.new ≡ lent_inner reader.old))
+        ⊎ WritesRequest method name.now
+        (W.contents (lent_inner writer.old)) (W.contents (lent_inner writer.new)) }
+    ensures read { HasReadCause result (lent_failed reader.old) (lent_failed reader.new) }
+    ensures write { HasWriteCause result (lent_failed writer.old) (lent_failed writer.new) }
+    ensures check { method ≡ Method.Check → IfOk result (λ told. IsSome told.end) }
+    ensures watch { method ≡ Method.Watch → IfOk result (λ told. vec_len told.statuses ≤ most) }
+{
+    let Ok(request) = request_text(alloc, method, name) else {
+        return Err(AskFault::NoMemory);
+    };
+    match send(writer, &request) {
+        Ok(()) => read_told(alloc, reader, method, most),
+        Err(_) => Err(AskFault::Write),
+    }
 }
 
 /// Reads a response, a Check's to its trailers and a Watch's to its last status that is wanted.
 fn read_told<R: Read>(
     alloc: Global,
-    reader: &mut R,
+    reader: &mut Lent<'_, R>,
     method: Method,
     most: u32,
 ) -> Result<Told, AskFault>
     requires most { 1 ≤ most }
-    ensures told { IfOk result (λ told. (bytes : List ℕ)
-        × Consumes (R.remaining reader.old) (R.remaining reader.new) bytes
-        × IsTold method most bytes told.statuses.items told.end) }
-    ensures bad { IsErrOf result AskFault.BadResponse → (bytes : List ℕ)
-        × Consumes (R.remaining reader.old) (R.remaining reader.new) bytes
-        × IsBad method most bytes }
-    ensures refused { (status : ℕ) → IsErrOf result (AskFault.Http status) → (bytes : List ℕ)
-        × Consumes (R.remaining reader.old) (R.remaining reader.new) bytes
-        × IsRefused bytes status }
-    ensures no_more { IsErrOf result AskFault.Read → (bytes : List ℕ)
-        × Consumes (R.remaining reader.old) (R.remaining reader.new) bytes
-        × IsOpen method most bytes }
+    ensures reference { reader.new.inner.ghost_name ≡ reader.old.inner.ghost_name }
+    ensures response { IsReadFor result method most
+        (R.remaining (lent_inner reader.old)) (R.remaining (lent_inner reader.new)) }
+    ensures read { HasReadCause result (lent_failed reader.old) (lent_failed reader.new) }
+    ensures no_write { IfErr result (λ fault. fault ≢ AskFault.Write) }
 {
     let mut reply = Reply::new(alloc, method, most)?;
     let mut piece = Vec::new(alloc);
     while reply.wanted() > 0 {
-        piece.resize(reply.wanted(), 0)?;
+        if piece.resize(reply.wanted(), 0).is_err() {
+            return Err(AskFault::NoMemory);
+        }
         match read_more(reader, &mut piece, reply) {
             Ok(after) => reply = after,
             Err(fault) => return Err(fault),
@@ -101,20 +114,22 @@ fn read_told<R: Read>(
 }
 
 /// Reads once, and gives what was read to the response.
-fn read_more<R: Read>(reader: &mut R, piece: &mut [u8], reply: Reply) -> Result<Reply, AskFault>
-    requires { length piece.old ≤ wanted_of reply }
+fn read_more<R: Read>(
+    reader: &mut Lent<'_, R>,
+    piece: &mut [u8],
+    reply: Reply,
+) -> Result<Reply, AskFault>
+    requires some { 0 < length piece.old }
+    requires within { length piece.old ≤ wanted_of reply }
+    ensures reference { reader.new.inner.ghost_name ≡ reader.old.inner.ghost_name }
     ensures ok { IfOk result (λ after. (bytes : List ℕ)
-        × Consumes (R.remaining reader.old) (R.remaining reader.new) bytes
+        × Consumes (R.remaining (lent_inner reader.old)) (R.remaining (lent_inner reader.new)) bytes
         × ((front : List ℕ) → Holds front reply → Holds (front ++ bytes) after)) }
-    ensures bad { IsErrOf result AskFault.BadResponse → (bytes : List ℕ)
-        × Consumes (R.remaining reader.old) (R.remaining reader.new) bytes
+    ensures err { IfErr result (λ fault. (bytes : List ℕ)
+        × Consumes (R.remaining (lent_inner reader.old)) (R.remaining (lent_inner reader.new)) bytes
         × ((front : List ℕ) → Holds front reply
-        → IsBad (method_of reply) (most_of reply) (front ++ bytes)) }
-    ensures refused { (status : ℕ) → IsErrOf result (AskFault.Http status) → (bytes : List ℕ)
-        × Consumes (R.remaining reader.old) (R.remaining reader.new) bytes
-        × ((front : List ℕ) → Holds front reply → IsRefused (front ++ bytes) status) }
-    ensures no_more { IsErrOf result AskFault.Read
-        → Keeps (R.remaining reader.old) (R.remaining reader.new) }
+        → IsFaultAt fault (method_of reply) (most_of reply) front bytes)) }
+    ensures read { HasReadCause result (lent_failed reader.old) (lent_failed reader.new) }
     ensures call { IfOk result (λ after.
         (method_of after ≡ method_of reply) × (most_of after ≡ most_of reply)) }
     ensures fewer { IfOk result (λ after. owed_of after < owed_of reply) }
@@ -127,6 +142,3 @@ fn read_more<R: Read>(reader: &mut R, piece: &mut [u8], reply: Reply) -> Result<
     }
     reply.give(&piece[..count])
 }
-
-#[cfg(test)]
-mod tests;

@@ -2,6 +2,7 @@ ghost use Rattle.std.specs.Prelude.{◌≡◌, ◌≢◌, ◌≤◌, ◌<◌, []
 ghost use Rattle.grpc_frame.specs.Frame.{frame};
 ghost use Rattle.grpc_frame.specs.Split.{BeginsWithNoFrame, max_content_len};
 ghost use Rattle.client.specs.GrpcFrames.{IsSoundFront, FitsIn, IsFlagged, missing_in};
+ghost use Rattle.client.specs.Reply.{IsOfResponse};
 
 use crate::ask_fault::AskFault;
 use grpc_frame::{Frame, SplitFault, Splitter};
@@ -67,7 +68,7 @@ pub(crate) fn next_frame(
     ensures sound { IfOk result (λ taken. IfNone taken (IsSoundFront more splitter.new)) }
     ensures bad { IsErrOf result AskFault.BadResponse
         → ¬ IsSoundFront more (splitter.old ++ piece.now) }
-    ensures faults { IfErr result (λ fault. fault ≢ AskFault.Read) }
+    ensures faults { IfErr result IsOfResponse }
     ensures refused { (status : ℕ) → ¬ IsErrOf result (AskFault.Http status) }
 {
     splitter.feed(piece)?;

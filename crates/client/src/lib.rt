@@ -35,6 +35,7 @@ mod grpc_frames;
 mod http_framing;
 mod kept;
 mod laws;
+mod lent;
 mod reply;
 mod request;
 mod response_body;
@@ -42,9 +43,7 @@ mod told;
 mod transfer;
 
 pub use ask_fault::AskFault;
-pub use asking::ask;
+pub use asking::{ask, ask_through};
 pub use laws::{frames_tell, written_frames_tell, written_trailers_tell};
+pub use lent::Lent;
 pub use told::{Ended, Told};
-
-#[cfg(test)]
-mod tests;

@@ -61,6 +61,3 @@ fn head_front(method: Method) -> &'static [u8]
         }
     }
 }
-
-#[cfg(test)]
-mod tests;

@@ -1,17 +1,24 @@
 //! A whole text through a writer. An error of any kind ends it at once, `Interrupted` too.
 
-ghost use Rattle.std.specs.Prelude.{◌≡◌, ℕ, take, length, OnOk, OnErr, IfErr};
+ghost use Rattle.std.specs.Prelude.{◌≡◌, ℕ, true, take, length, OnOk, OnErr, IfErr};
 ghost use Rattle.std.specs.Io.KnownBytes.{Appends};
+ghost use Rattle.client.specs.Lent.{lent_inner, lent_failed};
 
 use crate::ask_fault::AskFault;
+use crate::lent::Lent;
 use std::io::Write;
 
 /// Writes the whole text and flushes it.
-pub(crate) fn send<W: Write>(writer: &mut W, text: &[u8]) -> Result<(), AskFault>
-    ensures ok { OnOk result (Appends (W.contents writer.old) (W.contents writer.new) text.now) }
+pub(crate) fn send<W: Write>(writer: &mut Lent<'_, W>, text: &[u8]) -> Result<(), AskFault>
+    ensures reference { writer.new.inner.ghost_name ≡ writer.old.inner.ghost_name }
+    ensures ok { OnOk result (Appends (W.contents (lent_inner writer.old))
+        (W.contents (lent_inner writer.new)) text.now) }
     ensures front { OnErr result ((taken : ℕ)
-        × Appends (W.contents writer.old) (W.contents writer.new) (take taken text.now)) }
+        × Appends (W.contents (lent_inner writer.old)) (W.contents (lent_inner writer.new))
+        (take taken text.now)) }
     ensures err { IfErr result (λ fault. fault ≡ AskFault.Write) }
+    ensures kept { OnOk result (lent_failed writer.new ≡ lent_failed writer.old) }
+    ensures failed { OnErr result (lent_failed writer.new ≡ true) }
 {
     let mut taken = 0;
     while taken < text.len() {

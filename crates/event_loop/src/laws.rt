@@ -17,13 +17,15 @@ use web_call::Door;
 pub fn turns_chain<D: Door>()
     ensures begins { (source : Source) (entries : List Entry)
         (input output : Option (List ℕ)) (call : Call)
-        → HasGone source D.follows entries entries input input output output call call nothing_moved }
+        → HasGone source D.follows entries entries input input output output call call
+        nothing_moved }
     ensures waits { (source : Source) (first now later : List Entry)
         (input input_now output output_now : Option (List ℕ)) (call call_now : Call) (moved : Moved)
         → IsTransitive D.follows
         → HasGone source D.follows first now input input_now output output_now call call_now moved
         → D.follows now later
-        → HasGone source D.follows first later input input_now output output_now call call_now moved }
+        → HasGone source D.follows first later input input_now output output_now call call_now
+        moved }
     ensures goes_on { (source : Source) (first : List Entry) (turn : Turn) (door door_now : D)
         (input between input_now output sent_by output_now : Option (List ℕ))
         (reader writer : Last) (call mid call_now : Call) (fate : Fate) (moved more : Moved)

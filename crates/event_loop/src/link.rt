@@ -80,9 +80,12 @@ impl<R: Read> Link<R> {
     pub fn read(&mut self, buffer: &mut [u8]) -> Option<usize>
         requires { 0 < length buffer.old }
         ensures some { IfSome result (λ count. (0 < count) × (count ≤ length buffer.new)
-            × Consumes (R.remaining (link_inner self.old)) (R.remaining (link_inner self.new)) (take count buffer.new)) }
-        ensures none { IfNone result (Consumes (R.remaining (link_inner self.old)) (R.remaining (link_inner self.new)) []) }
-        ensures ended { link_last self.new ≡ Last.Ended → IsAtEnd (R.remaining (link_inner self.new)) }
+            × Consumes (R.remaining (link_inner self.old)) (R.remaining (link_inner self.new))
+            (take count buffer.new)) }
+        ensures none { IfNone result
+            (Consumes (R.remaining (link_inner self.old)) (R.remaining (link_inner self.new)) []) }
+        ensures ended { link_last self.new ≡ Last.Ended
+            → IsAtEnd (R.remaining (link_inner self.new)) }
         ensures last { has_stopped (link_last self.new) ≡ is_none result }
         ensures len { length buffer.new ≡ length buffer.old }
     {
@@ -96,8 +99,10 @@ impl<W: Write> Link<W> {
     pub fn write(&mut self, bytes: &[u8]) -> Option<usize>
         requires { 0 < length bytes.now }
         ensures some { IfSome result (λ count. (0 < count) × (count ≤ length bytes.now)
-            × Appends (W.contents (link_inner self.old)) (W.contents (link_inner self.new)) (take count bytes.now)) }
-        ensures none { IfNone result (Appends (W.contents (link_inner self.old)) (W.contents (link_inner self.new)) []) }
+            × Appends (W.contents (link_inner self.old)) (W.contents (link_inner self.new))
+            (take count bytes.now)) }
+        ensures none { IfNone result
+            (Appends (W.contents (link_inner self.old)) (W.contents (link_inner self.new)) []) }
         ensures last { has_stopped (link_last self.new) ≡ is_none result }
     {
         let moved = self.inner.write(bytes);

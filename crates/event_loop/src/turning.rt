@@ -4,6 +4,7 @@ ghost use Rattle.std.specs.Io.KnownBytes.{IsAtEnd};
 ghost use Rattle.desk_core.specs.declared.entry.Entry.{Entry};
 ghost use Rattle.event_loop.specs.Link.{link_inner, link_last, has_stopped};
 ghost use Rattle.event_loop.specs.Turn.{Moved, fate_of, fate_told, moved_by, HasRead, HasWritten, HasTold, HasTurned, Leaves};
+ghost use Rattle.web_call.specs.Answer.{source_of};
 ghost use Rattle.web_call.specs.declared.outcome.Outcome.{Outcome};
 ghost use Rattle.web_call.specs.Past.{CarriesFor, with_asked};
 ghost use Rattle.web_call.specs.Stages.{IsPast, ending_of, ends_watch, is_answered, is_open, is_starved, is_watching, to_send};
@@ -70,11 +71,17 @@ fn read_some<R: Read>(
 ) -> Gained
     requires room { 0 < length buffer.old }
     requires is_open { is_open call.old ≡ true }
-    ensures received { (received behind : List ℕ) × HasRead (R.remaining (link_inner reader.old)) (R.remaining (link_inner reader.new)) call.old call.new received behind
-        × (result ≡ Gained.More → 0 < length received) × (length behind ≤ length buffer.old) × ((result ≡ Gained.Behind) ↔ (behind ≢ [])) }
-    ensures goes { result ≡ Gained.More → (is_open call.new ≡ true) × (link_last reader.new ≡ Last.Went) }
-    ensures stops { result ≢ Gained.More → is_open call.new ≡ true → has_stopped (link_last reader.new) ≡ true }
-    ensures at_end { link_last reader.new ≡ Last.Ended → IsAtEnd (R.remaining (link_inner reader.new)) }
+    ensures received { (received behind : List ℕ)
+        × HasRead (R.remaining (link_inner reader.old)) (R.remaining (link_inner reader.new))
+        call.old call.new received behind
+        × (result ≡ Gained.More → 0 < length received) × (length behind ≤ length buffer.old)
+        × ((result ≡ Gained.Behind) ↔ (behind ≢ [])) }
+    ensures goes { result ≡ Gained.More → (is_open call.new ≡ true)
+        × (link_last reader.new ≡ Last.Went) }
+    ensures stops { result ≢ Gained.More → is_open call.new ≡ true
+        → has_stopped (link_last reader.new) ≡ true }
+    ensures at_end { link_last reader.new ≡ Last.Ended
+        → IsAtEnd (R.remaining (link_inner reader.new)) }
     ensures unanswered { is_answered call.new ≡ is_answered call.old }
     ensures len { length buffer.new ≡ length buffer.old }
 {
@@ -97,10 +104,14 @@ fn receive<R: Read>(alloc: Global, reader: &mut Link<R>, call: &mut Call, buffer
     requires room { 0 < length buffer.old }
     requires fresh { link_last reader.old ≡ Last.Went }
     requires is_open { is_open call.old ≡ true }
-    ensures received { (received behind : List ℕ) × HasRead (R.remaining (link_inner reader.old)) (R.remaining (link_inner reader.new)) call.old call.new received behind
-        × (is_open call.new ≡ true → link_last reader.new ≡ Last.Went → 0 < length received) × (length behind ≤ length buffer.old)
+    ensures received { (received behind : List ℕ)
+        × HasRead (R.remaining (link_inner reader.old)) (R.remaining (link_inner reader.new))
+        call.old call.new received behind
+        × (is_open call.new ≡ true → link_last reader.new ≡ Last.Went → 0 < length received)
+        × (length behind ≤ length buffer.old)
         × ((result ≡ true) ↔ (behind ≢ [])) }
-    ensures at_end { link_last reader.new ≡ Last.Ended → IsAtEnd (R.remaining (link_inner reader.new)) }
+    ensures at_end { link_last reader.new ≡ Last.Ended
+        → IsAtEnd (R.remaining (link_inner reader.new)) }
     ensures unanswered { is_answered call.new ≡ is_answered call.old }
 {
     let mut reads = 0;
@@ -123,10 +134,15 @@ fn read_request<R: Read>(
 ) -> bool
     requires room { 0 < length buffer.old }
     requires fresh { link_last reader.old ≡ Last.Went }
-    ensures received { (received behind : List ℕ) × HasRead (R.remaining (link_inner reader.old)) (R.remaining (link_inner reader.new)) call.old call.new received behind
-        × (is_open call.new ≡ true → link_last reader.new ≡ Last.Went → 0 < length received) × (length behind ≤ length buffer.old)
-        × ((result ≡ true) ↔ (behind ≢ [])) × (is_open call.old ≡ false → (received ≡ []) × (behind ≡ [])) }
-    ensures at_end { link_last reader.new ≡ Last.Ended → IsAtEnd (R.remaining (link_inner reader.new)) }
+    ensures received { (received behind : List ℕ)
+        × HasRead (R.remaining (link_inner reader.old)) (R.remaining (link_inner reader.new))
+        call.old call.new received behind
+        × (is_open call.new ≡ true → link_last reader.new ≡ Last.Went → 0 < length received)
+        × (length behind ≤ length buffer.old)
+        × ((result ≡ true) ↔ (behind ≢ []))
+        × (is_open call.old ≡ false → (received ≡ []) × (behind ≡ [])) }
+    ensures at_end { link_last reader.new ≡ Last.Ended
+        → IsAtEnd (R.remaining (link_inner reader.new)) }
     ensures unanswered { is_answered call.new ≡ is_answered call.old }
     ensures closed { is_open call.old ≡ false → (call.new ≡ call.old) × (reader.new ≡ reader.old) }
 {
@@ -141,7 +157,7 @@ fn read_request<R: Read>(
 fn reply<D: Door>(alloc: Global, door: &mut D, call: &mut Call)
     requires read { is_open call.old ≡ false }
     ensures asked { (asked : List (List Entry)) × AsksDoor D.seen D.follows door.old door.new asked
-        × CarriesFor (record { names = D.names door.old; kept = D.kept }) call.old call.new (with_asked asked)
+        × CarriesFor (source_of (D.names door.old) D.kept) call.old call.new (with_asked asked)
         × (length asked ≤ 1) × (is_answered call.old ≡ true → asked ≡ []) }
     ensures ready { is_answered call.new ≡ not (is_starved call.new) }
     ensures lasts { ends_watch (ending_of call.new) ≡ true → call.new ≡ call.old }
@@ -156,10 +172,14 @@ fn reply<D: Door>(alloc: Global, door: &mut D, call: &mut Call)
 /// Writes once, where there is something to send. It tells whether bytes went.
 fn send_some<W: Write>(writer: &mut Link<W>, call: &mut Call) -> bool
     requires fresh { link_last writer.old ≡ Last.Went }
-    ensures written { (sent : List ℕ) × HasWritten (W.contents (link_inner writer.old)) (W.contents (link_inner writer.new)) call.old call.new sent
-        × OnTrue result (0 < length sent) × (length (to_send call.new) + length sent ≡ length (to_send call.old)) }
+    ensures written { (sent : List ℕ)
+        × HasWritten (W.contents (link_inner writer.old)) (W.contents (link_inner writer.new))
+        call.old call.new sent
+        × OnTrue result (0 < length sent)
+        × (length (to_send call.new) + length sent ≡ length (to_send call.old)) }
     ensures goes { OnTrue result (link_last writer.new ≡ Last.Went) }
-    ensures stops { OnFalse result (to_send call.new ≢ [] → has_stopped (link_last writer.new) ≡ true) }
+    ensures stops { OnFalse result (to_send call.new ≢ []
+        → has_stopped (link_last writer.new) ≡ true) }
     ensures all { to_send call.new ≡ [] → link_last writer.new ≡ Last.Went }
     ensures watching { is_watching call.new ≡ is_watching call.old }
     ensures ending { ending_of call.new ≡ ending_of call.old }
@@ -178,7 +198,9 @@ fn send_some<W: Write>(writer: &mut Link<W>, call: &mut Call) -> bool
 /// Writes what there is to send, as far as it goes without waiting.
 fn send<W: Write>(writer: &mut Link<W>, call: &mut Call)
     requires fresh { link_last writer.old ≡ Last.Went }
-    ensures written { (sent : List ℕ) × HasWritten (W.contents (link_inner writer.old)) (W.contents (link_inner writer.new)) call.old call.new sent
+    ensures written { (sent : List ℕ)
+        × HasWritten (W.contents (link_inner writer.old)) (W.contents (link_inner writer.new))
+        call.old call.new sent
         × (to_send call.new ≢ [] → link_last writer.new ≡ Last.Went → 0 < length sent)
         × (length (to_send call.new) + length sent ≡ length (to_send call.old)) }
     ensures all { to_send call.new ≡ [] → link_last writer.new ≡ Last.Went }
@@ -216,11 +238,15 @@ fn watch<W: Write, D: Door>(writer: &mut Link<W>, door: &mut D, call: &mut Call)
     requires watching { is_watching call.old ≡ true }
     requires told { to_send call.old ≡ [] }
     requires fresh { link_last writer.old ≡ Last.Went }
-    ensures told { (asked : List (List Entry)) × (sent : List ℕ) × HasTold (record { names = D.names door.old; kept = D.kept }) D.seen D.follows door.old door.new
-        (W.contents (link_inner writer.old)) (W.contents (link_inner writer.new)) call.old call.new asked sent
-        × OnFalse result ((to_send call.new ≢ [] → link_last writer.new ≡ Last.Went → 0 < length sent)
+    ensures told { (asked : List (List Entry)) × (sent : List ℕ)
+        × HasTold (source_of (D.names door.old) D.kept) D.seen D.follows door.old door.new
+        (W.contents (link_inner writer.old)) (W.contents (link_inner writer.new)) call.old call.new
+        asked sent
+        × OnFalse result ((to_send call.new ≢ [] → link_last writer.new ≡ Last.Went
+        → 0 < length sent)
         × (is_watching call.new ≡ true → to_send call.new ≡ [] → 0 < length sent)) }
-    ensures rests { OnTrue result ((is_watching call.new ≡ true) × (to_send call.new ≡ []) × IsPast (D.seen door.new) call.new) }
+    ensures rests { OnTrue result ((is_watching call.new ≡ true) × (to_send call.new ≡ [])
+        × IsPast (D.seen door.new) call.new) }
     ensures answered { is_answered call.new ≡ true }
     ensures lasts { (messages : ℕ) → ending_of call.new ≢ Some (Outcome.Watched messages) }
     ensures names { D.names door.new ≡ D.names door.old }
@@ -243,7 +269,8 @@ fn watch<W: Write, D: Door>(writer: &mut Link<W>, door: &mut D, call: &mut Call)
 
 /// The fate of a call that is answered.
 fn fate_told(call: &Call, last: Last) -> Fate
-    ensures { result ≡ fate_told (is_watching call.now) (nat_eq (length (to_send call.now)) 0) last }
+    ensures { result
+        ≡ fate_told (is_watching call.now) (nat_eq (length (to_send call.now)) 0) last }
 {
     if !call.to_send().is_empty() {
         return fate_of(Why::Write, last);
@@ -260,11 +287,15 @@ fn go_on<W: Write, D: Door>(writer: &mut Link<W>, door: &mut D, call: &mut Call,
     requires watching { is_watching call.old ≡ true }
     requires told { to_send call.old ≡ [] }
     requires fresh { link_last writer.old ≡ Last.Went }
-    ensures told { (asked : List (List Entry)) × (sent : List ℕ) × HasTold (record { names = D.names door.old; kept = D.kept }) D.seen D.follows door.old door.new
-        (W.contents (link_inner writer.old)) (W.contents (link_inner writer.new)) call.old call.new asked sent
-        × Leaves result then (D.seen door.new) Last.Went (link_last writer.new) call.new (moved_by sent asked) × (then ≡ Turn.End → asked ≡ []) }
+    ensures told { (asked : List (List Entry)) × (sent : List ℕ)
+        × HasTold (source_of (D.names door.old) D.kept) D.seen D.follows door.old door.new
+        (W.contents (link_inner writer.old)) (W.contents (link_inner writer.new)) call.old call.new
+        asked sent
+        × Leaves result then (D.seen door.new) Last.Went (link_last writer.new) call.new
+        (moved_by sent asked) × (then ≡ Turn.End → asked ≡ []) }
     ensures answered { is_answered call.new ≡ true }
-    ensures lasts { then ≡ Turn.Look → (messages : ℕ) → ending_of call.new ≢ Some (Outcome.Watched messages) }
+    ensures lasts { then ≡ Turn.Look → (messages : ℕ)
+        → ending_of call.new ≢ Some (Outcome.Watched messages) }
     ensures names { D.names door.new ≡ D.names door.old }
     ensures stays { D.stays door.old door.new }
 {
@@ -287,11 +318,16 @@ fn go_on<W: Write, D: Door>(writer: &mut Link<W>, door: &mut D, call: &mut Call,
 fn tell<W: Write, D: Door>(writer: &mut Link<W>, door: &mut D, call: &mut Call, then: Turn) -> Fate
     requires answered { is_answered call.old ≡ true }
     requires fresh { link_last writer.old ≡ Last.Went }
-    ensures told { (asked : List (List Entry)) × (sent : List ℕ) × HasTold (record { names = D.names door.old; kept = D.kept }) D.seen D.follows door.old door.new
-        (W.contents (link_inner writer.old)) (W.contents (link_inner writer.new)) call.old call.new asked sent
-        × Leaves result then (D.seen door.new) Last.Went (link_last writer.new) call.new (moved_by sent asked) × (then ≡ Turn.End → asked ≡ []) }
+    ensures told { (asked : List (List Entry)) × (sent : List ℕ)
+        × HasTold (source_of (D.names door.old) D.kept) D.seen D.follows door.old door.new
+        (W.contents (link_inner writer.old)) (W.contents (link_inner writer.new)) call.old call.new
+        asked sent
+        × Leaves result then (D.seen door.new) Last.Went (link_last writer.new) call.new
+        (moved_by sent asked) × (then ≡ Turn.End → asked ≡ []) }
     ensures answered { is_answered call.new ≡ true }
-    ensures lasts { then ≡ Turn.Look → (messages : ℕ) → ending_of call.new ≡ Some (Outcome.Watched messages) → ending_of call.old ≡ Some (Outcome.Watched messages) }
+    ensures lasts { then ≡ Turn.Look → (messages : ℕ)
+        → ending_of call.new ≡ Some (Outcome.Watched messages)
+        → ending_of call.old ≡ Some (Outcome.Watched messages) }
     ensures names { D.names door.new ≡ D.names door.old }
     ensures stays { D.stays door.old door.new }
 {
@@ -322,12 +358,16 @@ pub fn turn<R: Read, W: Write, D: Door>(
     requires room { 0 < length buffer.old }
     requires reader { link_last reader.old ≡ Last.Went }
     requires writer { link_last writer.old ≡ Last.Went }
-    ensures turned { (moved : Moved) × HasTurned (record { names = D.names door.old; kept = D.kept }) D.seen D.follows then door.old door.new
-        (R.remaining (link_inner reader.old)) (R.remaining (link_inner reader.new)) (W.contents (link_inner writer.old)) (W.contents (link_inner writer.new))
+    ensures turned { (moved : Moved)
+        × HasTurned (source_of (D.names door.old) D.kept) D.seen D.follows then door.old door.new
+        (R.remaining (link_inner reader.old)) (R.remaining (link_inner reader.new))
+        (W.contents (link_inner writer.old)) (W.contents (link_inner writer.new))
         (link_last reader.new) (link_last writer.new) call.old call.new result.fate moved
-        × (length moved.behind ≤ length buffer.old) × ((result.is_followed ≡ true) ↔ (moved.behind ≢ [])) }
+        × (length moved.behind ≤ length buffer.old)
+        × ((result.is_followed ≡ true) ↔ (moved.behind ≢ [])) }
     ensures closed { is_open call.old ≡ false → reader.new ≡ reader.old }
-    ensures at_end { link_last reader.new ≡ Last.Ended → IsAtEnd (R.remaining (link_inner reader.new)) }
+    ensures at_end { link_last reader.new ≡ Last.Ended
+        → IsAtEnd (R.remaining (link_inner reader.new)) }
     ensures names { D.names door.new ≡ D.names door.old }
     ensures stays { D.stays door.old door.new }
 {

@@ -1,16 +1,17 @@
 -- Texts of one or two frames: how many are whole among their first bytes.
-use Rattle.std.proofs.Common.{◌≡◌, refl, sym, ap, ◌∙◌, ℕ, ◌+◌, ◌-◌, ◌≤◌, ◌<◌, None, Some, List, [], ◌∷◌, ◌++◌, length, append-nil, length-append, inl, inr, false, codes, arith}
+use Rattle.std.proofs.Common.{◌≡◌, refl, sym, ap, ◌∙◌, ℕ, ◌+◌, ◌-◌, ◌≤◌, ◌<◌, Option, None, Some, is_none, List, [], ◌∷◌, ◌++◌, length, append-nil, inl, inr, false, codes, arith}
+use Rattle.std.proofs.lemmas.Fmt.{decimal_digit}
 use Rattle.std.proofs.lemmas.Bool.{cases_lt, le-leb, lt-leb}
 use Rattle.std.specs.Fmt.{digits}
-use Rattle.grpc_frame.specs.declared.code.Code.TheVariants.{Ok, Unavailable}
+use Rattle.grpc_frame.specs.declared.code.Code.TheVariants.{Ok, NotFound, Unavailable}
 use Rattle.grpc_frame.specs.Frame.{frame}
-use Rattle.grpc_frame.specs.Trailers.{block}
+use Rattle.grpc_frame.specs.Trailers.{block, header_line}
 use Rattle.health_wire.specs.declared.serving.Serving.{Serving}
 use Rattle.web_call.specs.Pieces.{Piece, plain, framed, text_of, frames_within}
 use Rattle.web_call.specs.declared.text.Text.{Text}
 use Rattle.web_call.specs.Response.{check_body_text}
 use Rattle.web_call.specs.Text.{IsTextOf, ends_by, text_bytes}
-use Rattle.web_call.specs.ResponseTexts.{body_head, check_pieces, crlf, message_chunk, message_frame, watch_head_text, watch_end}
+use Rattle.web_call.specs.ResponseTexts.{body_head, check_pieces, check_response, crlf, message_chunk, message_frame, watch_head_text, watch_end}
 use Rattle.web_call.proofs.PieceLemmas.{frames_of, length_around, one_frame_whole, one_frame_cut}
 use Rattle.web_call.proofs.ResponseLemmas.{two_all, two_first, two_none, two_length}
 
@@ -82,18 +83,34 @@ text_of_two head bytes last text place end some is first second at all = record 
 frame_some : (flag : ℕ) (content : List ℕ) → 0 < length (frame flag content)
 frame_some flag content = omega arith
 
--- the response to a Check with a status
-pub text_of_check : (status : Serving) (text : Text) (body : List ℕ) (place end : ℕ) → body ≡ check_body_text (Some status)
-    → text_bytes text ≡ body_head (length body) ++ body → text.first_end ≡ Some place → text.second_end ≡ Some end
-    → place ≡ end - length body + length (message_frame status) → end ≡ length (text_bytes text) → IsTextOf text (check_pieces (Some status))
-text_of_check status text body place end is whole first second at all =
+-- the trailers of OK are as long as that, whatever stands before them
+ok_trailers_length : length (frame 128 (block Ok [])) ≡ 20
+ok_trailers_length = ap (λ digits. length (frame 128 (header_line (codes "grpc-status:") digits ++ []))) (decimal_digit 0 (omega arith))
+
+pub check_response_length : (status : Option Serving) → is_none status ≡ false → 20 ≤ length (check_response status)
+check_response_length (Some status) some =
     let message = message_frame status in
     let trailers = frame 128 (block Ok []) in
-    let same : body ≡ message ++ (trailers ++ []) = is ∙ ap (λ rest. message ++ rest) (sym (append-nil trailers)) in
-    let long : length (text_bytes text) ≡ length (body_head (length body)) + length body = ap length whole ∙ length-append (body_head (length body)) body in
-    let head : length (body_head (length body)) ≡ length (body_head (length (message ++ (trailers ++ [])))) = ap (λ bytes. length (body_head (length bytes))) same in
-    text_of_two (body_head (length (message ++ (trailers ++ [])))) message trailers text place end (frame_some 128 (block Ok []))
-    (whole ∙ ap (λ bytes. body_head (length bytes) ++ bytes) same) first second (omega (arith, at, all, long, head)) all
+    omega (arith, two_length (body_head (length (message ++ (trailers ++ [])))) message trailers, ok_trailers_length)
+check_response_length None some = absurd (grind (arith, some))
+
+-- a head and the body of a Check's response are the response
+pub check_response_of : (status : Option Serving) (body : List ℕ) → body ≡ check_body_text status → body_head (length body) ++ body ≡ check_response status
+check_response_of (Some status) body is =
+    ap (λ bytes. body_head (length bytes) ++ bytes) (is ∙ ap (λ rest. message_frame status ++ rest) (sym (append-nil (frame 128 (block Ok [])))))
+check_response_of None body is =
+    ap (λ bytes. body_head (length bytes) ++ bytes) (is ∙ sym (append-nil (frame 128 (block NotFound (codes "unknown service")))))
+
+-- the response to a Check with a status
+pub text_of_check : (status : Option Serving) (text : Text) (place end : ℕ) → is_none status ≡ false → text_bytes text ≡ check_response status
+    → text.first_end ≡ Some place → text.second_end ≡ Some end → place + 20 ≡ end → end ≡ length (text_bytes text) → IsTextOf text (check_pieces status)
+text_of_check (Some status) text place end some whole first second at all =
+    let message = message_frame status in
+    let trailers = frame 128 (block Ok []) in
+    let head = body_head (length (message ++ (trailers ++ []))) in
+    text_of_two head message trailers text place end (frame_some 128 (block Ok [])) whole first second
+    (omega (arith, at, all, ap length whole, two_length head message trailers, ok_trailers_length)) all
+text_of_check None text place end some whole first second at all = absurd (grind (arith, some))
 
 -- the line of a chunk's size
 abbrev size_line : List ℕ → Piece

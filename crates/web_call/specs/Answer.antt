@@ -43,6 +43,10 @@ pub record Source : Type 0 where
   pub names : List (List ℕ)
   pub kept : Option ℕ
 
+-- these names, of which so many changes are kept
+abbrev pub source_of : List (List ℕ) → Option ℕ → Source
+source_of names kept = record { names = names; kept = kept }
+
 -- what is answered: a request of this head and body, at the histories that the door had each time it was asked
 pub record Asking : Type 0 where
   pub source : Source

@@ -83,3 +83,6 @@ refusal_response http = text_of (refusal_pieces http)
 
 abbrev pub status_response : Code → List ℕ → List ℕ
 status_response code text = text_of (status_pieces code text)
+
+abbrev pub check_response : Option Serving → List ℕ
+check_response status = text_of (check_pieces status)

@@ -46,11 +46,9 @@ fn refusal_of(fault: FrameFault) -> Ask<'static>
 
 /// A body asks one thing at most.
 pub fn one_ask()
-    ensures { (method : Method) (body : List ℕ) (a b : Asked) → IsAsked method body a → IsAsked method body b → a ≡ b }
+    ensures { (method : Method) (body : List ℕ) (a b : Asked) → IsAsked method body a
+        → IsAsked method body b → a ≡ b }
 {
     one_answer();
     one_request();
 }
-
-#[cfg(test)]
-mod tests;

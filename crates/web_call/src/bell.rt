@@ -18,6 +18,8 @@ pub trait Bell {
 
     /// May wait for as long as there is nothing to look for. After an End it gives no Look.
     fn wait(&mut self) -> Turn
-        ensures look { result ≡ Turn.Look → (is_over self.old ≡ false) × (is_over self.new ≡ false) × (given self.new ≡ given self.old + 1) }
-        ensures end { result ≡ Turn.End → (is_over self.new ≡ true) × (given self.new ≡ given self.old) };
+        ensures look { result ≡ Turn.Look → (is_over self.old ≡ false) × (is_over self.new ≡ false)
+            × (given self.new ≡ given self.old + 1) }
+        ensures end { result ≡ Turn.End → (is_over self.new ≡ true)
+            × (given self.new ≡ given self.old) };
 }

@@ -43,7 +43,8 @@ pub trait Door {
         ensures legal { IsLegal (seen self.new) }
         ensures follows { follows (seen self.old) (seen self.new) }
         ensures stays { stays self.old self.new }
-        ensures watch { result.0 ≡ opened (changes_of (seen self.new)) (slot_of (names self.old) name.now) }
+        ensures watch { result.0 ≡ opened (changes_of (seen self.new))
+            (slot_of (names self.old) name.now) }
         ensures status { result.1 ≡ shown (seen self.new) (slot_of (names self.old) name.now) };
 
     /// The next status change of the watch's service, if there is one by now, unless the watch is behind: then it stays as it is.
@@ -52,8 +53,10 @@ pub trait Door {
         ensures legal { IsLegal (seen self.new) }
         ensures follows { follows (seen self.old) (seen self.new) }
         ensures stays { stays self.old self.new }
-        ensures status { IfOk result (λ status. status ≡ (stepped (changes_of (seen self.new)) watch.old).0) }
-        ensures watch { OnOk result (watch.new ≡ (stepped (changes_of (seen self.new)) watch.old).1) }
+        ensures status { IfOk result (λ status.
+            status ≡ (stepped (changes_of (seen self.new)) watch.old).0) }
+        ensures watch { OnOk result
+            (watch.new ≡ (stepped (changes_of (seen self.new)) watch.old).1) }
         ensures behind { IsErr result ↔ IsBehind kept (changes_of (seen self.new)) watch.old }
         ensures left { OnErr result (watch.new ≡ watch.old) };
 }

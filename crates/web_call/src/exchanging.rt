@@ -3,7 +3,7 @@ ghost use Rattle.std.specs.Bool.{OnTrue, OnFalse};
 ghost use Rattle.std.specs.Io.KnownBytes.{Appends, Consumes, IsAtEnd};
 ghost use Rattle.desk_core.specs.declared.entry.Entry.{Entry};
 ghost use Rattle.web_call.specs.declared.outcome.Outcome.{Outcome};
-ghost use Rattle.web_call.specs.Answer.{IsAnswered, Sends};
+ghost use Rattle.web_call.specs.Answer.{IsAnswered, Sends, source_of};
 ghost use Rattle.web_call.specs.Exchange.{HasEnded, Meets, ReadsCut, Starves};
 ghost use Rattle.web_call.specs.InputHead.{IsHead};
 ghost use Rattle.web_call.specs.Past.{Carries, CarriesFor, with_asked, with_received, with_sent};
@@ -87,7 +87,8 @@ fn receive<R: Read>(alloc: Global, reader: &mut Tap<R>, call: &mut Call) -> bool
         × Carries call.old call.new (with_received bytes) }
     ensures kept { OnTrue result (tap_failed reader.new ≡ tap_failed reader.old) }
     ensures idle { tap_idle reader.new ≡ tap_idle reader.old }
-    ensures cause { OnFalse result ((tap_failed reader.new ≡ true) ⊎ IsAtEnd (R.remaining (tap_inner reader.new))) }
+    ensures cause { OnFalse result ((tap_failed reader.new ≡ true)
+        ⊎ IsAtEnd (R.remaining (tap_inner reader.new))) }
     ensures ends { OnTrue result (is_open call.new ≡ false) }
     ensures is_open { OnFalse result (is_open call.new ≡ true) }
     ensures unanswered { is_answered call.new ≡ is_answered call.old }
@@ -112,7 +113,7 @@ fn reply<D: Door>(alloc: Global, door: &mut D, call: &mut Call)
     requires unanswered { is_answered call.old ≡ false }
     ensures asked { (asked : List (List Entry)) × (length asked ≤ 1)
         × AsksDoor D.seen D.follows door.old door.new asked
-        × CarriesFor (record { names = D.names door.old; kept = D.kept }) call.old call.new
+        × CarriesFor (source_of (D.names door.old) D.kept) call.old call.new
         (with_asked asked) }
     ensures ready { is_answered call.new ≡ not (is_starved call.new) }
     ensures no_end { ends_watch (ending_of call.new) ≡ false }
@@ -157,18 +158,18 @@ fn send<W: Write>(writer: &mut Tap<W>, call: &mut Call) -> bool
 /// Looks, where there may be a Look more and the bell gives one, or else ends the Watch, which a Look ends too that finds it behind. It
 /// tells how many Looks there were.
 fn step<D: Door, B: Bell>(door: &mut D, bell: &mut B, call: &mut Call, had: u32, looks: u32) -> u32
-    requires watching { is_watching call.old ≡ true }
-    requires told { to_send call.old ≡ [] }
+    requires told { (is_watching call.old ≡ true) × (to_send call.old ≡ []) }
     requires most { had ≤ looks }
     ensures asked { (more : List (List Entry)) × AsksDoor D.seen D.follows door.old door.new more
-        × CarriesFor (record { names = D.names door.old; kept = D.kept }) call.old call.new
+        × CarriesFor (source_of (D.names door.old) D.kept) call.old call.new
         (with_asked more)
         × (result ≡ had + length more) × (B.given bell.new ≡ B.given bell.old + length more) }
     ensures most { result ≤ looks }
     ensures goes_on { is_watching call.new ≡ true → result ≡ had + 1 }
     ensures answered { is_answered call.new ≡ true }
     ensures ends { is_watching call.new ≡ false → (messages : ℕ)
-        × (((ending_of call.new ≡ Some (Outcome.Watched messages)) × HasEnded result looks (B.is_over bell.new))
+        × (((ending_of call.new ≡ Some (Outcome.Watched messages))
+        × HasEnded result looks (B.is_over bell.new))
         ⊎ (ending_of call.new ≡ Some (Outcome.Behind messages))) }
     ensures names { D.names door.new ≡ D.names door.old }
     ensures stays { D.stays door.old door.new }
@@ -205,7 +206,7 @@ pub fn exchange<R: Read, W: Write, D: Door, B: Bell>(
         × Meets D.seen D.follows B.given B.is_over limits.looks door.old door.new bell.old bell.new
         asked (Some outcome)
         × IsAnswered (record {
-          source = record { names = D.names door.old; kept = D.kept };
+          source = source_of (D.names door.old) D.kept;
           asked = asked;
           head = head;
           body = body;
@@ -238,7 +239,7 @@ pub fn exchange<R: Read, W: Write, D: Door, B: Bell>(
         × Meets D.seen D.follows B.given B.is_over limits.looks door.old door.new bell.old bell.new
         asked ending
         × Sends (record {
-          source = record { names = D.names door.old; kept = D.kept };
+          source = source_of (D.names door.old) D.kept;
           asked = asked;
           head = head;
           body = body;

@@ -98,6 +98,3 @@ fn answer_to(head: &[u8], request: &RequestSpans, lines: &[HeaderSpan]) -> Heade
         None => Headed::Status(Code::Unimplemented, "unknown method"),
     }
 }
-
-#[cfg(test)]
-mod tests;

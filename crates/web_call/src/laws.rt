@@ -20,10 +20,12 @@ pub fn one_head()
 /// the rest to send, and the whole answer where it ended. Before it is answered nothing was sent and nothing is left to send; while
 /// more is wanted the request is cut, and nobody was asked.
 pub fn whole_calls()
-    ensures whole { (source : Source) (past : Past) (call : Call) (outcome : Outcome) → Stands source past call
+    ensures whole { (source : Source) (past : Past) (call : Call) (outcome : Outcome)
+        → Stands source past call
         → outcome_of call ≡ Some outcome → IsWholeCall source past outcome }
     ensures front { (source : Source) (past : Past) (call : Call) → Stands source past call
-        → is_answered call ≡ true → IsCutCall source past (ending_of call) (to_send call) (frames_of call) }
+        → is_answered call ≡ true → IsCutCall source past (ending_of call) (to_send call)
+        (frames_of call) }
     ensures silent { (source : Source) (past : Past) (call : Call) → Stands source past call
         → is_answered call ≡ false → (past.sent ≡ []) × (to_send call ≡ []) × (frames_of call ≡ 0) }
     ensures wanting { (source : Source) (past : Past) (call : Call) → Stands source past call
@@ -32,7 +34,8 @@ pub fn whole_calls()
         → is_whole call ≡ true → IsWholeRequest past }
     ensures starved { (source : Source) (past : Past) (call : Call) → Stands source past call
         → is_starved call ≡ true → IsStarvedAt past.asked past.received }
-    ensures turns { (call : Call) → (is_open call ≡ true) ⊎ (is_whole call ≡ true) ⊎ (is_watching call ≡ true)
+    ensures turns { (call : Call) → (is_open call ≡ true) ⊎ (is_whole call ≡ true)
+        ⊎ (is_watching call ≡ true)
         ⊎ (is_starved call ≡ true) ⊎ (is_some (ending_of call) ≡ true) }
 {}
 

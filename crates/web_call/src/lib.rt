@@ -68,8 +68,5 @@ pub use lines::{count_named, first_named, is_named};
 pub use method::Method;
 pub use outcome::Outcome;
 pub use response::{check_body, status_body};
-pub use response_texts::{refuse_text, status_text};
+pub use response_texts::{check_text, refuse_text, status_text, watch_head};
 pub use tap::Tap;
-
-#[cfg(test)]
-mod tests;

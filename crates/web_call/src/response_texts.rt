@@ -1,10 +1,10 @@
 ghost use Rattle.std.specs.Prelude.{◌≡◌, ◌++◌, length, IfOk};
 ghost use Rattle.grpc_frame.specs.Trailers.{IsStatusText};
 ghost use Rattle.web_call.specs.Pieces.{text_of};
-ghost use Rattle.web_call.specs.ResponseTexts.{IsRefusal, refusal_response, status_response, body_head, watch_head_text, message_chunk, watch_end};
+ghost use Rattle.web_call.specs.ResponseTexts.{IsRefusal, refusal_response, status_response, check_response, body_head, watch_head_text, message_chunk, watch_end};
 
 use crate::head_limits::HEAD_END;
-use crate::response::status_body;
+use crate::response::{check_body, status_body};
 use grpc_frame::Code;
 use health_wire::Serving;
 use std::alloc::{AllocError, Global};
@@ -49,8 +49,24 @@ pub fn status_text(alloc: Global, code: Code, text: &str) -> Result<Vec<u8>, All
     with_head(alloc, body.as_slice())
 }
 
+/// The response to a Check, for a status or for a name that is not registered.
+#[tactic(auto, using(crate::proofs::TextLemmas::check_response_of))]
+pub fn check_text(alloc: Global, status: Option<Serving>) -> Result<Vec<u8>, AllocError>
+    ensures { IfOk result (λ response. response.items ≡ check_response status) }
+{
+    let body = check_body(alloc, status)?;
+    with_head(alloc, body.as_slice())
+}
+
+/// The head of the response to a Watch, whose messages follow as chunks.
+pub fn watch_head() -> &'static [u8]
+    ensures { result.now ≡ watch_head_text }
+{
+    b"HTTP/1.1 200 OK\r\nconnection: close\r\ncontent-type: application/grpc-web+proto\r\ntransfer-encoding: chunked\r\n\r\n"
+}
+
 /// A response with this body.
-pub(crate) fn with_head(alloc: Global, body: &[u8]) -> Result<Vec<u8>, AllocError>
+fn with_head(alloc: Global, body: &[u8]) -> Result<Vec<u8>, AllocError>
     ensures { IfOk result (λ text. text.items ≡ body_head (length body.now) ++ body.now) }
 {
     let mut text = head_of_length(alloc, body.len())?;
@@ -108,6 +124,3 @@ pub(crate) fn end_chunk() -> &'static [u8]
 {
     b"2f\r\n\x80\0\0\0\x2agrpc-status:14\r\ngrpc-message:watch ended\r\n\r\n0\r\n\r\n"
 }
-
-#[cfg(test)]
-mod tests;

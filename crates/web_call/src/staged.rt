@@ -14,15 +14,15 @@ fn names(alloc: Global) -> Result<Vec<String>, Fail> {
 }
 
 /// A catalogue of `a` and the empty name.
-pub(crate) fn catalogue(alloc: Global) -> Result<Catalogue, Fail> {
+fn catalogue(alloc: Global) -> Result<Catalogue, Fail> {
     Ok(Catalogue::new(alloc, names(alloc)?)?)
 }
 
 /// A catalogue of `a` and the empty name, and a desk on which the empty name alone is registered, and serving until it is set.
 #[derive(Drop)]
 pub struct Staged {
-    pub(crate) catalogue: Catalogue,
-    pub(crate) desk: Desk<Manual>,
+    catalogue: Catalogue,
+    desk: Desk<Manual>,
 }
 
 impl Staged {

@@ -3,14 +3,13 @@ ghost use Rattle.desk_core.specs.Watch.{told};
 ghost use Rattle.grpc_frame.specs.Trailers.{IsStatusText};
 ghost use Rattle.web_call.specs.Pieces.{plain, text_of};
 ghost use Rattle.web_call.specs.Text.{bytes_of, text_bytes, ends_by, frames_by, IsTextOf};
-ghost use Rattle.web_call.specs.ResponseTexts.{IsRefusal, refusal_pieces, status_pieces, check_pieces, message_frame, message_chunk, watch_head_text, watch_end};
+ghost use Rattle.web_call.specs.ResponseTexts.{IsRefusal, refusal_pieces, status_pieces, check_pieces, message_chunk, watch_head_text, watch_end};
 
-use crate::response::check_body;
 use crate::response_texts::{
-    end_chunk, first_chunk, message_chunk, refuse_text, status_text, with_head,
+    check_text, end_chunk, first_chunk, message_chunk, refuse_text, status_text,
 };
 use grpc_frame::Code;
-use health_wire::{Serving, write_response};
+use health_wire::Serving;
 use std::alloc::{AllocError, Global};
 
 /// What stands behind the frame in a chunk.
@@ -19,8 +18,8 @@ const CHUNK_END: &[u8] = b"\r\n";
 /// What stands behind the frame of a Watch's trailers: the end of their chunk, and the last chunk.
 const LAST_CHUNK: &[u8] = b"\r\n0\r\n\r\n";
 
-/// A frame's flag and length.
-const FRAME_HEAD_LEN: usize = 5;
+/// The length of the frame of OK's trailers: a flag, a length of four bytes, and `grpc-status:0` as a line.
+const OK_TRAILERS_LEN: usize = 20;
 
 /// The bytes of a text: made for one call, or the program's own.
 #[derive(Drop)]
@@ -95,15 +94,14 @@ impl Text {
     pub(crate) fn check(alloc: Global, status: Option<Serving>) -> Result<Text, AllocError>
         ensures { IfOk result (λ text. IsTextOf text (check_pieces status)) }
     {
-        let Some(serving) = status else {
+        if status.is_none() {
             return Text::status(alloc, Code::NotFound, "unknown service");
-        };
-        let body = check_body(alloc, status)?;
-        let bytes = with_head(alloc, body.as_slice())?;
+        }
+        let bytes = check_text(alloc, status)?;
         let end = bytes.len();
         Ok(Text {
             bytes: Bytes::Made(bytes),
-            first_end: Some(end - body.len() + message_len(serving)),
+            first_end: Some(end - OK_TRAILERS_LEN),
             second_end: Some(end),
         })
     }
@@ -143,7 +141,8 @@ impl Text {
     fn chunk(bytes: &'static [u8], behind: &[u8]) -> Text
         requires { length behind.now ≤ length bytes.now }
         ensures bytes { text_bytes result ≡ bytes.now }
-        ensures first { (place : ℕ) × (result.first_end ≡ Some place) × (place + length behind.now ≡ length (text_bytes result)) }
+        ensures first { (place : ℕ) × (result.first_end ≡ Some place)
+            × (place + length behind.now ≡ length (text_bytes result)) }
         ensures second { result.second_end ≡ None }
     {
         Text {
@@ -152,13 +151,6 @@ impl Text {
             second_end: None,
         }
     }
-}
-
-/// The length of the frame of a status's message.
-fn message_len(status: Serving) -> usize
-    ensures { result ≡ length (message_frame status) }
-{
-    FRAME_HEAD_LEN + write_response(status).as_slice().len()
 }
 
 fn ends_by(end: Option<usize>, len: usize) -> u32

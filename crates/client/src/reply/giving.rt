@@ -1,7 +1,7 @@
-ghost use Rattle.std.specs.Prelude.{◌≡◌, ◌≢◌, ◌≤◌, ◌<◌, ◌⊎◌, [], ◌∷◌, ◌++◌, ℕ, List, true, false, nat_le, ◌||◌, length, vec_len, IfOk, IfErr, IsErrOf};
+ghost use Rattle.std.specs.Prelude.{◌≡◌, ◌≤◌, ◌<◌, ◌⊎◌, [], ◌∷◌, ◌++◌, ℕ, List, true, false, nat_le, ◌||◌, length, vec_len, IfOk, IfErr, IsErrOf};
 ghost use Rattle.client.specs.declared.reply.Stage.TheVariants as stages;
 ghost use Rattle.client.specs.GrpcFrames.{missing_in};
-ghost use Rattle.client.specs.Reply.{IsBad, IsGoingOn, IsRefused, IsTold};
+ghost use Rattle.client.specs.Reply.{IsBad, IsGoingOn, IsOfResponse, IsRefused, IsTold};
 ghost use Rattle.client.specs.ResponseBody.{is_content, owed_by, wanted_by};
 ghost use Rattle.client.specs.Stages.{Holds, StandsAt, method_of, most_of, owed_at, owed_of, wanted_of};
 ghost use Rattle.web_call.specs.InputHead.{IsHead, IsOpenHead, ends_blank};
@@ -25,7 +25,7 @@ fn behind_head(call: Call, head: &[u8]) -> Result<Stage, AskFault>
         → IsBad call.method call.most head.now }
     ensures http { (status : ℕ) → IsErrOf result (AskFault.Http status) → IsHead head.now
         → IsRefused head.now status }
-    ensures faults { IfErr result (λ fault. fault ≢ AskFault.Read) }
+    ensures faults { IfErr result IsOfResponse }
     ensures fewer { IfOk result (λ stage. (len : ℕ) → owed_at len stage ≤ 71303300) }
 {
     let framing = match framing_of(head) {
@@ -53,7 +53,7 @@ fn behind_body(call: Call, reading: Reading, piece: &[u8]) -> Result<Stage, AskF
         → IsGoingOn call.method call.most bytes reading.body.next reading.body.more
         reading.heard.statuses.items reading.heard.splitter
         → IsBad call.method call.most (bytes ++ piece.now) }
-    ensures faults { IfErr result (λ fault. fault ≢ AskFault.Read) }
+    ensures faults { IfErr result IsOfResponse }
     ensures refused { (status : ℕ) → ¬ IsErrOf result (AskFault.Http status) }
     ensures fewer { IfOk result (λ stage. (len : ℕ)
         → owed_at len stage < owed_by reading.body.next reading.body.more) }
@@ -87,8 +87,9 @@ fn head_after(call: Call, mut head: Vec<u8>, byte: u8) -> Result<Reply, AskFault
         → IsBad call.method call.most (head.items ++ byte ∷ []) }
     ensures http { (status : ℕ) → IsErrOf result (AskFault.Http status) → IsOpenHead head.items
         → IsRefused (head.items ++ byte ∷ []) status }
-    ensures faults { IfErr result (λ fault. fault ≢ AskFault.Read) }
-    ensures call { IfOk result (λ reply. (method_of reply ≡ call.method) × (most_of reply ≡ call.most)) }
+    ensures faults { IfErr result IsOfResponse }
+    ensures call { IfOk result (λ reply.
+        (method_of reply ≡ call.method) × (most_of reply ≡ call.most)) }
     ensures fewer { IfOk result (λ reply. owed_of reply < owed_at (length head.items) stages.Head) }
 {
     head.push(byte)?;
@@ -151,7 +152,7 @@ impl Reply {
             → Holds bytes self → IsBad (method_of self) (most_of self) (bytes ++ piece.now) }
         ensures http { (status : ℕ) → IsErrOf result (AskFault.Http status) → (bytes : List ℕ)
             → Holds bytes self → IsRefused (bytes ++ piece.now) status }
-        ensures faults { IfErr result (λ fault. fault ≢ AskFault.Read) }
+        ensures faults { IfErr result IsOfResponse }
         ensures call { IfOk result (λ reply.
             (method_of reply ≡ method_of self) × (most_of reply ≡ most_of self)) }
         ensures fewer { IfOk result (λ reply. owed_of reply < owed_of self) }

@@ -2,7 +2,7 @@ ghost use Rattle.std.specs.Prelude.{◌≡◌, ◌≢◌, ◌≤◌, ◌<◌, �
 ghost use Rattle.grpc_frame.specs.Frame.{frame};
 ghost use Rattle.grpc_frame.specs.Split.{BeginsWithNoFrame, max_content_len};
 ghost use Rattle.client.specs.GrpcFrames.{missing_in};
-ghost use Rattle.client.specs.Reply.{IsBad, IsGoingOn, is_enough};
+ghost use Rattle.client.specs.Reply.{IsBad, IsGoingOn, IsOfResponse, is_enough};
 ghost use Rattle.client.specs.ResponseBody.{owed_by};
 ghost use Rattle.client.specs.Stages.{IsEnding, StandsAt, owed_at};
 
@@ -79,7 +79,7 @@ fn with_message(
         → IsEnding call.method call.most bytes body.next body.more heard.statuses.items
         (frame 0 message.now)
         → IsBad call.method call.most bytes }
-    ensures faults { IfErr result (λ fault. fault ≢ AskFault.Read) }
+    ensures faults { IfErr result IsOfResponse }
     ensures refused { (status : ℕ) → ¬ IsErrOf result (AskFault.Http status) }
     ensures fewer { IfOk result (λ stage. (len : ℕ)
         → owed_at len stage ≤ owed_by body.next body.more) }
@@ -113,7 +113,7 @@ fn with_trailers(
         → IsEnding call.method call.most bytes body.now.next body.now.more statuses.items
         (frame 128 block.now)
         → IsBad call.method call.most bytes }
-    ensures faults { IfErr result (λ fault. fault ≢ AskFault.Read) }
+    ensures faults { IfErr result IsOfResponse }
     ensures refused { (status : ℕ) → ¬ IsErrOf result (AskFault.Http status) }
     ensures fewer { IfOk result (λ stage. (len : ℕ) → owed_at len stage ≡ 0) }
 {
@@ -150,7 +150,7 @@ fn with_frame(
         → IsEnding call.method call.most bytes body.next body.more heard.statuses.items
         (frame taken.now.flag taken.now.body.items)
         → IsBad call.method call.most bytes }
-    ensures faults { IfErr result (λ fault. fault ≢ AskFault.Read) }
+    ensures faults { IfErr result IsOfResponse }
     ensures refused { (status : ℕ) → ¬ IsErrOf result (AskFault.Http status) }
     ensures fewer { IfOk result (λ stage. (len : ℕ)
         → owed_at len stage ≤ owed_by body.next body.more) }
@@ -179,7 +179,7 @@ pub(super) fn with_content(
         → IsEnding call.method call.most bytes body.next body.more
         heard.statuses.items (heard.splitter ++ piece.now)
         → IsBad call.method call.most bytes }
-    ensures faults { IfErr result (λ fault. fault ≢ AskFault.Read) }
+    ensures faults { IfErr result IsOfResponse }
     ensures refused { (status : ℕ) → ¬ IsErrOf result (AskFault.Http status) }
     ensures fewer { IfOk result (λ stage. (len : ℕ)
         → owed_at len stage ≤ owed_by body.next body.more) }

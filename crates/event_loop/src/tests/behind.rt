@@ -7,8 +7,7 @@ ghost use Rattle.std.specs.Io.KnownBytes.{WriteAppends};
 use crate::Fate;
 use crate::tests::calls::turn_once;
 use crate::tests::streams::{Manner, Trickle};
-use desk_core::sixteen::KeepSixteen;
-use desk_core::{Catalogue, Desk, Setting, Slot};
+use desk_core::{Catalogue, Desk, Keep, Setting, Slot};
 use probe_core::Manual;
 use std::alloc::Global;
 use std::io;
@@ -17,6 +16,20 @@ use std::test::Fail;
 use test_support::requests::WATCH_OF_EMPTY;
 use test_support::same;
 use web_call::{Call, DeskDoor, Outcome, Turn};
+
+/// The last sixteen: in tests much is soon forgotten.
+#[derive(Drop)]
+struct KeepSixteen;
+
+impl Keep for KeepSixteen {
+    ghost use Rattle.std.specs.Prelude.{Some};
+
+    ghost kept = { Some 16 };
+
+    fn kept() -> Option<u32> {
+        Some(16)
+    }
+}
 
 /// The first three statuses, and the one that waited for its client, are told; the end is that of any Watch.
 const TOLD: &[u8] = b"HTTP/1.1 200 OK\r\n\

@@ -10,7 +10,7 @@ ghost use Rattle.web_call.specs.Reading.{is_whole as is_whole_reading};
 ghost use Rattle.web_call.specs.Pieces.{Piece};
 ghost use Rattle.web_call.specs.Request.{IsRequested};
 ghost use Rattle.web_call.specs.Stages.{IsLeftBehind, IsPast, is_whole, is_watching, is_answered, is_starved, ends_watch, ending_of, to_send};
-ghost use Rattle.web_call.specs.Answer.{check_code};
+ghost use Rattle.web_call.specs.Answer.{check_code, source_of};
 ghost use Rattle.web_call.specs.Text.{IsTextOf};
 ghost use Rattle.web_call.specs.ResponseTexts.{watch_end};
 ghost use Rattle.web_call.specs.Walk.{AsksDoor};
@@ -31,7 +31,8 @@ use std::alloc::{AllocError, Global};
 
 /// A call that ends with this text, or one for which an allocation failed.
 fn last(text: Result<Text, AllocError>, outcome: Outcome) -> Call
-    ensures told { (part : List Piece) → IfOk text (λ made. IsTextOf made part) → ((result.stage ≡ stages.Ending outcome) × GoesOut result.outgoing [] part [])
+    ensures told { (part : List Piece) → IfOk text (λ made. IsTextOf made part)
+        → ((result.stage ≡ stages.Ending outcome) × GoesOut result.outgoing [] part [])
         ⊎ ((result.stage ≡ stages.Starved) × GoesOut result.outgoing [] [] []) }
     ensures ready { is_answered result ≡ not (is_starved result) }
     ensures no_end { ends_watch (Some outcome) ≡ false → ends_watch (ending_of result) ≡ false }
@@ -59,9 +60,12 @@ fn check_code(status: Option<Serving>) -> Code
 
 /// A call whose request has this method and this body.
 fn answer_body<D: Door>(alloc: Global, door: &mut D, method: Method, body: &[u8]) -> Call
-    ensures asked { (asked : List (List Entry)) × (length asked ≤ 1) × AsksDoor D.seen D.follows door.old door.new asked
-        × ((head received : List ℕ) → IsRequested head body.now received → IsHeaded head (Asked method (length body.now))
-        → Stands (record { names = D.names door.old; kept = D.kept }) (record { received = received; sent = []; asked = asked }) result) }
+    ensures asked { (asked : List (List Entry)) × (length asked ≤ 1)
+        × AsksDoor D.seen D.follows door.old door.new asked
+        × ((head received : List ℕ) → IsRequested head body.now received
+        → IsHeaded head (Asked method (length body.now))
+        → Stands (source_of (D.names door.old) D.kept)
+        (record { received = received; sent = []; asked = asked }) result) }
     ensures ready { is_answered result ≡ not (is_starved result) }
     ensures no_end { ends_watch (ending_of result) ≡ false }
     ensures names { D.names door.new ≡ D.names door.old }
@@ -89,8 +93,10 @@ fn answer_body<D: Door>(alloc: Global, door: &mut D, method: Method, body: &[u8]
 /// A call whose request this is, which is whole.
 fn answer_request<D: Door>(alloc: Global, door: &mut D, intake: &Intake) -> Call
     requires { is_whole_reading intake.now.reading ≡ true }
-    ensures asked { (asked : List (List Entry)) × (length asked ≤ 1) × AsksDoor D.seen D.follows door.old door.new asked
-        × ((past : Past) (outgoing : Outgoing) → IsReading past intake.now outgoing → Stands (record { names = D.names door.old; kept = D.kept }) (with_asked asked past) result) }
+    ensures asked { (asked : List (List Entry)) × (length asked ≤ 1)
+        × AsksDoor D.seen D.follows door.old door.new asked
+        × ((past : Past) (outgoing : Outgoing) → IsReading past intake.now outgoing
+        → Stands (source_of (D.names door.old) D.kept) (with_asked asked past) result) }
     ensures ready { is_answered result ≡ not (is_starved result) }
     ensures no_end { ends_watch (ending_of result) ≡ false }
     ensures names { D.names door.new ≡ D.names door.old }
@@ -107,8 +113,10 @@ impl Call {
     /// Answers the request, which is whole: asks the door once for a Check or a Watch, and nobody where the request is refused.
     pub fn answer<D: Door>(&mut self, alloc: Global, door: &mut D)
         requires { is_whole self.old ≡ true }
-        ensures asked { (asked : List (List Entry)) × (length asked ≤ 1) × AsksDoor D.seen D.follows door.old door.new asked
-            × CarriesFor (record { names = D.names door.old; kept = D.kept }) self.old self.new (with_asked asked) }
+        ensures asked { (asked : List (List Entry)) × (length asked ≤ 1)
+            × AsksDoor D.seen D.follows door.old door.new asked
+            × CarriesFor (source_of (D.names door.old) D.kept) self.old self.new
+            (with_asked asked) }
         ensures ready { is_answered self.new ≡ not (is_starved self.new) }
         ensures no_end { ends_watch (ending_of self.new) ≡ false }
         ensures names { D.names door.new ≡ D.names door.old }
@@ -124,13 +132,16 @@ impl Call {
     /// Takes a step of the Watch, where all is sent that it was told so far, and has what the step answers to send. A Watch that is
     /// behind is ended, and has its trailers to send.
     pub fn look<D: Door>(&mut self, door: &mut D)
-        requires watching { is_watching self.old ≡ true }
-        requires told { to_send self.old ≡ [] }
+        requires { (is_watching self.old ≡ true) × (to_send self.old ≡ []) }
         ensures asks { AsksDoor D.seen D.follows door.old door.new (D.seen door.new ∷ []) }
-        ensures looked { CarriesFor (record { names = D.names door.old; kept = D.kept }) self.old self.new (with_asked (D.seen door.new ∷ [])) }
-        ensures rests { is_watching self.new ≡ true → to_send self.new ≡ [] → IsPast (D.seen door.new) self.new }
-        ensures behind { is_watching self.new ≡ false ↔ IsLeftBehind D.kept (D.seen door.new) self.old }
-        ensures ended { is_watching self.new ≡ false → (messages : ℕ) × (ending_of self.new ≡ Some (Outcome.Behind messages)) }
+        ensures looked { CarriesFor (source_of (D.names door.old) D.kept) self.old self.new
+            (with_asked (D.seen door.new ∷ [])) }
+        ensures rests { is_watching self.new ≡ true → to_send self.new ≡ []
+            → IsPast (D.seen door.new) self.new }
+        ensures behind { is_watching self.new ≡ false
+            ↔ IsLeftBehind D.kept (D.seen door.new) self.old }
+        ensures ended { is_watching self.new ≡ false → (messages : ℕ)
+            × (ending_of self.new ≡ Some (Outcome.Behind messages)) }
         ensures answered { is_answered self.new ≡ true }
         ensures names { D.names door.new ≡ D.names door.old }
         ensures stays { D.stays door.old door.new }
@@ -163,7 +174,9 @@ impl Call {
     fn close(&mut self, outcome: Outcome)
         requires { to_send self.old ≡ [] }
         ensures stage { self.new.stage ≡ stages.Ending outcome }
-        ensures goes { (done part : List Piece) (sent : List ℕ) → GoesOut self.old.outgoing done part sent → GoesOut self.new.outgoing (done ++ part) watch_end sent }
+        ensures goes { (done part : List Piece) (sent : List ℕ)
+            → GoesOut self.old.outgoing done part sent
+            → GoesOut self.new.outgoing (done ++ part) watch_end sent }
     {
         self.outgoing.follow(Text::end());
         self.stage = Stage::Ending(outcome);

@@ -22,7 +22,8 @@ fn ends_head(head: &[u8]) -> bool
 fn after_head(alloc: Global, head: &[u8], body: &mut Vec<u8>) -> Reading
     requires some { 0 < length head.now }
     requires within { length head.now ≤ 8192 }
-    ensures read { IsOpenHead (take (length head.now - 1) head.now) → body.old.items ≡ [] → AreRead result head.now body.new.items }
+    ensures read { IsOpenHead (take (length head.now - 1) head.now) → body.old.items ≡ []
+        → AreRead result head.now body.new.items }
     ensures empty { body.old.items ≡ [] → body.new.items ≡ [] }
     ensures within { length head.now + head_wanted result ≤ 8192 }
     ensures room { vec_len body.new + body_left result ≤ vec_capacity body.new }
@@ -41,7 +42,8 @@ fn after_head(alloc: Global, head: &[u8], body: &mut Vec<u8>) -> Reading
 
 /// How far a request has come behind a head that asks for a body of this length.
 fn before_body(alloc: Global, len: u32, body: &mut Vec<u8>) -> Reading
-    ensures read { (head : List ℕ) (answer : HeadAnswer) → IsHead head → IsHeaded head answer → body_len answer ≡ len
+    ensures read { (head : List ℕ) (answer : HeadAnswer) → IsHead head → IsHeaded head answer
+        → body_len answer ≡ len
         → body.old.items ≡ [] → AreRead result head body.new.items }
     ensures empty { body.old.items ≡ [] → body.new.items ≡ [] }
     ensures room { vec_len body.new + body_left result ≤ vec_capacity body.new }
@@ -61,7 +63,8 @@ fn before_body(alloc: Global, len: u32, body: &mut Vec<u8>) -> Reading
 
 /// How far a request has come of whose body so many bytes are to come.
 fn after_body(left: u32) -> Reading
-    ensures read { (head body : List ℕ) → HasHead head (length body) left → AreRead result head body }
+    ensures read { (head body : List ℕ) → HasHead head (length body) left
+        → AreRead result head body }
     ensures wanted { wanted result ≡ left }
     ensures left { body_left result ≡ left }
     ensures head { head_wanted result ≡ 0 }
@@ -122,11 +125,13 @@ impl Intake {
     /// Takes bytes up to the end of the request, and tells how many.
     pub(crate) fn give(&mut self, alloc: Global, bytes: &[u8]) -> usize
         ensures bound { result ≤ length bytes.now }
-        ensures read { (received : List ℕ) → HasRead self.old received → HasRead self.new (received ++ take result bytes.now) }
+        ensures read { (received : List ℕ) → HasRead self.old received
+            → HasRead self.new (received ++ take result bytes.now) }
         ensures rest { result < length bytes.now → is_open self.new.reading ≡ false }
         ensures all { length bytes.now ≤ wanted self.old.reading → result ≡ length bytes.now }
         ensures closed { is_open self.old.reading ≡ false → (result ≡ 0) × (self.new ≡ self.old) }
-        ensures owes { owed self.new.reading (vec_len self.new.head) + result ≤ owed self.old.reading (vec_len self.old.head) }
+        ensures owes { owed self.new.reading (vec_len self.new.head) + result
+            ≤ owed self.old.reading (vec_len self.old.head) }
     {
         let taken = self.give_head(alloc, bytes);
         taken + self.give_body(&bytes[taken..])
@@ -135,11 +140,13 @@ impl Intake {
     /// Takes bytes up to the end of the head.
     fn give_head(&mut self, alloc: Global, bytes: &[u8]) -> usize
         ensures bound { result ≤ length bytes.now }
-        ensures read { (received : List ℕ) → HasRead self.old received → HasRead self.new (received ++ take result bytes.now) }
+        ensures read { (received : List ℕ) → HasRead self.old received
+            → HasRead self.new (received ++ take result bytes.now) }
         ensures rest { result < length bytes.now → head_wanted self.new.reading ≡ 0 }
         ensures some { 0 < head_wanted self.old.reading → 0 < length bytes.now → 0 < result }
         ensures closed { head_wanted self.old.reading ≡ 0 → (result ≡ 0) × (self.new ≡ self.old) }
-        ensures owes { owed self.new.reading (vec_len self.new.head) + result ≤ owed self.old.reading (vec_len self.old.head) }
+        ensures owes { owed self.new.reading (vec_len self.new.head) + result
+            ≤ owed self.old.reading (vec_len self.old.head) }
     {
         let mut taken = 0;
         while taken < bytes.len() && self.reading == Reading::Head {
@@ -151,8 +158,10 @@ impl Intake {
 
     fn push(&mut self, alloc: Global, byte: u8)
         requires { self.old.reading ≡ Reading.Head }
-        ensures read { (received : List ℕ) → HasRead self.old received → HasRead self.new (received ++ byte ∷ []) }
-        ensures owes { owed self.new.reading (vec_len self.new.head) + 1 ≤ owed self.old.reading (vec_len self.old.head) }
+        ensures read { (received : List ℕ) → HasRead self.old received
+            → HasRead self.new (received ++ byte ∷ []) }
+        ensures owes { owed self.new.reading (vec_len self.new.head) + 1
+            ≤ owed self.old.reading (vec_len self.old.head) }
     {
         self.head.push_reserved(byte);
         self.reading = after_head(alloc, &self.head, &mut self.body);
@@ -161,11 +170,14 @@ impl Intake {
     /// Takes bytes up to the end of the body, where the head is whole.
     fn give_body(&mut self, bytes: &[u8]) -> usize
         ensures bound { result ≤ length bytes.now }
-        ensures read { (received : List ℕ) → HasRead self.old received → HasRead self.new (received ++ take result bytes.now) }
-        ensures rest { head_wanted self.old.reading ≡ 0 → result < length bytes.now → is_open self.new.reading ≡ false }
+        ensures read { (received : List ℕ) → HasRead self.old received
+            → HasRead self.new (received ++ take result bytes.now) }
+        ensures rest { head_wanted self.old.reading ≡ 0 → result < length bytes.now
+            → is_open self.new.reading ≡ false }
         ensures all { length bytes.now ≤ body_left self.old.reading → result ≡ length bytes.now }
         ensures closed { body_left self.old.reading ≡ 0 → (result ≡ 0) × (self.new ≡ self.old) }
-        ensures owes { owed self.new.reading (vec_len self.new.head) + result ≤ owed self.old.reading (vec_len self.old.head) }
+        ensures owes { owed self.new.reading (vec_len self.new.head) + result
+            ≤ owed self.old.reading (vec_len self.old.head) }
     {
         let Reading::Body { left } = self.reading else {
             return 0;

@@ -49,7 +49,8 @@ impl Outgoing {
         requires { left_of self.old ≡ [] }
         ensures text { self.new.text ≡ text }
         ensures left { left_of self.new ≡ text_bytes text }
-        ensures goes { (done part next : List Piece) (sent : List ℕ) → GoesOut self.old done part sent → IsTextOf text next
+        ensures goes { (done part next : List Piece) (sent : List ℕ)
+            → GoesOut self.old done part sent → IsTextOf text next
             → GoesOut self.new (done ++ part) next sent }
     {
         *self = Outgoing {

@@ -1,13 +1,18 @@
-use Rattle.std.proofs.Common.{take}
+use Rattle.std.proofs.Common.{◌≡◌, take, rules}
 use Rattle.std.proofs.lemmas.Result.{IfOk-weaker}
+use Rattle.client.specs.Lent.{lent_failed}
+use Rattle.client.proofs.AskingLemmas.{given_cause, given_fault}
 use Rattle.client.proofs.asking.read_more.Goals as goal
 
 pub returns-clause-ok : goal.returns-clause-ok
 returns-clause-ok g c =
     IfOk-weaker c.give.result _ _ (λ after gives. (take c.in-Ok.count c.read.new.buf, c.in-Ok.ensures.bytes.0, gives)) c.give.ensures.ok
 
-pub returns-clause-bad : goal.returns-clause-bad
-returns-clause-bad g c = λ is. (take c.in-Ok.count c.read.new.buf, c.in-Ok.ensures.bytes.0, c.give.ensures.bad is)
+pub returns-clause-err : goal.returns-clause-err
+returns-clause-err g c =
+    given_fault c.give.result _ _ (take c.in-Ok.count c.read.new.buf) c.args.reply c.in-Ok.ensures.bytes.0 c.give.ensures.bad c.give.ensures.http c.give.ensures.faults
 
-pub returns-clause-refused : goal.returns-clause-refused
-returns-clause-refused g c = λ status is. (take c.in-Ok.count c.read.new.buf, c.in-Ok.ensures.bytes.0, c.give.ensures.http status is)
+pub returns-clause-read : goal.returns-clause-read
+returns-clause-read g c =
+    let kept : lent_failed c.read.new.self ≡ lent_failed c.args.reader.now = search rules in
+    given_cause c.give.result _ _ c.give.ensures.faults kept

@@ -1,10 +1,12 @@
-use Rattle.std.proofs.Common.{◌≡◌, ◌<◌, ℕ, [], ◌++◌, Err, ap, ◌∙◌, arith}
-use Rattle.std.proofs.KnownBytes.{Consumes-nil, Consumes-trans, Consumes-kept}
+use Rattle.std.proofs.Common.{◌<◌, ℕ, [], ◌++◌, Err, ◌∙◌, refl, sym, subst, inr, arith}
+use Rattle.std.proofs.KnownBytes.{Consumes-nil, Consumes-trans}
+use Rattle.std.proofs.lemmas.List.{append-nil}
 use Rattle.web_call.specs.declared.method.Method.{Method}
-use Rattle.client.specs.declared.ask_fault.AskFault.TheVariants.{BadResponse, Http, Read}
-use Rattle.client.specs.Reply.{IsBad, IsOpen, IsTold}
+use Rattle.client.specs.declared.ask_fault.AskFault.{AskFault}
+use Rattle.client.specs.Ask.{IsFaultAt, Says}
+use Rattle.client.specs.Reply.{IsOpen, IsTold}
 use Rattle.client.specs.Stages.{method_of, most_of, wanted_of}
-use Rattle.client.proofs.AskingLemmas.{open_at, asked_for}
+use Rattle.client.proofs.AskingLemmas.{open_at, asked_for, fault_says}
 use Rattle.client.proofs.asking.read_told.Goals as goal
 
 pub loop-piece-init : goal.loop-piece-init
@@ -12,6 +14,8 @@ loop-piece-init g c = record {
   received = ([], Consumes-nil _, c.in_ok-reply.ensures.begun);
   method = c.in_ok-reply.ensures.call.0;
   most = c.in_ok-reply.ensures.call.1;
+  same = refl;
+  kept = refl;
 }
 
 pub loop-piece-preserved : goal.loop-piece-preserved
@@ -21,43 +25,46 @@ loop-piece-preserved g c =
       received = (before.received.0 ++ read.0, Consumes-trans _ _ _ before.received.0 read.0 before.received.1 read.1, read.2 before.received.0 before.received.2);
       method = c.in-Ok.ensures.call.0 ∙ before.method;
       most = c.in-Ok.ensures.call.1 ∙ before.most;
+      same = c.in-Ok.ensures.reference ∙ before.same;
+      kept = c.in-Ok.ensures.read ∙ before.kept;
     }
 
-pub returns-in-Err-clause-bad : goal.returns-in-Err-clause-bad
-returns-in-Err-clause-bad g c = λ is.
+pub returns-then-is_err-clause-response : goal.returns-then-is_err-clause-response
+returns-then-is_err-clause-response g c =
     let before = c.loop-piece.invariant in
-    let same : c.in-Err.fault ≡ BadResponse = cc in
-    let read = c.in-Err.ensures.bad (ap Err same) in (
+    let reply = c.loop-piece.reply in
+    let is_open : IsOpen (method_of reply) (most_of reply) before.received.0 =
+    open_at (method_of reply) (most_of reply) before.received.0 reply.head.items reply.stage (let wants : 0 < wanted_of reply = omega arith in wants) before.received.2 in (
+      before.received.0,
+      before.received.1,
+      inr (before.received.0, [], sym (append-nil before.received.0), asked_for (λ (method : Method) (most : ℕ). IsOpen method most before.received.0) (method_of reply) c.args.method (most_of reply) c.args.most before.method before.most is_open),
+    )
+
+pub returns-in-Err-clause-response : goal.returns-in-Err-clause-response
+returns-in-Err-clause-response g c =
+    let before = c.loop-piece.invariant in
+    let read = c.in-Err.ensures.err in
+    let reply = c.loop-piece.reply in
+    let is_open : IsOpen (method_of reply) (most_of reply) before.received.0 =
+    open_at (method_of reply) (most_of reply) before.received.0 reply.head.items reply.stage (let wants : 0 < wanted_of reply = omega arith in wants) before.received.2 in (
       before.received.0 ++ read.0,
       Consumes-trans _ _ _ before.received.0 read.0 before.received.1 read.1,
-      asked_for (λ (method : Method) (most : ℕ). IsBad method most (before.received.0 ++ read.0)) _ c.args.method _ c.args.most before.method before.most
-          (read.2 before.received.0 before.received.2),
+      asked_for (λ (method : Method) (most : ℕ). Says (Err c.in-Err.fault) method most (before.received.0 ++ read.0)) (method_of reply) c.args.method (most_of reply) c.args.most before.method before.most
+          (fault_says c.in-Err.fault (method_of reply) (most_of reply) before.received.0 read.0 is_open (read.2 before.received.0 before.received.2)),
     )
 
-pub returns-in-Err-clause-refused : goal.returns-in-Err-clause-refused
-returns-in-Err-clause-refused g c = λ status is.
-    let before = c.loop-piece.invariant in
-    let same : c.in-Err.fault ≡ Http status = cc in
-    let read = c.in-Err.ensures.refused status (ap Err same) in
-    (before.received.0 ++ read.0, Consumes-trans _ _ _ before.received.0 read.0 before.received.1 read.1, read.2 before.received.0 before.received.2)
-
-pub returns-in-Err-clause-no_more : goal.returns-in-Err-clause-no_more
-returns-in-Err-clause-no_more g c = λ is.
-    let before = c.loop-piece.invariant in
-    let same : c.in-Err.fault ≡ Read = cc in
-    let kept = c.in-Err.ensures.no_more (ap Err same) in
-    let reply = c.loop-piece.reply in (
-      before.received.0,
-      Consumes-kept _ _ _ before.received.0 before.received.1 kept,
-      asked_for (λ (method : Method) (most : ℕ). IsOpen method most before.received.0) (method_of reply) c.args.method (most_of reply) c.args.most before.method before.most
-          (open_at (method_of reply) (most_of reply) before.received.0 reply.head.items reply.stage (let wants : 0 < wanted_of reply = omega arith in wants) before.received.2),
-    )
-
-pub returns-clause-told : goal.returns-clause-told
-returns-clause-told g c =
+pub returns-clause-response : goal.returns-clause-response
+returns-clause-response g c =
     let before = c.loop-piece.invariant in (
       before.received.0,
       before.received.1,
       asked_for (λ (method : Method) (most : ℕ). IsTold method most before.received.0 c.into_told.result.statuses.items c.into_told.result.end) _ c.args.method _ c.args.most before.method before.most
           (c.into_told.ensures before.received.0 before.received.2),
     )
+
+pub returns-in-Err-clause-no_write : goal.returns-in-Err-clause-no_write
+returns-in-Err-clause-no_write g c = λ is.
+    let before = c.loop-piece.invariant in
+    let read = c.in-Err.ensures.err in
+    let reply = c.loop-piece.reply in
+    subst (λ (fault : AskFault). IsFaultAt fault (method_of reply) (most_of reply) before.received.0 read.0) is (read.2 before.received.0 before.received.2)

@@ -1,13 +1,17 @@
 use Rattle.std.proofs.Common.{◌≡◌, List, ℕ}
 use Rattle.std.specs.Io.KnownBytes.{Consumes}
+use Rattle.client.specs.Lent.{lent_inner, lent_failed}
 use Rattle.client.specs.Stages.{Holds, method_of, most_of, owed_of}
 use Rattle.client.proofs.asking.read_told.Given as goal
 
 abbrev pub invariant-loop-piece : goal.invariant-loop-piece
 invariant-loop-piece g l = record {
-  received : (bytes : List ℕ) × Consumes (g.R.Read.remaining l.initial.reader) (g.R.Read.remaining l.reader) bytes × Holds bytes l.reply;
+  received : (bytes : List ℕ)
+      × Consumes (g.R.Read.remaining (lent_inner l.initial.reader)) (g.R.Read.remaining (lent_inner l.reader)) bytes × Holds bytes l.reply;
   method : method_of l.reply ≡ l.fn.method;
   most : most_of l.reply ≡ l.fn.most;
+  same : l.reader.inner.ghost_name ≡ l.initial.reader.inner.ghost_name;
+  kept : lent_failed l.reader ≡ lent_failed l.initial.reader;
 }
 
 abbrev pub decreases-loop-piece : goal.decreases-loop-piece

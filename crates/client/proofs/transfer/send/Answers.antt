@@ -4,6 +4,10 @@ use Rattle.client.proofs.transfer.send.Goals as goal
 
 pub loop-taken-preserved : goal.loop-taken-preserved
 loop-taken-preserved g c = record {
-  within = search rules;
-  written = Appends-more _ _ _ _ _ _ c.loop-taken.invariant.written c.in-Ok.ensures.bytes;
+  sent = record {
+    within = search rules;
+    written = Appends-more _ _ _ _ _ _ c.loop-taken.invariant.sent.written c.in-Ok.ensures.bytes;
+  };
+  same = search rules;
+  kept = search rules;
 }

@@ -1,9 +1,14 @@
-use Rattle.std.proofs.Common.{◌-◌, length}
+use Rattle.std.proofs.Common.{◌≡◌, ◌-◌, length}
+use Rattle.client.specs.Lent.{lent_inner, lent_failed}
 use Rattle.client.proofs.TransferLemmas.{IsSent}
 use Rattle.client.proofs.transfer.send.Given as goal
 
 abbrev pub invariant-loop-taken : goal.invariant-loop-taken
-invariant-loop-taken g l = IsSent (g.W.Write.contents l.initial.writer) (g.W.Write.contents l.writer) l.text l.taken
+invariant-loop-taken g l = record {
+  sent : IsSent (g.W.Write.contents (lent_inner l.initial.writer)) (g.W.Write.contents (lent_inner l.writer)) l.text l.taken;
+  same : l.writer.inner.ghost_name ≡ l.initial.writer.inner.ghost_name;
+  kept : lent_failed l.writer ≡ lent_failed l.initial.writer;
+}
 
 abbrev pub decreases-loop-taken : goal.decreases-loop-taken
 decreases-loop-taken g l = length l.text - l.taken

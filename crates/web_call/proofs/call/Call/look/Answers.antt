@@ -26,4 +26,4 @@ returns-in-Err-clause-looked g c = λ past stands.
     let s = subst (λ stage. StandsAt source past stage c.args.self.now.outgoing) c.in-Watching.is stands in
     subst (λ stage. StandsAt source (with_asked (g.D.Door.seen c.step.new.self ∷ []) past) stage c.close.new.self.outgoing) (sym c.close.ensures.stage)
     (left_behind source past c.in-Watching.watch c.args.self.now.outgoing c.close.new.self.outgoing (g.D.Door.seen c.step.new.self) c.frames-messages.result
-    (c.in-Err.ensures.behind.0 refl) c.requires.told c.frames-messages.ensures c.close.ensures.goes s)
+    (c.in-Err.ensures.behind.0 refl) c.requires.1 c.frames-messages.ensures c.close.ensures.goes s)

@@ -1,0 +1,112 @@
+//! A registry that forgets, and its door.
+
+use desk_core::{Behind, Catalogue, Desk, Keep, Setting, Slot, Watch};
+use health_wire::Serving;
+use probe_core::Manual;
+use std::alloc::Global;
+use std::test::Fail;
+use web_call::Door;
+
+/// It keeps the last sixteen changes.
+#[derive(Drop)]
+pub(crate) struct KeepSixteen;
+
+impl Keep for KeepSixteen {
+    ghost use Rattle.std.specs.Prelude.{Some};
+
+    ghost kept = { Some 16 };
+
+    fn kept() -> Option<u32> {
+        Some(16)
+    }
+}
+
+/// A catalogue of `a` and the empty name.
+pub(crate) fn catalogue(alloc: Global) -> Result<Catalogue, Fail> {
+    let mut names = Vec::with_capacity(alloc, 2)?;
+    names.push(String::from_str(alloc, "a")?)?;
+    names.push(String::new(alloc))?;
+    Ok(Catalogue::new(alloc, names)?)
+}
+
+/// A door over its own desk, on which the empty name alone is registered. The name is serving, and set down and up in turn before each
+/// step, so often as a list says. It counts how often it was asked.
+#[derive(Drop)]
+pub(crate) struct Flipping<'a> {
+    desk: Desk<Manual, KeepSixteen>,
+    catalogue: &'a Catalogue,
+    flips: &'a [u32],
+    is_down: bool,
+    asked: u32,
+}
+
+impl<'a> Flipping<'a> {
+    pub(crate) fn new(alloc: Global, catalogue: &'a Catalogue, flips: &'a [u32]) -> Flipping<'a> {
+        let mut desk = Desk::new(alloc, 200);
+        if let Some(slot) = catalogue.slot("") {
+            let _ = desk.register(0, slot, Manual::new());
+            let _ = desk.set(0, slot, Setting::Up);
+        }
+        Flipping {
+            desk,
+            catalogue,
+            flips,
+            is_down: false,
+            asked: 0,
+        }
+    }
+
+    /// How often it was asked.
+    pub(crate) fn asked(&self) -> u32 {
+        self.asked
+    }
+}
+
+/// Sets the slot down and up in turn, so many times, and tells whether it is down then.
+fn flip(desk: &mut Desk<Manual, KeepSixteen>, slot: Slot, was_down: bool, times: u32) -> bool {
+    let mut is_down = was_down;
+    for _ in 0..times {
+        is_down = !is_down;
+        let setting = if is_down { Setting::Down } else { Setting::Up };
+        let _ = desk.set(0, slot, setting);
+    }
+    is_down
+}
+
+impl Door for Flipping<'_> {
+    ghost use Rattle.std.specs.Prelude.{⊤, Some};
+    ghost use Rattle.desk_core.specs.Past.{past};
+
+    ghost names = { λ door. door.catalogue.now };
+
+    ghost seen = { λ door. past door.desk.journal };
+
+    ghost follows = { λ _ _. ⊤ };
+
+    ghost kept = { Some 16 };
+
+    ghost stays = { λ _ _. ⊤ };
+
+    ghost stays_self = { λ _. tt };
+
+    ghost stays_on = { λ _ _ _ _ _. tt };
+
+    fn check(&mut self, name: &str) -> Option<Serving> {
+        self.asked = self.asked.saturating_add(1);
+        self.desk.check(self.catalogue.slot(name))
+    }
+
+    fn open(&mut self, name: &str) -> (Watch, Serving) {
+        self.asked = self.asked.saturating_add(1);
+        self.desk.open(self.catalogue.slot(name))
+    }
+
+    fn step(&mut self, watch: &mut Watch) -> Result<Option<Serving>, Behind> {
+        self.asked = self.asked.saturating_add(1);
+        if let ([times, rest @ ..], Some(slot)) = (self.flips, self.catalogue.slot("")) {
+            self.flips = rest;
+            self.is_down = flip(&mut self.desk, slot, self.is_down, *times);
+        }
+        self.desk.step_kept(watch)
+    }
+}

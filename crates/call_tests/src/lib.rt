@@ -1,0 +1,29 @@
+//! Tests of the crates that make a call, `web_call` and `client`. They see public calls alone.
+#![tactic(auto)]
+
+#[cfg(test)]
+mod answers;
+#[cfg(test)]
+mod bells;
+#[cfg(test)]
+mod clients;
+#[cfg(test)]
+mod doors;
+#[cfg(test)]
+mod exchanges;
+#[cfg(test)]
+mod faults;
+#[cfg(test)]
+mod heads;
+#[cfg(test)]
+mod memory;
+#[cfg(test)]
+mod pieces;
+#[cfg(test)]
+mod rows;
+#[cfg(test)]
+mod runs;
+#[cfg(test)]
+mod texts;
+#[cfg(test)]
+mod watches;

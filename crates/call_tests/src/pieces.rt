@@ -1,0 +1,95 @@
+//! Calls whose request comes in and whose response goes out byte by byte.
+
+use crate::doors::{Flipping, catalogue};
+use crate::rows::{ROWS, Row};
+use std::alloc::Global;
+use std::test::Fail;
+use test_support::requests::CHECK_OF_EMPTY;
+use test_support::same;
+use web_call::{Call, Turn};
+
+/// The most bytes of a text here.
+const MOST: usize = 1_000;
+
+/// Takes all that the call has to send.
+fn take(call: &mut Call, sent: &mut Vec<u8>) -> Result<(), Fail> {
+    for _ in 0..MOST {
+        let count = call.to_send().len().min(1);
+        sent.extend_from_slice(call.to_send().get(..count).unwrap_or(b""))?;
+        call.sent(count);
+    }
+    Ok(())
+}
+
+/// Lets a Watch look or ends it, where all is sent.
+fn step(call: &mut Call, door: &mut Flipping<'_>, turn: Turn) {
+    if call.is_watching() && call.to_send().is_empty() {
+        match turn {
+            Turn::Look => call.look(door),
+            Turn::End => call.end(),
+        }
+    }
+}
+
+/// Takes a call from its first byte to its end.
+fn drive(
+    alloc: Global,
+    row: &Row,
+    door: &mut Flipping<'_>,
+    call: &mut Call,
+    sent: &mut Vec<u8>,
+) -> Result<(), Fail> {
+    for place in 0..row.input.len() {
+        let rest = row.input.get(place..).unwrap_or(b"");
+        call.give(alloc, rest.get(..1).unwrap_or(b""));
+    }
+    if call.is_whole() {
+        call.answer(alloc, door);
+    }
+    take(call, sent)?;
+    for turn in row.turns {
+        step(call, door, *turn);
+        take(call, sent)?;
+    }
+    step(call, door, Turn::End);
+    take(call, sent)
+}
+
+fn expect(alloc: Global, row: &Row) -> Result<(), Fail> {
+    let catalogue = catalogue(alloc)?;
+    let mut door = Flipping::new(alloc, &catalogue, row.flips);
+    let mut call = Call::new(alloc)?;
+    let mut sent = Vec::new(alloc);
+    drive(alloc, row, &mut door, &mut call, &mut sent)?;
+    let found = (
+        call.outcome(),
+        call.is_done(),
+        call.frames(),
+        sent.as_slice(),
+    );
+    let frames = row.frames_within(row.response.len());
+    let expected = (Some(row.outcome), true, frames, row.response);
+    same(&found, &expected, &row.outcome)
+}
+
+#[test]
+fn a_call_byte_by_byte_comes_to_the_same(rt: HostRuntime) -> Result<(), Fail> {
+    for row in &ROWS {
+        expect(rt.alloc(), row)?;
+    }
+    Ok(())
+}
+
+/// A call's state after so many bytes of a request: how many more it wants at least.
+const WANTS: [(usize, usize); 5] = [(0, 1), (106, 1), (107, 5), (110, 2), (112, 0)];
+
+#[test]
+fn wants_a_byte_of_a_head_and_then_all_of_its_body(rt: HostRuntime) -> Result<(), Fail> {
+    for &(len, wanted) in &WANTS {
+        let mut call = Call::new(rt.alloc())?;
+        let taken = call.give(rt.alloc(), CHECK_OF_EMPTY.get(..len).unwrap_or(b""));
+        let found = (taken, call.wanted(), call.is_whole());
+        same(&found, &(len, wanted, wanted == 0), &len)?;
+    }
+    Ok(())
+}
