@@ -1,5 +1,6 @@
 pub mod CommandRun
 pub mod CrewWhy
+pub mod Answering
 pub mod CarriedOut
 pub mod Gather
 pub mod Noting

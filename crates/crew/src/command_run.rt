@@ -66,6 +66,3 @@ pub fn run_all<R: Wait + Threads + Sync, P: Probe + Send>(
     thread::for_each_mut(rt, runs, threads, &|_, one| run(rt, hall, ring, one));
     ring.end(rt);
 }
-
-#[cfg(test)]
-mod tests;

@@ -63,6 +63,3 @@ impl fmt::Display for CrewWhy {
 }
 
 impl Error for CrewWhy {}
-
-#[cfg(test)]
-mod tests;

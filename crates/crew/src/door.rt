@@ -112,6 +112,3 @@ impl<'a, R: Wait, P: Probe, K: Keep> Registrar<P> for HallDoor<'a, R, P, K> {
         }
     }
 }
-
-#[cfg(test)]
-mod tests;

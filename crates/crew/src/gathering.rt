@@ -132,6 +132,3 @@ fn has_number(found: &[(u32, CallEnd)], number: u32) -> bool
 {
     found.iter().any(|report| report.0 == number)
 }
-
-#[cfg(test)]
-mod tests;

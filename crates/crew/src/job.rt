@@ -20,6 +20,3 @@ pub trait Job: Drop {
     /// The two ends of the call.
     fn open(self) -> Result<(Self::Input, Self::Output), Unopened>;
 }
-
-#[cfg(test)]
-mod tests;

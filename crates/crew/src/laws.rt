@@ -15,14 +15,16 @@ pub fn one_gathering()
         → IsGathered expected reports ends → IsGathered expected reports others → ends ≡ others }
     ensures why { (expected : ℕ) (numbers : List ℕ) (why other : CrewWhy)
         → Fails expected numbers why → Fails expected numbers other → why ≡ other }
-    ensures no_memory { (expected : ℕ) (reports : List (ℕ × CallEnd)) (ends : List CallEnd) (why : CrewWhy)
-        → IsGathered expected reports ends → Fails expected (numbers_of reports) why → why ≡ NoMemory }
+    ensures no_memory { (expected : ℕ) (reports : List (ℕ × CallEnd)) (ends : List CallEnd)
+        (why : CrewWhy) → IsGathered expected reports ends
+        → Fails expected (numbers_of reports) why → why ≡ NoMemory }
 {}
 
 /// A Watch over a door to a hall tells what its service is shown as at its opening, and then its later changes up to where the watch
 /// stands at its end: each once, in order, and none left out.
 pub fn watches_tell_the_story()
-    ensures { (slot : Option ℕ) (first : List Entry) (later : List (List Entry)) → InTurn IsOlder first later
-        → told_by slot first later
-        ≡ shown first slot ∷ story (changes_of (last_of first later)) slot (length (changes_of first)) (cursor_past (opened (changes_of first) slot) later) }
+    ensures { (slot : Option ℕ) (first : List Entry) (later : List (List Entry))
+        → InTurn IsOlder first later → told_by slot first later
+        ≡ shown first slot ∷ story (changes_of (last_of first later)) slot
+        (length (changes_of first)) (cursor_past (opened (changes_of first) slot) later) }
 {}

@@ -74,6 +74,3 @@ pub use report::{CrewFault, Report};
 pub use ring::{Ring, RingBell};
 pub use serve::serve_all;
 pub use turnstile::{OpenTurnstile, Turnstile};
-
-#[cfg(test)]
-mod tests;

@@ -127,6 +127,3 @@ impl<R: Wait> Bell for RingBell<'_, R> {
         }
     }
 }
-
-#[cfg(test)]
-mod tests;

@@ -51,18 +51,24 @@ where
     requires count { vec_len jobs < 2 ^ 32 }
 
     // These come first, and start nothing.
-    ensures refused { IfSome (crew_fault workers (vec_len orders) (vec_len seats)) (λ why. result ≡ Err (record { why = why; seats = seats })) }
+    ensures refused { IfSome (crew_fault workers (vec_len orders) (vec_len seats))
+        (λ why. result ≡ Err (record { why = why; seats = seats })) }
 
     // Else it is another reason, and which of the others, tests show.
-    ensures failed { IfNone (crew_fault workers (vec_len orders) (vec_len seats)) (IfErr result (λ fault. IsOtherReason (vec_len jobs) fault.why)) }
+    ensures failed { IfNone (crew_fault workers (vec_len orders) (vec_len seats))
+        (IfErr result (λ fault. IsOtherReason (vec_len jobs) fault.why)) }
 
     // That each end is its own call's, tests show.
     ensures calls { IfOk result (λ report. vec_len report.calls ≡ vec_len jobs) }
-    ensures served { IfOk result (λ report. HasServed hall.now.names workers (lists_in orders) (lists_in report.orders) seats.items report.seats.items) }
+    ensures served { IfOk result (λ report. HasServed hall.now.names workers (lists_in orders)
+        (lists_in report.orders) seats.items report.seats.items) }
 
     // Without a report the seats are as they were, or the crew has served.
-    ensures left { IfErr result (λ fault. (fault.seats ≡ seats) ⊎ ((results : List (List (Result Reply Refusal))) × HasServed hall.now.names workers (lists_in orders) results seats.items fault.seats.items)) }
-    ensures still_ours { MatchResult result (λ report. All (IsOf hall.now) report.seats.items) (λ fault. All (IsOf hall.now) fault.seats.items) }
+    ensures left { IfErr result (λ fault. (fault.seats ≡ seats)
+        ⊎ ((results : List (List (Result Reply Refusal))) × HasServed hall.now.names workers
+        (lists_in orders) results seats.items fault.seats.items)) }
+    ensures still_ours { MatchResult result (λ report. All (IsOf hall.now) report.seats.items)
+        (λ fault. All (IsOf hall.now) fault.seats.items) }
 {
     if let Some(why) = CrewWhy::of(workers, orders.len(), seats.len()) {
         return Err(CrewFault { why, seats });

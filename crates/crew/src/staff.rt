@@ -46,7 +46,8 @@ fn assign<P: Probe>(
     requires none { runs.old.items ≡ [] }
     requires room { vec_len lists ≤ vec_capacity runs.old }
     requires seats { vec_len lists ≤ into_iter_len seats.old }
-    ensures seats { into_iter_items seats.old ≡ map (λ run. run.seat) runs.new.items ++ into_iter_items seats.new }
+    ensures seats { into_iter_items seats.old
+        ≡ map (λ run. run.seat) runs.new.items ++ into_iter_items seats.new }
     ensures lists { map (λ run. run.commands) runs.new.items ≡ lists.items }
 {
     for commands in lists {
@@ -63,7 +64,8 @@ fn dismiss<P: Probe>(
     ends: &mut Vec<(u32, CallEnd)>,
 )
     requires { vec_len seats.old + vec_len workers ≤ vec_capacity seats.old }
-    ensures seats { seats.new.items ≡ seats.old.items ++ map (λ worker. worker.seat) workers.items }
+    ensures seats { seats.new.items
+        ≡ seats.old.items ++ map (λ worker. worker.seat) workers.items }
     ensures capacity { vec_capacity seats.old ≤ vec_capacity seats.new }
     ensures ends { vec_len ends.old + length (reports_of workers.items) ≤ vec_capacity ends.old
         → ends.new.items ≡ ends.old.items ++ reports_of workers.items }
@@ -162,7 +164,8 @@ impl<P: Probe + Send> Staff<P> {
         J::Output: Send,
         requires seats { All (IsOf place.now.hall.now) (seats_of self) }
         requires memory { HasMemory self }
-        ensures served { HasServed place.now.hall.now.names (vec_len self.workers) (orders_of self) (lists_in result.results) (seats_of self) result.seats.items }
+        ensures served { HasServed place.now.hall.now.names (vec_len self.workers)
+            (orders_of self) (lists_in result.results) (seats_of self) result.seats.items }
         ensures ours { All (IsOf place.now.hall.now) result.seats.items }
     {
         let (workers, runs) = run_beside(rt, place, self.workers, self.runs);
@@ -177,9 +180,12 @@ impl<P: Probe + Send> Staff<P> {
 
     /// Puts all seats, results and reports into the buffers.
     fn give_back(self) -> Left<P>
-        requires { IsEmptyFor (vec_len self.workers + (vec_len self.runs + into_iter_len self.spare)) (vec_len self.runs) self.left }
+        requires { IsEmptyFor
+            (vec_len self.workers + (vec_len self.runs + into_iter_len self.spare))
+            (vec_len self.runs) self.left }
         ensures seats { result.seats.items ≡ seats_of self }
-        ensures results { result.results.items ≡ map (λ run. run.commands.results) self.runs.items }
+        ensures results { result.results.items
+            ≡ map (λ run. run.commands.results) self.runs.items }
         ensures ends { length (reports_of self.workers.items) ≤ vec_capacity self.left.ends
             → result.ends.items ≡ reports_of self.workers.items }
     {

@@ -18,6 +18,3 @@ impl Turnstile for OpenTurnstile {
 
     fn leave<R: Wait>(&self, _rt: &R, _number: u32) {}
 }
-
-#[cfg(test)]
-mod tests;

@@ -1,18 +1,21 @@
-ghost use Rattle.std.specs.Prelude.{◌≡◌, ◌<◌, ◌+◌, ◌^◌, [], ◌∷◌, MatchOption, vec_len};
+ghost use Rattle.std.specs.Prelude.{◌≡◌, ◌<◌, ◌≤◌, ◌+◌, ◌^◌, [], ◌∷◌, MatchOption, vec_len};
 ghost use Rattle.std.specs.List.{All};
 ghost use Rattle.std.specs.Vec.Iter.{into_iter_items, into_iter_len};
 ghost use Rattle.hall.specs.Seats.{IsOf};
+ghost use Rattle.crew.specs.Answering.{EndsSo, StaysBusy, end_of, moment};
+ghost use Rattle.crew.specs.HallDoor.{StaysAt};
 ghost use Rattle.crew.specs.Looking.{HasLooked};
 ghost use Rattle.crew.specs.Worker.{HaveLooked};
 
 use crate::call_end::CallEnd;
 use crate::door::HallDoor;
 use crate::job::Job;
-use crate::ring::Ring;
+use crate::ring::{Ring, RingBell};
 use crate::turnstile::Turnstile;
 use hall::{Hall, Seat};
 use probe_core::Probe;
 use std::alloc::Global;
+use std::io::{Read, Write};
 use std::sync::{Mutex, Wait};
 use std::thread;
 use std::thread::Threads;
@@ -42,7 +45,8 @@ impl<J> Queue<J> {
     /// The job that has waited longest, with its number.
     fn take(&mut self) -> Option<(u32, J)>
         ensures { MatchOption result (into_iter_items self.old.waiting ≡ [])
-            (λ taken. (taken.0 ≡ self.old.next) × (self.new.next ≡ self.old.next + 1) × (into_iter_items self.old.waiting ≡ taken.1 ∷ into_iter_items self.new.waiting)) }
+            (λ taken. (taken.0 ≡ self.old.next) × (self.new.next ≡ self.old.next + 1)
+            × (into_iter_items self.old.waiting ≡ taken.1 ∷ into_iter_items self.new.waiting)) }
     {
         let job = self.waiting.next()?;
         let number = self.next;
@@ -69,7 +73,32 @@ pub struct Workplace<'a, P: Probe, J, T> {
     pub limits: Limits,
 }
 
-/// Opens a job and makes its exchange, by the seat of the worker. The bell is made before the exchange opens its watch.
+/// Makes an exchange between these ends, by a door to the hall, and tells how it ended. A Watch waits for the bell, and takes no more
+/// Looks than the workplace's limit.
+fn answer<I: Read, O: Write, R: Wait, P: Probe, J, T>(
+    place: &Workplace<'_, P, J, T>,
+    reader: &mut Tap<I>,
+    writer: &mut Tap<O>,
+    door: &mut HallDoor<'_, R, P>,
+    bell: &mut RingBell<'_, R>,
+) -> CallEnd
+    ensures end { EndsSo place.now.limits.looks
+        (moment (end_of I.remaining reader.old) (end_of O.contents writer.old) door.old bell.old)
+        (moment (end_of I.remaining reader.new) (end_of O.contents writer.new) door.new bell.new)
+        result }
+    ensures busy { StaysBusy
+        (moment (end_of I.remaining reader.old) (end_of O.contents writer.old) door.old bell.old)
+        (moment (end_of I.remaining reader.new) (end_of O.contents writer.new) door.new bell.new) }
+    ensures looks { bell.new.given ≤ bell.old.given + place.now.limits.looks }
+    ensures stays { StaysAt door.old door.new }
+{
+    match exchange(place.alloc, reader, writer, door, bell, place.limits) {
+        Ok(outcome) => CallEnd::Done(outcome),
+        Err(fault) => CallEnd::Fault(fault),
+    }
+}
+
+/// Opens a job and answers it by the seat of the worker. The bell is made before a Watch is opened, so that it misses no ring.
 fn serve_one<R: Wait, P: Probe, J: Job, T>(
     rt: &R,
     place: &Workplace<'_, P, J, T>,
@@ -87,18 +116,7 @@ fn serve_one<R: Wait, P: Probe, J: Job, T>(
     let mut writer = Tap::new(output);
     let mut bell = place.ring.bell(rt);
     let mut door = HallDoor::new(rt, place.hall, seat);
-    let answered = exchange(
-        place.alloc,
-        &mut reader,
-        &mut writer,
-        &mut door,
-        &mut bell,
-        place.limits,
-    );
-    match answered {
-        Ok(outcome) => CallEnd::Done(outcome),
-        Err(fault) => CallEnd::Fault(fault),
-    }
+    answer(place, &mut reader, &mut writer, &mut door, &mut bell)
 }
 
 /// Serves calls as long as jobs wait and there is room for one report more. Room for a call's report is taken before its job, so that no call goes unreported.

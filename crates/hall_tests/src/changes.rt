@@ -2,7 +2,7 @@
 
 ghost use Rattle.hall.specs.Seats.{IsOf};
 
-use crate::guest::{Guest, Probes, two_seats};
+use crate::guest::{Guest, Probes, manuals, two_seats};
 use crate::rows::{DONE, Found, Step, Wrong, is_as, result_of};
 use desk_core::{Finding, Keep, KeepAll, Refusal, Reply, Setting};
 use hall::Hall;
@@ -181,10 +181,6 @@ static SETTINGS: Story = Story {
 #[test]
 fn a_seat_sees_what_another_sets(rt: HostRuntime) -> Result<(), Fail> {
     let alloc = rt.alloc();
-    let probes = Probes {
-        first: Vec::from_array(alloc, [Manual::new()])?,
-        second: Vec::new(alloc),
-        counters: None,
-    };
+    let probes = manuals(alloc)?;
     expect_story::<HostRuntime, Manual, KeepAll>(&rt, alloc, &SETTINGS, probes)
 }

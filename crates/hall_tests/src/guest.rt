@@ -6,8 +6,8 @@ ghost use Rattle.hall.specs.Seats.{IsOf};
 use crate::drops::Counters;
 use desk_core::{Catalogue, Keep, Watch};
 use hall::{Hall, Seat};
-use probe_core::Probe;
-use std::alloc::Global;
+use probe_core::{Manual, Probe};
+use std::alloc::{AllocError, Global};
 use std::test::Fail;
 
 /// A seat, and what goes with it.
@@ -69,4 +69,19 @@ pub(crate) fn two_seats<P: Probe, K: Keep>(
     let second = guest_of(seats.pop().unwrap(), probes.second, None);
     let first = guest_of(seats.pop().unwrap(), probes.first, probes.counters);
     Ok((hall, first, second))
+}
+
+/// Twenty probes for each of two seats.
+pub(crate) fn manuals(alloc: Global) -> Result<Probes<Manual>, AllocError> {
+    let mut first = Vec::new(alloc);
+    let mut second = Vec::new(alloc);
+    for _ in 0..20 {
+        first.push(Manual::new())?;
+        second.push(Manual::new())?;
+    }
+    Ok(Probes {
+        first,
+        second,
+        counters: None,
+    })
 }

@@ -1,16 +1,14 @@
 //! Halls over a registry that keeps four entries, and four status changes.
 
 use crate::changes::{Story, Turn, Who, expect_story};
-use crate::guest::Probes;
-use crate::race::{Race, closed_after};
+use crate::guest::manuals;
+use crate::race::{Race, expect_race};
 use crate::rows::{DONE, Found, Row, Step};
 use desk_core::{Behind, Keep, Setting};
 use hall::Extent;
 use health_wire::Serving;
 use probe_core::Manual;
-use std::alloc::{AllocError, Global};
 use std::test::Fail;
-use test_support::same;
 
 /// The last four.
 #[derive(Drop)]
@@ -74,11 +72,7 @@ static FORGETTING: Story = Story {
 #[test]
 fn a_hall_forgets_and_says_so(rt: HostRuntime) -> Result<(), Fail> {
     let alloc = rt.alloc();
-    let probes = Probes {
-        first: Vec::from_array(alloc, [Manual::new()])?,
-        second: Vec::new(alloc),
-        counters: None,
-    };
+    let probes = manuals(alloc)?;
     expect_story::<HostRuntime, Manual, KeepFour>(&rt, alloc, &FORGETTING, probes)
 }
 
@@ -126,23 +120,7 @@ static EACH_CALL: Race = Race {
     entries: 200,
 };
 
-/// Twenty probes.
-fn manuals(alloc: Global) -> Result<Vec<Manual>, AllocError> {
-    let mut probes = Vec::new(alloc);
-    for _ in 0..20 {
-        probes.push(Manual::new())?;
-    }
-    Ok(probes)
-}
-
 #[test]
 fn a_hall_that_forgets_takes_each_call_of_two_threads(rt: HostRuntime) -> Result<(), Fail> {
-    let alloc = rt.alloc();
-    let probes = Probes {
-        first: manuals(alloc)?,
-        second: manuals(alloc)?,
-        counters: None,
-    };
-    let closed = closed_after::<HostRuntime, Manual, KeepFour>(&rt, alloc, &EACH_CALL, probes)?;
-    same(&closed.desk.journal_kept().len(), &4, &"what is kept")
+    expect_race::<HostRuntime, KeepFour>(&rt, rt.alloc(), &EACH_CALL)
 }

@@ -4,6 +4,10 @@
 #[cfg(test)]
 mod changes;
 #[cfg(test)]
+mod crews;
+#[cfg(test)]
+mod doors;
+#[cfg(test)]
 mod drops;
 #[cfg(test)]
 mod faults;

@@ -14,6 +14,9 @@ use test_support::{Scarcity, same};
 /// More steps of memory than any of the calls needs.
 const STEPS: usize = 1_024;
 
+/// More rounds than any of the changes is refused in.
+const ROUNDS: usize = 256;
+
 /// With how many steps of memory a hall of two seats was refused.
 fn refusals_of_a_hall(alloc: Global) -> Result<usize, Fail> {
     for step in 0..STEPS {
@@ -83,40 +86,44 @@ fn result_with<R: Wait>(
     Ok(found)
 }
 
-/// What comes of the change with so many steps of memory left.
-fn found_with<R: Wait>(rt: &R, alloc: Global, case: &Case, step: usize) -> Result<Found, Fail> {
-    let mut probes = Vec::new(alloc);
+/// Five probes for the first of two seats.
+fn thresholds(alloc: Global) -> Result<Probes<Threshold>, AllocError> {
+    let mut first = Vec::new(alloc);
     for _ in 0..5 {
-        probes.push(Threshold::new(1, 1, Start::Up))?;
+        first.push(Threshold::new(1, 1, Start::Up))?;
     }
-    let probes = Probes {
-        first: probes,
+    Ok(Probes {
+        first,
         second: Vec::new(alloc),
         counters: None,
-    };
-    let (hall, mut guest, _) = two_seats(alloc, &["a", ""], 100, probes)?;
+    })
+}
+
+/// What comes of the change with so many steps of memory left.
+fn found_with<R: Wait>(rt: &R, alloc: Global, case: &Case, step: usize) -> Result<Found, Fail> {
+    let (hall, mut guest, _) = two_seats(alloc, &["a", ""], 100, thresholds(alloc)?)?;
     let wrong = first_wrong(rt, &hall, &mut guest, &BEFORE, case.0);
     same(&wrong, &None, &step)?;
     Ok(result_with(rt, alloc, &hall, &mut guest, step, case.1)?)
 }
 
-/// With how many steps of memory the change was refused.
+/// In how many rounds the change was refused, each with four steps more of memory: no growth of a change is as small.
 fn refusals_of<R: Wait>(rt: &R, alloc: Global, case: &Case) -> Result<usize, Fail> {
-    for step in 0..STEPS {
-        let found = found_with(rt, alloc, case, step)?;
+    for round in 0..ROUNDS {
+        let found = found_with(rt, alloc, case, 4 * round)?;
         if found == case.2 {
-            return Ok(step);
+            return Ok(round);
         }
-        same(&found, &Found::Change(Err(Refusal::NoMemory)), &step)?;
+        same(&found, &Found::Change(Err(Refusal::NoMemory)), &round)?;
     }
-    Ok(STEPS)
+    Ok(ROUNDS)
 }
 
 #[test]
 fn refuses_each_growth_of_each_change(rt: HostRuntime) -> Result<(), Fail> {
     for (index, case) in CASES.iter().enumerate() {
         let refused = refusals_of(&rt, rt.alloc(), case)?;
-        same(&(2 < refused && refused < STEPS), &true, &(index, refused))?;
+        same(&(2 < refused && refused < ROUNDS), &true, &(index, refused))?;
     }
     Ok(())
 }

@@ -3,11 +3,11 @@
 ghost use Rattle.std.specs.Prelude.{◌≡◌};
 ghost use Rattle.hall.specs.Seats.{IsOf};
 
-use crate::guest::{Guest, Probes, two_seats};
+use crate::guest::{Guest, Probes, manuals, two_seats};
 use crate::rows::{Row, Wrong, first_wrong, wrong_of};
-use desk_core::{Keep, KeepAll, board_entries};
+use desk_core::{Keep, board_entries};
 use hall::{Closed, Hall, Note, Seat};
-use probe_core::Probe;
+use probe_core::{Manual, Probe};
 use std::alloc::Global;
 use std::sync::Wait;
 use std::test::Fail;
@@ -176,14 +176,13 @@ pub(crate) fn closed_after<R: Wait + Threads + Sync, P: Probe + Send, K: Keep + 
     Ok(closed)
 }
 
-/// A race of a hall that keeps all.
-pub(crate) fn expect_race<R: Wait + Threads + Sync, P: Probe + Send>(
+/// Goes through a race of services that are set by hand.
+pub(crate) fn expect_race<R: Wait + Threads + Sync, K: Keep + Send>(
     rt: &R,
     alloc: Global,
     race: &Race,
-    probes: Probes<P>,
 ) -> Result<(), Fail> {
-    let closed: Closed<P, KeepAll> = closed_after(rt, alloc, race, probes)?;
+    let closed: Closed<Manual, K> = closed_after(rt, alloc, race, manuals(alloc)?)?;
     drop(closed);
     Ok(())
 }

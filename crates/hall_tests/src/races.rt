@@ -1,9 +1,7 @@
-use crate::guest::Probes;
 use crate::race::{Race, expect_race};
 use crate::rows::{DONE, Found, Row, Step};
-use desk_core::{Finding, Refusal, Setting};
+use desk_core::{Finding, KeepAll, Refusal, Setting};
 use health_wire::Serving;
-use probe_core::{Depends, Manual, Probe, Start, Threshold};
 use std::test::Fail;
 
 const DOWN_A: Row = (Step::Set("a", Setting::Down), DONE);
@@ -57,16 +55,8 @@ static CHECKED_FLIPS: Race = Race {
 
 #[test]
 fn loses_no_change_of_two_threads(rt: HostRuntime) -> Result<(), Fail> {
-    let alloc = rt.alloc();
-    for race in [&FLIPS, &CHECKED_FLIPS] {
-        let probes = Probes {
-            first: Vec::from_array(alloc, [Manual::new(), Manual::new()])?,
-            second: Vec::new(alloc),
-            counters: None,
-        };
-        expect_race(&rt, alloc, race, probes)?;
-    }
-    Ok(())
+    expect_race::<HostRuntime, KeepAll>(&rt, rt.alloc(), &FLIPS)?;
+    expect_race::<HostRuntime, KeepAll>(&rt, rt.alloc(), &CHECKED_FLIPS)
 }
 
 const FULL: Found = Found::Change(Err(Refusal::Full));
@@ -108,16 +98,5 @@ static FULL_JOURNAL: Race = Race {
 
 #[test]
 fn refuses_changes_of_a_full_journal(rt: HostRuntime) -> Result<(), Fail> {
-    let alloc = rt.alloc();
-    let a: Box<dyn Probe + Send> = Box::new(alloc, Threshold::new(2, 1, Start::Up))?;
-    let b: Box<dyn Probe + Send> = Box::new(alloc, Manual::new())?;
-    let all: Box<dyn Probe + Send> = Box::new(alloc, Depends::new(3))?;
-    let one: Box<dyn Probe + Send> = Box::new(alloc, Manual::new())?;
-    let other: Box<dyn Probe + Send> = Box::new(alloc, Manual::new())?;
-    let probes = Probes {
-        first: Vec::from_array(alloc, [one, all, b, a])?,
-        second: Vec::from_array(alloc, [other])?,
-        counters: None,
-    };
-    expect_race(&rt, alloc, &FULL_JOURNAL, probes)
+    expect_race::<HostRuntime, KeepAll>(&rt, rt.alloc(), &FULL_JOURNAL)
 }

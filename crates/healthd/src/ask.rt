@@ -89,7 +89,7 @@ fn ask_for_good<R: Net<Stream = TcpStream>>(
 }
 
 /// Asks the server that listens there, and gives up where the whole call takes longer.
-fn ask_within<R: Clock + Net<Stream = TcpStream>>(
+pub(crate) fn ask_within<R: Clock + Net<Stream = TcpStream>>(
     rt: &R,
     alloc: Global,
     addr: SocketAddr,

@@ -45,16 +45,23 @@ pub fn serve<R, P: Probe + Send>(
 where
     R: Wait + Threads + Sync,
     // A crew that has too few seats, or no workers, is refused, and no other for that; of which other fault there is, tests show.
-    ensures refused { IfSome (crew_fault capacity.workers 1 (length made.seats)) (λ why. (result ≡ Err (ServeFault.Crew why)) ⊎ (result ≡ Err ServeFault.NoMemory)) }
-    ensures failed { IfNone (crew_fault capacity.workers 1 (length made.seats)) ((why : CrewWhy) → IsErrOf result (ServeFault.Crew why) → IsOtherReason capacity.calls why) }
+    ensures refused { IfSome (crew_fault capacity.workers 1 (length made.seats))
+        (λ why. (result ≡ Err (ServeFault.Crew why)) ⊎ (result ≡ Err ServeFault.NoMemory)) }
+    ensures failed { IfNone (crew_fault capacity.workers 1 (length made.seats))
+        ((why : CrewWhy) → IsErrOf result (ServeFault.Crew why)
+        → IsOtherReason capacity.calls why) }
     ensures calls { IfOk result (λ served. vec_len served.calls ≡ capacity.calls) }
 
     // The journal that is left is one legal history of what all seats saw and made.
-    ensures served { IfOk result (λ served. HasServedOrders made.hall capacity.workers made.orders served.orders.items made.seats (past served.desk.journal)) }
-    ensures entries { IfOk result (λ served. length served.desk.journal ≡ sum_by (λ seat. length (own_calls seat)) made.seats + count_by is_ok served.orders.items) }
+    ensures served { IfOk result (λ served. HasServedOrders made.hall capacity.workers made.orders
+        served.orders.items made.seats (past served.desk.journal)) }
+    ensures entries { IfOk result (λ served. length served.desk.journal
+        ≡ sum_by (λ seat. length (own_calls seat)) made.seats
+        + count_by is_ok served.orders.items) }
     ensures most { IfOk result (λ served. served.desk.max_entries ≡ made.hall.most) }
 
-    ensures missing { IsErrOf result ServeFault.SeatsMissing → length made.seats ≢ made.hall.seats }
+    ensures missing { IsErrOf result ServeFault.SeatsMissing
+        → length made.seats ≢ made.hall.seats }
 {
     let SetUpHall {
         hall,

@@ -6,32 +6,29 @@
 //! #![tactic(auto)]
 //!
 //! ghost use Rattle.std.specs.Prelude.{◌≡◌, IfOk, vec_len};
-//! ghost use Rattle.probe_core.specs.Made.{MakesAsked};
 //!
-//! use probe_core::{Probe, Rule};
+//! use probe_core::{Maker, Probe};
 //! use script::Script;
 //! use server::{Capacity, ServeFault, Served, hall_of, serve};
-//! use std::alloc::{AllocError, Global};
+//! use std::alloc::Global;
 //! use std::net::TcpListener;
 //! use std::sync::Wait;
 //! use std::thread::Threads;
 //!
 //! /// Serves ten calls by two workers over a hall that a script sets up. The third seat makes the orders of the script.
-//! pub fn serve_ten<R, P: Probe + Send, F: Fn(Rule) -> Result<P, AllocError>>(
+//! pub fn serve_ten<R, P: Probe + Send, M: Maker<P>>(
 //!     rt: &R,
 //!     alloc: Global,
 //!     script: Script,
-//!     make: &F,
+//!     maker: &M,
 //!     listener: &TcpListener,
 //! ) -> Result<Served<P>, ServeFault>
 //! where
 //!     R: Wait + Threads + Sync,
-//!     requires callable { F.IsAlwaysCallable make.now }
-//!     requires asked { MakesAsked P.rule P.memory (F.post make.now) }
 //!     ensures calls { IfOk result (λ served. vec_len served.calls ≡ 10) }
 //!     ensures most { IfOk result (λ served. served.desk.max_entries ≡ script.max) }
 //! {
-//!     let Ok(made) = hall_of(rt, alloc, script, make, 3) else {
+//!     let Ok(made) = hall_of(rt, alloc, script, maker, 3) else {
 //!         return Err(ServeFault::NoMemory);
 //!     };
 //!     let capacity = Capacity {

@@ -1,5 +1,4 @@
 ghost use Rattle.std.specs.Prelude.{◌≡◌, ◌≤◌, IfOk, OnErr};
-ghost use Rattle.probe_core.specs.Made.{MakesAsked};
 ghost use Rattle.hall.specs.Seats.{IsOf, new_seats};
 ghost use Rattle.crew.specs.CarriedOut.{HasCarriedOut};
 ghost use Rattle.crew.specs.HallDoor.{door_hall, door_seat};
@@ -9,7 +8,7 @@ ghost use Rattle.server.specs.Setup.{AreSetUp};
 use crew::HallDoor;
 use desk_core::{Keep, KeepAll, Order, Refusal, Reply};
 use hall::{Hall, Seat};
-use probe_core::{Probe, Rule};
+use probe_core::{Maker, Probe};
 use script::{Line, Script, set_up};
 use std::alloc::{AllocError, Global};
 use std::marker::Model;
@@ -69,62 +68,60 @@ impl<P: Probe, K: Keep> SetUpHall<P, K> {
 /// passed over.
 ///
 /// All probes are made, and room for all results is taken, before the first change.
-pub fn run_setup<R: Wait, P: Probe, K: Keep, F: Fn(Rule) -> Result<P, AllocError>>(
+pub fn run_setup<R: Wait, P: Probe, K: Keep, M: Maker<P>>(
     rt: &R,
     alloc: Global,
     hall: &Hall<P, K>,
     seat: &mut Seat<P, K>,
     lines: &[Line],
-    make: &F,
+    maker: &M,
 ) -> Result<Vec<Result<Reply, Refusal>>, AllocError>
     requires seat { IsOf hall.now seat.old }
-    requires callable { F.IsAlwaysCallable make.now }
-    requires asked { MakesAsked P.rule P.memory (F.post make.now) }
-    ensures met { IfOk result (λ results. HasCarriedOut seat.old seat.new (line_changes hall.now.names lines.now) results.items) }
+    ensures met { IfOk result (λ results. HasCarriedOut seat.old seat.new
+        (line_changes hall.now.names lines.now) results.items) }
     ensures unmet { OnErr result (seat.new ≡ seat.old) }
 {
     let mut door = HallDoor::new(rt, hall, seat);
-    set_up_behind(alloc, &mut door, lines, make)
+    set_up_behind(alloc, &mut door, lines, maker)
 }
 
 /// The same, behind a door.
-fn set_up_behind<R: Wait, P: Probe, K: Keep, F: Fn(Rule) -> Result<P, AllocError>>(
+fn set_up_behind<R: Wait, P: Probe, K: Keep, M: Maker<P>>(
     alloc: Global,
     door: &mut HallDoor<'_, R, P, K>,
     lines: &[Line],
-    make: &F,
+    maker: &M,
 ) -> Result<Vec<Result<Reply, Refusal>>, AllocError>
-    requires callable { F.IsAlwaysCallable make.now }
-    requires asked { MakesAsked P.rule P.memory (F.post make.now) }
     ensures reference { door.new.seat.ghost_name ≡ door.old.seat.ghost_name }
-    ensures met { IfOk result (λ results. HasCarriedOut (door_seat door.old) (door_seat door.new) (line_changes (door_hall door.old).names lines.now) results.items) }
+    ensures met { IfOk result (λ results. HasCarriedOut (door_seat door.old) (door_seat door.new)
+        (line_changes (door_hall door.old).names lines.now) results.items) }
     ensures unmet { OnErr result (door_seat door.new ≡ door_seat door.old) }
 {
-    set_up(alloc, door, lines, make)
+    set_up(alloc, door, lines, maker)
 }
 
 /// A hall with the script's catalogue and most entries, and so many seats, of which the first has made the changes that the lines of
 /// the script ask for. The script's orders are handed on.
-pub fn hall_of<R: Wait, P: Probe, K: Keep, F: Fn(Rule) -> Result<P, AllocError>>(
+pub fn hall_of<R: Wait, P: Probe, K: Keep, M: Maker<P>>(
     rt: &R,
     alloc: Global,
     script: Script,
-    make: &F,
+    maker: &M,
     seats: u16,
 ) -> Result<SetUpHall<P, K>, AllocError>
-    requires callable { F.IsAlwaysCallable make.now }
-    requires asked { MakesAsked P.rule P.memory (F.post make.now) }
     requires some { 1 ≤ seats }
     requires not_too_many { seats ≤ 1024 }
-    ensures hall { IfOk result (λ made. (made.hall.names ≡ script.names) × (made.hall.most ≡ script.max) × (made.hall.seats ≡ seats)) }
-    ensures seats { IfOk result (λ made. AreSetUp (line_changes script.names script.lines) made.results (new_seats made.hall.table script.max seats) made.seats) }
+    ensures hall { IfOk result (λ made. (made.hall.names ≡ script.names)
+        × (made.hall.most ≡ script.max) × (made.hall.seats ≡ seats)) }
+    ensures seats { IfOk result (λ made. AreSetUp (line_changes script.names script.lines)
+        made.results (new_seats made.hall.table script.max seats) made.seats) }
     ensures orders { IfOk result (λ made. made.orders ≡ script.orders) }
 {
     let (catalogue, max, lines, orders) = script.into_parts();
     let Ok((hall, mut dealt)) = Hall::new(alloc, catalogue, max, seats) else {
         return Err(AllocError);
     };
-    let results = run_setup(rt, alloc, &hall, &mut dealt[0], &lines, make)?;
+    let results = run_setup(rt, alloc, &hall, &mut dealt[0], &lines, maker)?;
     Ok(SetUpHall {
         hall,
         seats: dealt,

@@ -1,17 +1,19 @@
 ghost use Rattle.std.specs.Prelude.{◌≤◌, length};
-ghost use Rattle.probe_core.specs.Made.{IsAsked, MakesAsked};
+ghost use Rattle.probe_core.specs.Made.{IsAsked};
 
 use super::*;
 use crate::setup::{SetUpHall, hall_of};
 use client::{Told, ask};
 use crew::{CallEnd, CrewWhy};
 use grpc_frame::Code;
-use probe_core::{Depends, Manual, Rule, Threshold};
+use probe_core::{Depends, Event, FnMaker, Maker, Manual, ProbeFn, Rule, Threshold};
 use script::{Mode, read_script};
 use std::io::{BufReader, Read, Write};
 use std::net::{Net, TcpStream};
+use std::sync::Arc;
+use std::sync::atomic::{AtomicU32, Ordering};
 use std::test::Fail;
-use std::time::Duration;
+use std::time::{Clock, Duration};
 use std::{io, thread};
 use test_support::{Scarcity, same};
 use web_call::{Method, Outcome, Why};
@@ -32,24 +34,22 @@ type Taken = Result<Reply, Refusal>;
 const DONE: Taken = Ok(Reply::Done);
 
 /// Sets a hall up by the script, and listens to a port.
-fn open<R, P: Probe, F: Fn(Rule) -> Result<P, AllocError>>(
+fn open<R, P: Probe, M: Maker<P>>(
     rt: &R,
     alloc: Global,
     script: &str,
-    make: &F,
+    maker: &M,
     seats: u16,
 ) -> Result<Opened<P>, Fail>
 where
     R: Wait + Net<Listener = TcpListener, Stream = TcpStream>,
-    requires callable { F.IsAlwaysCallable make.now }
-    requires asked { MakesAsked P.rule P.memory (F.post make.now) }
     requires some { 1 ≤ seats }
     requires not_too_many { seats ≤ 1024 }
 {
     let listener = TcpListener::bind(rt, (HOST, 0u16))?;
     let port = listener.local_addr()?.port();
     let script = read_script(alloc, script.as_bytes(), Mode::Serve)?;
-    let made = hall_of(rt, alloc, script, make, seats)?;
+    let made = hall_of(rt, alloc, script, maker, seats)?;
     Ok(Opened {
         made,
         listener,
@@ -123,13 +123,7 @@ fn expect_told(told: Option<Told>, statuses: &[u64], code: u32, text: &[u8]) -> 
     same(&ended.text.as_slice(), &text, &code)
 }
 
-/// How many of the calls ended with this status.
-fn count_of(calls: &[CallEnd], code: Code) -> usize {
-    let end = CallEnd::Done(Outcome::Status(code));
-    calls.iter().filter(|call| **call == end).count()
-}
-
-/// Serves two Checks by two workers, and asks them.
+/// Serves two Checks by one worker, and asks them one after the other.
 fn serve_and_ask<R, P: Probe + Send>(
     rt: &R,
     alloc: Global,
@@ -141,7 +135,7 @@ where
     let port = opened.port;
     thread::join(
         rt,
-        move || -> Result<Served<P>, ServeFault> { serve_opened(rt, alloc, opened, 2, 2) },
+        move || -> Result<Served<P>, ServeFault> { serve_opened(rt, alloc, opened, 1, 2) },
         move || {
             let known = told_of(rt, alloc, port, Method::Check, "a");
             (known, told_of(rt, alloc, port, Method::Check, "zz"))
@@ -155,6 +149,12 @@ register a manual
 register - depends a
 ";
 
+/// How the calls end, by their number: one worker takes them as they come.
+const CHECKED: [CallEnd; 2] = [
+    CallEnd::Done(Outcome::Status(Code::Ok)),
+    CallEnd::Done(Outcome::Status(Code::NotFound)),
+];
+
 /// What two Checks by clients of a server were told, how the calls ended, and how many orders and entries there were.
 fn expect_checked<P: Probe>(
     served: Result<Served<P>, ServeFault>,
@@ -164,28 +164,22 @@ fn expect_checked<P: Probe>(
     expect_told(known, &[1], 0, b"")?;
     expect_told(unknown, &[], 5, b"unknown service")?;
     let served = served?;
-    let found = (
-        served.calls.len(),
-        count_of(&served.calls, Code::Ok),
-        count_of(&served.calls, Code::NotFound),
-        served.orders.len(),
-        served.desk.journal().len(),
-    );
-    same(&found, &(2, 1, 1, 0, 2), &"the report")
+    same(&served.calls.as_slice(), &CHECKED.as_slice(), &"the calls")?;
+    let found = (served.orders.len(), served.desk.journal().len());
+    same(&found, &(0, 2), &"the report")
 }
 
 /// Serves by the script with such probes, and asks.
-fn expect_served<R, P: Probe + Send, F: Fn(Rule) -> Result<P, AllocError>>(
+fn expect_served<R, P: Probe + Send, F: ProbeFn<Made = P> + Drop>(
     rt: &R,
     alloc: Global,
-    make: &F,
+    make: F,
 ) -> Result<(), Fail>
 where
     R: Wait + Threads + Sync + Net<Listener = TcpListener, Stream = TcpStream>,
-    requires callable { F.IsAlwaysCallable make.now }
-    requires asked { MakesAsked P.rule P.memory (F.post make.now) }
+    requires { F.makes_asked make }
 {
-    let opened = open(rt, alloc, SCRIPT, make, 4)?;
+    let opened = open(rt, alloc, SCRIPT, &FnMaker::new(make), 4)?;
     expect_results(&opened, &[DONE, DONE])?;
     let (served, (known, unknown)) = serve_and_ask(rt, alloc, opened);
     expect_checked(served, known, unknown)
@@ -207,16 +201,18 @@ fn answers_checks_over_sockets(rt: HostRuntime) -> Result<(), Fail> {
         };
         Ok(probe)
     };
-    expect_served(&rt, alloc, &make)
+    expect_served(&rt, alloc, make)
 }
 
 /// Makes probes that are set by hand, and no others.
-fn manual(rule: Rule) -> Result<Manual, AllocError>
-    ensures { IsAsked ⟦<Manual as Probe>⟧.rule ⟦<Manual as Probe>⟧.memory rule result }
-{
-    match rule {
-        Rule::Manual => Ok(Manual::new()),
-        Rule::Threshold(..) | Rule::Depends(_) => Err(AllocError),
+struct Manuals;
+
+impl Maker<Manual> for Manuals {
+    fn make(&self, rule: Rule) -> Result<Manual, AllocError> {
+        match rule {
+            Rule::Manual => Ok(Manual::new()),
+            Rule::Threshold(..) | Rule::Depends(_) => Err(AllocError),
+        }
     }
 }
 
@@ -326,7 +322,7 @@ fn serves_a_watch_beside_orders_and_a_refusal_beside_a_silent_client(
     rt: HostRuntime,
 ) -> Result<(), Fail> {
     let alloc = rt.alloc();
-    let opened = open(&rt, alloc, CHANGING, &|rule| manual(rule), 4)?;
+    let opened = open(&rt, alloc, CHANGING, &Manuals, 4)?;
     expect_results(&opened, &[DONE])?;
     let (served, heard) = serve_and_disturb(&rt, alloc, opened);
     expect_heard(heard)?;
@@ -337,9 +333,172 @@ fn serves_a_watch_beside_orders_and_a_refusal_beside_a_silent_client(
     same(&served.desk.journal().len(), &3, &"entries")
 }
 
+/// How many orders a Watch is told of, but for those that are made before it is open. The last one sets `a` Down.
+const FLIPS: u32 = 601;
+
+/// A `Manual` that hears slowly while no Watch is open.
+#[derive(Drop)]
+struct Paced<'a, C> {
+    manual: Manual,
+    clock: &'a C,
+    open: &'a AtomicU32,
+}
+
+impl<C: Clock> Probe for Paced<'_, C> {
+    ghost rule = { λ probe. ⟦<probe_core::Manual as probe_core::Probe>⟧.rule probe.manual };
+
+    ghost memory = { λ probe. ⟦<probe_core::Manual as probe_core::Probe>⟧.memory probe.manual };
+
+    fn rule(&self) -> Rule {
+        self.manual.rule()
+    }
+
+    fn is_up(&self) -> bool {
+        self.manual.is_up()
+    }
+
+    fn is_unknown(&self) -> bool {
+        self.manual.is_unknown()
+    }
+
+    fn note(&mut self, event: Event) -> bool {
+        if self.open.load(Ordering::SeqCst) == 0 {
+            thread::sleep(self.clock, Duration::from_millis(20));
+        }
+        self.manual.note(event)
+    }
+
+    fn reset(&mut self) {
+        self.manual.reset()
+    }
+}
+
+/// Makes probes that are set by hand, and no others.
+#[derive(Drop)]
+struct PacedMaker<'a, C> {
+    clock: &'a C,
+    open: &'a AtomicU32,
+}
+
+impl<'a, C: Clock> Maker<Paced<'a, C>> for PacedMaker<'a, C> {
+    fn make(&self, rule: Rule) -> Result<Paced<'a, C>, AllocError> {
+        match rule {
+            Rule::Manual => Ok(Paced {
+                manual: Manual::new(),
+                clock: self.clock,
+                open: self.open,
+            }),
+            Rule::Threshold(..) | Rule::Depends(_) => Err(AllocError),
+        }
+    }
+}
+
+fn open_paced<'a, R>(
+    rt: &'a R,
+    alloc: Global,
+    script: &str,
+    watched: &'a AtomicU32,
+) -> Result<Opened<Paced<'a, R>>, Fail>
+where
+    R: Wait + Clock + Net<Listener = TcpListener, Stream = TcpStream>,
+{
+    let maker = PacedMaker {
+        clock: rt,
+        open: watched,
+    };
+    open(rt, alloc, script, &maker, 2)
+}
+
+/// A reader that notes when it has read.
+#[derive(Drop)]
+struct Opening<R> {
+    reader: R,
+    open: Arc<AtomicU32>,
+}
+
+impl<R: Read> Read for Opening<R> {
+    fn read(&mut self, buf: &mut [u8]) -> io::Result<usize> {
+        let count = self.reader.read(buf)?;
+        self.open.store(1, Ordering::SeqCst);
+        Ok(count)
+    }
+}
+
+/// What a Watch of `a` is told, to its end.
+fn told_to_end<R: Net<Stream = TcpStream>>(
+    rt: &R,
+    alloc: Global,
+    port: u16,
+    open: Arc<AtomicU32>,
+) -> Option<Told> {
+    let stream = connect(rt, port).ok()?;
+    let reader = BufReader::new(alloc, &stream).ok()?;
+    let mut reader = Opening { reader, open };
+    let mut writer = &stream;
+    ask(
+        alloc,
+        &mut reader,
+        &mut writer,
+        Method::Watch,
+        "a",
+        u32::MAX,
+    )
+    .ok()
+}
+
+/// A script that sets `a` Down and Up in turn while it is served.
+fn flipping(alloc: Global) -> Result<String, AllocError> {
+    let mut script = String::from_str(alloc, "catalogue a -\nmax 10000\nregister a manual\ngo\n")?;
+    for number in 0..FLIPS {
+        script.push_str(if number % 2 == 0 {
+            "down a\n"
+        } else {
+            "up a\n"
+        })?;
+    }
+    Ok(script)
+}
+
+/// Serves one Watch while the orders are made.
+fn serve_and_watch<R, P: Probe + Send>(
+    rt: &R,
+    alloc: Global,
+    opened: Opened<P>,
+    open: Arc<AtomicU32>,
+) -> (Result<Served<P>, ServeFault>, Option<Told>)
+where
+    R: Wait + Threads + Sync + Net<Stream = TcpStream>,
+{
+    let port = opened.port;
+    thread::join(
+        rt,
+        move || -> Result<Served<P>, ServeFault> { serve_opened(rt, alloc, opened, 1, 1) },
+        move || told_to_end(rt, alloc, port, open),
+    )
+}
+
+/// Each status is another than the one before it, and the last one is that `a` is not serving.
+fn is_told_to_end(statuses: &[u64]) -> bool {
+    statuses.windows(2).all(|two| two[0] != two[1]) && statuses.last() == Some(&2)
+}
+
+// The orders wait for the Watch, so that it is told of most of them, whatever the schedule.
 #[test]
-fn looks_as_often_as_the_limit_allows() -> Result<(), Fail> {
-    same(&LIMITS.looks, &4_294_967_295, &"looks")
+fn a_watch_is_told_of_many_orders(rt: HostRuntime) -> Result<(), Fail> {
+    let alloc = rt.alloc();
+    let open = Arc::new(alloc, AtomicU32::new(0))?;
+    let script = flipping(alloc)?;
+    let opened = open_paced(&rt, alloc, &script, &open)?;
+    let (served, told) = serve_and_watch(&rt, alloc, opened, open.clone()?);
+    let calls = served?.calls;
+    let Some(told) = told else {
+        return Err(Fail::new("a server told nothing"));
+    };
+    let messages = u32::try_from(told.statuses.len())?;
+    same(&is_told_to_end(&told.statuses), &true, &messages)?;
+    same(&(messages > FLIPS / 2), &true, &messages)?;
+    let end = CallEnd::Done(Outcome::Watched { messages });
+    same(&calls.as_slice(), &[end].as_slice(), &"the call")
 }
 
 const ORDERS: &str = "catalogue a -
@@ -372,7 +531,7 @@ const ORDERED: [Taken; 8] = [
 #[test]
 fn makes_each_order_and_tells_what_came_of_it(rt: HostRuntime) -> Result<(), Fail> {
     let alloc = rt.alloc();
-    let opened = open(&rt, alloc, ORDERS, &|rule| manual(rule), 2)?;
+    let opened = open(&rt, alloc, ORDERS, &Manuals, 2)?;
     expect_results(&opened, &[DONE])?;
     let served = serve_opened(&rt, alloc, opened, 1, 0)?;
     same(&served.calls.len(), &0, &"calls")?;
@@ -418,7 +577,7 @@ fn replies_in<R>(rt: &R, alloc: Global, steps: usize) -> Result<Option<usize>, F
 where
     R: Wait + Threads + Sync + Net<Listener = TcpListener, Stream = TcpStream>,
 {
-    let opened = open(rt, alloc, SETTING, &|rule| manual(rule), 2)?;
+    let opened = open(rt, alloc, SETTING, &Manuals, 2)?;
     expect_results(&opened, &[DONE])?;
     let scarcity = Scarcity::new(alloc, ROOM)?;
     let filler = scarcity.leave_steps(steps)?;
@@ -464,7 +623,7 @@ const REFUSED: [(u16, u16, CrewWhy); 3] = [
 fn refuses_what_makes_no_crew(rt: HostRuntime) -> Result<(), Fail> {
     let alloc = rt.alloc();
     for (workers, seats, why) in REFUSED {
-        let opened = open(&rt, alloc, ORDERS, &|rule| manual(rule), seats)?;
+        let opened = open(&rt, alloc, ORDERS, &Manuals, seats)?;
         let fault = serve_opened(&rt, alloc, opened, workers, 0).err();
         same(&fault, &Some(ServeFault::Crew(why)), &workers)?;
     }

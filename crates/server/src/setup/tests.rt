@@ -1,10 +1,10 @@
 ghost use Rattle.std.specs.Prelude.{All, IfOk};
 ghost use Rattle.hall.specs.Seats.{IsOf};
-ghost use Rattle.probe_core.specs.Made.{IsAsked, MakesAsked};
+ghost use Rattle.probe_core.specs.Made.{IsAsked};
 
 use super::*;
 use desk_core::Catalogue;
-use probe_core::{Depends, Manual, Threshold};
+use probe_core::{Depends, FnMaker, Manual, ProbeFn, Rule, Threshold};
 use script::{Mode, read_script};
 use std::test::Fail;
 use test_support::{Scarcity, same};
@@ -83,34 +83,42 @@ fn expect_seats<P: Probe>(made: SetUpHall<P>) -> Result<(), Fail> {
 }
 
 /// Sets a hall of one seat up.
-fn expect_setup<R: Wait, P: Probe, F: Fn(Rule) -> Result<P, AllocError>>(
+fn expect_setup<R: Wait, P: Probe, M: Maker<P>>(
     rt: &R,
     alloc: Global,
     script: &Script,
-    make: &F,
-) -> Result<(), Fail>
-    requires callable { F.IsAlwaysCallable make.now }
-    requires asked { MakesAsked P.rule P.memory (F.post make.now) }
-{
+    maker: &M,
+) -> Result<(), Fail> {
     let (hall, mut seat) = one_seat(alloc)?;
-    let results = run_setup(rt, alloc, &hall, &mut seat, script.lines(), make)?;
+    let results = run_setup(rt, alloc, &hall, &mut seat, script.lines(), maker)?;
     expect_results(&results, &LINES)?;
     same(&seat.made(), &4, &"changes")
 }
 
 /// Makes a hall of three seats that is set up.
-fn expect_hall<R: Wait, P: Probe, F: Fn(Rule) -> Result<P, AllocError>>(
+fn expect_hall<R: Wait, P: Probe, M: Maker<P>>(
     rt: &R,
     alloc: Global,
     script: Script,
-    make: &F,
-) -> Result<(), Fail>
-    requires callable { F.IsAlwaysCallable make.now }
-    requires asked { MakesAsked P.rule P.memory (F.post make.now) }
-{
-    let made = hall_of(rt, alloc, script, make, 3)?;
+    maker: &M,
+) -> Result<(), Fail> {
+    let made = hall_of(rt, alloc, script, maker, 3)?;
     expect_results(&made.results, &LINES)?;
     expect_seats(made)
+}
+
+/// Both, with the probes that the closure makes.
+fn expect_both<R: Wait, P: Probe, F: ProbeFn<Made = P> + Drop>(
+    rt: &R,
+    alloc: Global,
+    make: F,
+) -> Result<(), Fail>
+    requires { F.makes_asked make }
+{
+    let maker = FnMaker::new(make);
+    let script = script_of(alloc, &LINES)?;
+    expect_setup(rt, alloc, &script, &maker)?;
+    expect_hall(rt, alloc, script, &maker)
 }
 
 #[test]
@@ -129,9 +137,7 @@ fn makes_the_change_of_each_line(rt: HostRuntime) -> Result<(), Fail> {
         };
         Ok(probe)
     };
-    let script = script_of(alloc, &LINES)?;
-    expect_setup(&rt, alloc, &script, &make)?;
-    expect_hall(&rt, alloc, script, &make)
+    expect_both(&rt, alloc, make)
 }
 
 /// Lines that register one service, by hand.
@@ -142,12 +148,14 @@ const LINES_OF_A: [(&str, Taken); 3] = [
 ];
 
 /// Makes the probes of `LINES_OF_A`, and no others.
-fn manual(rule: Rule) -> Result<Manual, AllocError>
-    ensures { IsAsked ⟦<Manual as Probe>⟧.rule ⟦<Manual as Probe>⟧.memory rule result }
-{
-    match rule {
-        Rule::Manual => Ok(Manual::new()),
-        Rule::Threshold(..) | Rule::Depends(_) => Err(AllocError),
+struct Manuals;
+
+impl Maker<Manual> for Manuals {
+    fn make(&self, rule: Rule) -> Result<Manual, AllocError> {
+        match rule {
+            Rule::Manual => Ok(Manual::new()),
+            Rule::Threshold(..) | Rule::Depends(_) => Err(AllocError),
+        }
     }
 }
 
@@ -206,15 +214,7 @@ fn replies_in<R: Wait>(
     let (hall, mut seat) = one_seat::<Manual>(alloc)?;
     let scarcity = Scarcity::with_small_room(alloc)?;
     let filler = scarcity.leave_steps(steps)?;
-    let results = run_setup(
-        rt,
-        alloc,
-        &hall,
-        &mut seat,
-        script.lines(),
-        &|rule| manual(rule),
-    )
-    .ok();
+    let results = run_setup(rt, alloc, &hall, &mut seat, script.lines(), &Manuals).ok();
     drop(filler);
     drop(scarcity);
     replies_of(results.as_ref().map(|all| all.as_slice()), seat.made())
@@ -239,13 +239,7 @@ fn hall_in<R: Wait>(rt: &R, alloc: Global, steps: usize) -> Result<Option<u64>, 
     let script = script_of(alloc, &LINES_OF_A)?;
     let scarcity = Scarcity::with_small_room(alloc)?;
     let filler = scarcity.leave_steps(steps)?;
-    let made: Result<SetUpHall<Manual>, AllocError> = hall_of(
-        rt,
-        alloc,
-        script,
-        &|rule| manual(rule),
-        3,
-    );
+    let made: Result<SetUpHall<Manual>, AllocError> = hall_of(rt, alloc, script, &Manuals, 3);
     drop(filler);
     drop(scarcity);
     let Ok(made) = made else {

@@ -7,9 +7,10 @@ use Rattle.server.proofs.setup.hall_of.Goals as goal
 pub index_mut-requires : goal.index_mut-requires
 index_mut-requires g c = omega (arith, new_len c.in-Ok.hall _ _ c.in-Ok.dealt.items c.in-Ok.ensures.seats, c.requires.some)
 
-pub run_setup-requires-clause-seat : goal.run_setup-requires-clause-seat
-run_setup-requires-clause-seat g c =
-    first_ours c.in-Ok.hall _ _ c.in-Ok.dealt.items c.index_mut.result.now c.in-Ok.ensures.hall.0 c.in-Ok.ensures.seats c.requires.some c.index_mut.ensures.value
+pub run_setup-requires : goal.run_setup-requires
+run_setup-requires g c = record {
+  seat = first_ours c.in-Ok.hall _ _ c.in-Ok.dealt.items c.index_mut.result.now c.in-Ok.ensures.hall.0 c.in-Ok.ensures.seats c.requires.some c.index_mut.ensures.value;
+}
 
 pub returns-clause-seats : goal.returns-clause-seats
 returns-clause-seats g c =

@@ -1,10 +1,11 @@
-mod crowds;
 mod drops;
 mod ends;
+mod flips;
 mod gates;
-pub(crate) mod halls;
+mod gathers;
 mod letters;
 mod memory;
 mod orders;
-mod refusals;
-mod watches;
+mod plans;
+mod rings;
+mod sides;

@@ -1,25 +1,14 @@
-ghost use Rattle.std.specs.Prelude.{IfOk, MatchResult};
-ghost use Rattle.std.specs.List.{All};
-ghost use Rattle.hall.specs.Seats.{IsOf};
-
-use crate::tests::halls::{Found, Wish, hall_of_two, lists, serve};
-use crate::tests::letters::notes;
-use crate::{CallEnd, CrewWhy, OpenTurnstile};
-use desk_core::{Refusal, Reply, Setting};
+use crate::crews::plans::{Found, ROOM, Taken, Wish, plan_of, serve_notes};
+use crew::{CallEnd, CrewWhy, OpenTurnstile};
+use desk_core::{Refusal, Setting};
 use grpc_frame::Code;
-use hall::{Hall, Seat};
-use probe_core::Manual;
 use std::alloc::Global;
 use std::sync::Wait;
-use std::sync::atomic::{AtomicU32, Ordering};
 use std::test::Fail;
 use std::thread::Threads;
 use test_support::requests::CHECK_OF_EMPTY;
-use test_support::{Scarcity, same};
+use test_support::same;
 use web_call::{ExchangeFault, Outcome, Why};
-
-/// The most bytes that are left, which is more than any of the crews needs.
-const ROOM: usize = 98_304;
 
 /// How many bytes more are left at each step.
 const STEP: usize = 16;
@@ -67,34 +56,28 @@ fn have_ended(calls: &[CallEnd], requests: &[Option<&[u8]>], ends: &[CallEnd]) -
 }
 
 /// How a crew fared that has opened so many of its jobs.
-fn fare_of(found: &Found, requests: &[Option<&[u8]>], opened: usize) -> Result<Fare, Fail> {
-    let (fare, fits) = match found {
-        Ok(report) => {
-            if have_ended(&report.calls, requests, &[CHECKED]) {
-                (Fare::Served, opened == requests.len())
-            } else {
-                let fits = have_ended(&report.calls, requests, &[CHECKED, STARVED]);
-                (Fare::Starved, fits && opened == requests.len())
-            }
+fn fare_of(
+    calls: &Result<Vec<CallEnd>, CrewWhy>,
+    requests: &[Option<&[u8]>],
+    opened: usize,
+) -> Result<Fare, Fail> {
+    let has_opened_all = opened == requests.len();
+    let (fare, fits) = match calls {
+        Ok(calls) if have_ended(calls, requests, &[CHECKED]) => (Fare::Served, has_opened_all),
+        Ok(calls) => {
+            let fits = have_ended(calls, requests, &[CHECKED, STARVED]);
+            (Fare::Starved, fits && has_opened_all)
         }
-        Err(fault) if fault.why == CrewWhy::Lost => {
-            if opened == 0 {
-                (Fare::Lost, !requests.is_empty())
-            } else {
-                (Fare::Stopped, opened < requests.len())
-            }
-        }
-        Err(fault) => {
-            let fits = fault.why == CrewWhy::NoMemory && opened == requests.len();
-            (Fare::NoMemory, fits)
-        }
+        Err(CrewWhy::Lost) if opened == 0 => (Fare::Lost, !requests.is_empty()),
+        Err(CrewWhy::Lost) => (Fare::Stopped, opened < requests.len()),
+        Err(why) => (Fare::NoMemory, *why == CrewWhy::NoMemory && has_opened_all),
     };
     same(&fits, &true, &(fare, opened))?;
     Ok(fare)
 }
 
 /// How many of these orders got a reply, if each other was refused out of memory.
-fn made_in(results: &[Result<Reply, Refusal>]) -> Option<usize> {
+fn made_in(results: &[Taken]) -> Option<usize> {
     let made = results.iter().filter(|one| one.is_ok()).count();
     let starved = results
         .iter()
@@ -103,7 +86,7 @@ fn made_in(results: &[Result<Reply, Refusal>]) -> Option<usize> {
     (made.saturating_add(starved) == results.len()).then_some(made)
 }
 
-fn made_in_all(lists: &[Vec<Result<Reply, Refusal>>]) -> Option<usize> {
+fn made_in_all(lists: &[Vec<Taken>]) -> Option<usize> {
     let mut made = 0usize;
     for results in lists {
         made = made.saturating_add(made_in(results)?);
@@ -112,78 +95,27 @@ fn made_in_all(lists: &[Vec<Result<Reply, Refusal>>]) -> Option<usize> {
 }
 
 /// How many changes the seats have made together, if all are back in their places.
-fn made_by(seats: &[Seat<Manual>], count: u16) -> Option<usize> {
-    if seats.len() != usize::from(count) {
+fn made_by_all(made: &[Option<u64>], count: u16) -> Option<usize> {
+    if made.len() != usize::from(count) {
         return None;
     }
-    let mut made = 0usize;
-    for (place, seat) in seats.iter().enumerate() {
-        if usize::from(seat.number()) != place {
-            return None;
-        }
-        made = made.saturating_add(seat.made() as usize);
+    let mut all = 0usize;
+    for made in made {
+        all = all.saturating_add((*made)? as usize);
     }
-    Some(made)
-}
-
-/// How many entries the journal has, if no seat is missing.
-fn entries_in(hall: Hall<Manual>, seats: Vec<Seat<Manual>>) -> Option<usize>
-    requires { All (IsOf hall) seats.items }
-{
-    match hall.close(seats) {
-        Ok(closed) => Some(closed.desk.journal().len()),
-        Err(_) => None,
-    }
+    Some(all)
 }
 
 /// The journal has the two registrations and the orders that were made: as many as a report tells, and none where nothing began.
-fn expect_entries(hall: Hall<Manual>, found: Found, count: u16, has_begun: bool) -> Result<(), Fail>
-    requires { MatchResult found (λ report. All (IsOf hall) report.seats.items) (λ fault. All (IsOf hall) fault.seats.items) }
-{
-    let (seats, told, is_told) = match found {
-        Ok(report) => (report.seats, made_in_all(&report.orders), true),
-        Err(fault) => (fault.seats, Some(0), !has_begun),
-    };
-    let made = made_by(&seats, count);
-    let entries = entries_in(hall, seats);
+fn expect_entries(found: &Found, count: u16, has_begun: bool) -> Result<(), Fail> {
+    let made = made_by_all(&found.made, count);
     same(&made.is_some(), &true, &"all seats are in their places")?;
-    if is_told {
+    if found.calls.is_ok() || !has_begun {
+        let told = made_in_all(&found.orders);
         let all = told.map(|told| told.saturating_add(2));
         same(&made, &all, &"orders")?;
     }
-    same(&entries, &made, &"entries")
-}
-
-/// What a crew answers with so many bytes left, and how many jobs it has opened.
-fn found_with<R: Wait + Threads + Sync>(
-    rt: &R,
-    alloc: Global,
-    hall: &Hall<Manual>,
-    seats: Vec<Seat<Manual>>,
-    trial: &Trial,
-    left: usize,
-) -> Result<(Found, usize), Fail>
-    requires { All (IsOf hall.now) seats.items }
-    ensures { IfOk result (λ tried. MatchResult tried.0 (λ report. All (IsOf hall.now) report.seats.items) (λ fault. All (IsOf hall.now) fault.seats.items)) }
-{
-    let opened = AtomicU32::new(0);
-    let jobs = notes(alloc, trial.requests, &opened)?;
-    let orders = lists(alloc, trial.lists)?;
-    let scarcity = Scarcity::new(alloc, ROOM)?;
-    let filler = scarcity.leave(left)?;
-    let found = serve(
-        rt,
-        alloc,
-        hall,
-        seats,
-        jobs,
-        orders,
-        &OpenTurnstile,
-        trial.workers,
-    );
-    drop(filler);
-    drop(scarcity);
-    Ok((found, opened.load(Ordering::SeqCst) as usize))
+    same(&found.entries, &made, &"entries")
 }
 
 /// Tries a crew with so many bytes left, and looks at what it has made. With none left it can't begin, and a crew without jobs wants
@@ -195,12 +127,20 @@ fn fare_with<R: Wait + Threads + Sync>(
     left: usize,
 ) -> Result<Fare, Fail> {
     let lists = u16::try_from(trial.lists.len())?;
-    let count = trial.workers.saturating_add(lists).saturating_add(1);
-    let (hall, seats) = hall_of_two(rt, alloc, count)?;
-    let (found, opened) = found_with(rt, alloc, &hall, seats, trial, left)?;
-    let fare = fare_of(&found, trial.requests, opened)?;
+    let mut plan = plan_of(trial.workers);
+    plan.seats = trial.workers.saturating_add(lists).saturating_add(1);
+    plan.left = Some(left);
+    let (found, opened) = serve_notes(
+        rt,
+        alloc,
+        &plan,
+        trial.lists,
+        trial.requests,
+        &OpenTurnstile,
+    )?;
+    let fare = fare_of(&found.calls, trial.requests, opened as usize)?;
     let has_begun = left > 0 && !trial.requests.is_empty();
-    expect_entries(hall, found, count, has_begun)?;
+    expect_entries(&found, plan.seats, has_begun)?;
     Ok(fare)
 }
 

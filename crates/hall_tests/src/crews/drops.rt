@@ -1,13 +1,12 @@
-use crate::tests::halls::{calls_of, hall_of_two, serve};
-use crate::tests::letters::{CUT, Letter};
-use crate::{CallEnd, CrewWhy, Turnstile};
+use crate::crews::letters::{CUT, Letter};
+use crate::crews::plans::{manuals, plan_of, serve};
+use crew::Turnstile;
 use std::alloc::{AllocError, Global};
 use std::io;
 use std::io::{Read, Sink, Write};
 use std::sync::Wait;
 use std::sync::atomic::{AtomicU32, Ordering};
 use std::test::Fail;
-use std::thread::Threads;
 use test_support::requests::{CHECK_OF_EMPTY, WATCH_OF_ZZ};
 use test_support::same;
 
@@ -117,27 +116,24 @@ fn noted_letters<'a>(
     Ok(letters)
 }
 
-/// The calls of one worker, and how many jobs were opened.
-fn serve_noted<R: Wait + Threads + Sync>(
-    rt: &R,
-    alloc: Global,
-    diary: &Diary,
-) -> Result<(Result<Vec<CallEnd>, CrewWhy>, u32), Fail> {
-    let opened = AtomicU32::new(0);
-    let jobs = noted_letters(alloc, &opened, diary)?;
-    let (hall, seats) = hall_of_two(rt, alloc, 1)?;
-    let found = serve(rt, alloc, &hall, seats, jobs, Vec::new(alloc), diary, 1);
-    Ok((calls_of(found), opened.load(Ordering::SeqCst)))
-}
-
 #[test]
 fn a_call_drops_its_output_and_then_its_input_before_it_leaves(
     rt: HostRuntime,
 ) -> Result<(), Fail> {
+    let alloc = rt.alloc();
     let diary = Diary::new();
-    let (calls, opened) = serve_noted(&rt, rt.alloc(), &diary)?;
-    same(&calls?.len(), &3, &"calls")?;
-    same(&opened, &3, &"opened")?;
+    let opened = AtomicU32::new(0);
+    let jobs = noted_letters(alloc, &opened, &diary)?;
+    let found = serve(
+        &rt,
+        alloc,
+        &plan_of(1),
+        Vec::new(alloc),
+        manuals(alloc)?,
+        jobs,
+        &diary,
+    )?;
+    same(&found.calls?.len(), &3, &"calls")?;
     same(&diary.steps.load(Ordering::SeqCst), &12, &"steps")?;
     same(
         &diary.wrong.load(Ordering::SeqCst),

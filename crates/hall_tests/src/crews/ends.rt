@@ -1,20 +1,15 @@
-use crate::tests::gates::{Doorkeeper, Noting};
-use crate::tests::halls::{calls_of, hall_of_two, serve, serve_notes};
-use crate::tests::letters::{CUT, GET, Letter, notes};
-use crate::{CallEnd, CrewWhy, OpenTurnstile};
+use crate::crews::gates::{Doorkeeper, Noting};
+use crate::crews::letters::{CUT, GET, Letter, notes};
+use crate::crews::plans::{manuals, plan_of, serve, serve_notes};
+use crew::{CallEnd, OpenTurnstile};
 use grpc_frame::Code;
 use std::alloc::{AllocError, Global};
 use std::io::ErrorKind;
-use std::sync::Wait;
-use std::sync::atomic::{AtomicU32, Ordering};
+use std::sync::atomic::AtomicU32;
 use std::test::Fail;
-use std::thread::Threads;
 use test_support::requests::{CHECK_OF_EMPTY, CHECK_OF_ZZ, LIST, WATCH_OF_ZZ};
 use test_support::{Fault, FaultyReader, FaultyWriter, same};
 use web_call::{ExchangeFault, Outcome, Why};
-
-/// How the calls of a crew ended, each at its number, or why it has no report.
-type Calls = Result<Vec<CallEnd>, CrewWhy>;
 
 /// Calls of one crew, two of which can't be opened.
 const REQUESTS: [Option<&[u8]>; 9] = [
@@ -48,47 +43,38 @@ const CUT_SHORT: CallEnd = CallEnd::Fault(ExchangeFault {
     frames: 0,
 });
 
-/// The calls of so many workers, how many jobs were opened, and whether each call passed the turnstile once.
-fn serve_each<R: Wait + Threads + Sync>(
-    rt: &R,
-    alloc: Global,
-    workers: u16,
-) -> Result<(Calls, u32, bool), Fail> {
-    let noting = Noting::new(alloc, REQUESTS.len())?;
-    let (hall, seats) = hall_of_two(rt, alloc, 4)?;
-    let (found, opened) = serve_notes(rt, alloc, &hall, seats, &REQUESTS, &[], &noting, workers)?;
-    Ok((calls_of(found), opened, noting.are_all_gone(rt)))
-}
-
 #[test]
 fn each_call_ends_at_its_number_and_passes_the_turnstile_once(rt: HostRuntime) -> Result<(), Fail> {
-    for workers in [1, 2, 3, 4] {
-        let (calls, opened, are_all_gone) = serve_each(&rt, rt.alloc(), workers)?;
-        same(&calls?.as_slice(), &ENDS.as_slice(), &workers)?;
+    for workers in [1u16, 2, 4] {
+        let noting = Noting::new(rt.alloc(), REQUESTS.len())?;
+        let plan = plan_of(workers);
+        let (found, opened) = serve_notes(&rt, rt.alloc(), &plan, &[], &REQUESTS, &noting)?;
+        same(&found.calls?.as_slice(), &ENDS.as_slice(), &workers)?;
         same(&opened, &9, &workers)?;
-        same(&are_all_gone, &true, &workers)?;
+        same(&noting.are_all_gone(&rt), &true, &workers)?;
     }
     Ok(())
-}
-
-/// The calls of one worker, and how often the doorkeeper found another number of jobs opened.
-fn serve_in_turn<R: Wait + Threads + Sync>(rt: &R, alloc: Global) -> Result<(Calls, u32), Fail> {
-    let opened = AtomicU32::new(0);
-    let jobs = notes(alloc, &REQUESTS, &opened)?;
-    let doorkeeper = Doorkeeper::new(&opened);
-    let (hall, seats) = hall_of_two(rt, alloc, 1)?;
-    let orders = Vec::new(alloc);
-    let found = serve(rt, alloc, &hall, seats, jobs, orders, &doorkeeper, 1);
-    Ok((calls_of(found), doorkeeper.wrong()))
 }
 
 #[test]
 fn a_worker_opens_each_job_between_its_entering_and_its_leaving(
     rt: HostRuntime,
 ) -> Result<(), Fail> {
-    let (calls, wrong) = serve_in_turn(&rt, rt.alloc())?;
-    same(&calls?.as_slice(), &ENDS.as_slice(), &"calls")?;
-    same(&wrong, &0, &"wrong")
+    let alloc = rt.alloc();
+    let opened = AtomicU32::new(0);
+    let doorkeeper = Doorkeeper::new(&opened);
+    let jobs = notes(alloc, &REQUESTS, &opened)?;
+    let found = serve(
+        &rt,
+        alloc,
+        &plan_of(1),
+        Vec::new(alloc),
+        manuals(alloc)?,
+        jobs,
+        &doorkeeper,
+    )?;
+    same(&found.calls?.as_slice(), &ENDS.as_slice(), &"calls")?;
+    same(&doorkeeper.wrong(), &0, &"wrong")
 }
 
 /// A Check whose writer fails before its first frame is whole, before its second is, and behind both.
@@ -140,36 +126,26 @@ fn faulty_letters(alloc: Global, opened: &AtomicU32) -> Result<Vec<Faulty<'_>>, 
     Ok(letters)
 }
 
-fn serve_faulty<R: Wait + Threads + Sync>(
-    rt: &R,
-    alloc: Global,
-    workers: u16,
-) -> Result<Calls, Fail> {
-    let opened = AtomicU32::new(0);
-    let jobs = faulty_letters(alloc, &opened)?;
-    let (hall, seats) = hall_of_two(rt, alloc, 3)?;
-    let orders = Vec::new(alloc);
-    let found = serve(
-        rt,
-        alloc,
-        &hall,
-        seats,
-        jobs,
-        orders,
-        &OpenTurnstile,
-        workers,
-    );
-    Ok(calls_of(found))
-}
-
 #[test]
 fn a_call_whose_reader_or_writer_fails_is_a_fault_at_its_number(
     rt: HostRuntime,
 ) -> Result<(), Fail> {
-    for workers in [1, 3] {
-        let calls = serve_faulty(&rt, rt.alloc(), workers)?;
-        let ends = FAULTS.map(|(_, _, _, end)| end);
-        same(&calls?.as_slice(), &ends.as_slice(), &workers)?;
+    let alloc = rt.alloc();
+    let ends = FAULTS.map(|(_, _, _, end)| end);
+    for workers in [1u16, 3] {
+        let opened = AtomicU32::new(0);
+        let jobs = faulty_letters(alloc, &opened)?;
+        let plan = plan_of(workers);
+        let found = serve(
+            &rt,
+            alloc,
+            &plan,
+            Vec::new(alloc),
+            manuals(alloc)?,
+            jobs,
+            &OpenTurnstile,
+        )?;
+        same(&found.calls?.as_slice(), &ends.as_slice(), &workers)?;
     }
     Ok(())
 }

@@ -1,8 +1,10 @@
-use super::*;
+use crew::Ring;
+use std::sync::Wait;
 use std::test::Fail;
 use std::thread;
 use std::thread::Threads;
 use test_support::same;
+use web_call::{Bell, Turn};
 
 /// Waits so often as there are turns expected.
 fn expect_turns<B: Bell>(bell: &mut B, expected: &[Turn]) -> Result<(), Fail> {
@@ -48,22 +50,6 @@ fn gives_each_bell_its_own_looks(rt: HostRuntime) -> Result<(), Fail> {
     ring.end(&rt);
     expect_turns(&mut first, &[Turn::End])?;
     expect_turns(&mut second, &[Turn::End])
-}
-
-#[test]
-fn counts_as_far_as_there_are_numbers(rt: HostRuntime) -> Result<(), Fail> {
-    let ring = Ring {
-        rung: Mutex::new(Rung {
-            rings: u64::MAX - 1,
-            ended: false,
-        }),
-        changed: Condvar::new(),
-    };
-    let mut bell = ring.bell(&rt);
-    ring.ring(&rt);
-    ring.ring(&rt);
-    ring.end(&rt);
-    expect_turns(&mut bell, &[Turn::Look, Turn::End])
 }
 
 /// Counts the Looks of a bell up to its End, or up to the most.

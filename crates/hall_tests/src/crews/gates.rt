@@ -1,6 +1,6 @@
 //! Turnstiles that watch how calls pass.
 
-use crate::Turnstile;
+use crew::Turnstile;
 use std::alloc::{AllocError, Global};
 use std::sync::atomic::{AtomicU32, Ordering};
 use std::sync::{Mutex, Wait};

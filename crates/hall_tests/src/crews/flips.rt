@@ -1,0 +1,347 @@
+//! Lists of orders beside one another and beside Watches: each waits, but not for ever, until the other has begun.
+
+use crate::crews::letters::{Letter, Note};
+use crate::crews::plans::{Found, Wish, orders_of, pair, plan_of, serve};
+use crew::{CallEnd, OpenTurnstile};
+use desk_core::Setting;
+use probe_core::{Event, Manual, Probe, Rule};
+use std::alloc::{AllocError, Global};
+use std::io::Write;
+use std::sync::Wait;
+use std::sync::atomic::{AtomicU32, Ordering};
+use std::test::Fail;
+use std::thread::Threads;
+use std::time::{Clock, Duration};
+use std::{io, thread};
+use test_support::requests::WATCH_OF_A;
+use test_support::same;
+use web_call::Outcome;
+
+/// For how many milliseconds each event waits while the other side has not begun.
+const PAUSE: u64 = 100;
+
+/// How many events were heard on this side, and on how many of them the other side had not begun.
+#[derive(Drop)]
+struct Heard {
+    events: AtomicU32,
+    alone: AtomicU32,
+}
+
+impl Heard {
+    fn new() -> Heard {
+        Heard {
+            events: AtomicU32::new(0),
+            alone: AtomicU32::new(0),
+        }
+    }
+
+    fn events(&self) -> u32 {
+        self.events.load(Ordering::SeqCst)
+    }
+}
+
+/// A `Manual` that counts what it hears, and hears it slowly until the other side has begun.
+#[derive(Drop)]
+struct Paced<'a, C> {
+    manual: Manual,
+    clock: &'a C,
+    heard: &'a Heard,
+    other: &'a AtomicU32,
+    awaited: u32,
+}
+
+impl<'a, C> Paced<'a, C> {
+    /// The other side has begun once it counts so many.
+    fn new(clock: &'a C, heard: &'a Heard, other: &'a AtomicU32, awaited: u32) -> Paced<'a, C> {
+        Paced {
+            manual: Manual::new(),
+            clock,
+            heard,
+            other,
+            awaited,
+        }
+    }
+}
+
+impl<C: Clock> Probe for Paced<'_, C> {
+    ghost rule = { λ probe. ⟦<probe_core::Manual as probe_core::Probe>⟧.rule probe.manual };
+
+    ghost memory = { λ probe. ⟦<probe_core::Manual as probe_core::Probe>⟧.memory probe.manual };
+
+    fn rule(&self) -> Rule {
+        self.manual.rule()
+    }
+
+    fn is_up(&self) -> bool {
+        self.manual.is_up()
+    }
+
+    fn is_unknown(&self) -> bool {
+        self.manual.is_unknown()
+    }
+
+    fn note(&mut self, event: Event) -> bool {
+        self.heard.events.fetch_add(1, Ordering::SeqCst);
+        if self.other.load(Ordering::SeqCst) < self.awaited {
+            self.heard.alone.fetch_add(1, Ordering::SeqCst);
+            thread::sleep(self.clock, Duration::from_millis(PAUSE));
+        }
+        self.manual.note(event)
+    }
+
+    fn reset(&mut self) {
+        self.manual.reset()
+    }
+}
+
+/// So many orders, which set the service Down and Up in turn.
+fn flips(alloc: Global, name: &'static str, count: u32) -> Result<Vec<Wish>, AllocError> {
+    let mut wishes = Vec::new(alloc);
+    for number in 0..count {
+        let setting = if number % 2 == 0 {
+            Setting::Down
+        } else {
+            Setting::Up
+        };
+        wishes.push(Wish::Set(name, setting))?;
+    }
+    Ok(wishes)
+}
+
+/// How many orders a list has, which is more than are made before the other list begins.
+const ORDERS: u32 = 200;
+
+fn serve_two_lists<'a, R: Wait + Threads + Sync + Clock>(
+    rt: &'a R,
+    alloc: Global,
+    first: &'a Heard,
+    second: &'a Heard,
+) -> Result<Found, Fail> {
+    let mut orders = Vec::new(alloc);
+    orders.push(orders_of(alloc, &flips(alloc, "a", ORDERS)?)?)?;
+    orders.push(orders_of(alloc, &flips(alloc, "", ORDERS)?)?)?;
+    let mut plan = plan_of(1);
+    plan.most = 10_000;
+    plan.seats = 3;
+    let of_a = Paced::new(rt, first, &second.events, 1);
+    let of_all = Paced::new(rt, second, &first.events, 1);
+    let probes = pair(alloc, of_a, of_all)?;
+    let jobs: Vec<Note<'_>> = Vec::new(alloc);
+    let found = serve(rt, alloc, &plan, orders, probes, jobs, &OpenTurnstile)?;
+    Ok(found)
+}
+
+/// All orders of a list were made, and some of them once the other list had begun.
+fn expect_company(heard: &Heard) -> Result<(), Fail> {
+    same(&heard.events(), &ORDERS, &"heard")?;
+    let alone = heard.alone.load(Ordering::SeqCst);
+    same(&(alone < ORDERS), &true, &alone)
+}
+
+// A crew that makes all lists on one thread makes all orders of one before the other begins.
+#[test]
+fn two_lists_are_made_at_the_same_time(rt: HostRuntime) -> Result<(), Fail> {
+    let (first, second) = (Heard::new(), Heard::new());
+    let found = serve_two_lists(&rt, rt.alloc(), &first, &second)?;
+    same(&found.entries, &Some(402), &"entries")?;
+    expect_company(&first)?;
+    expect_company(&second)
+}
+
+/// How many Watches look beside the orders: so many that to wake them all takes longer than an order.
+const WATCHES: u16 = 24;
+
+/// How many orders there are beside them. The last one sets `a` Down.
+const FLIPS: u32 = 81;
+
+/// How many orders more each Watch waits for once it has told its first status.
+const MORE: u32 = 8;
+
+/// What Watches that are open wait for, and those who make the orders for them.
+#[derive(Drop)]
+struct Scene {
+    heard: Heard,
+    /// How many Watches are open, and how many orders were made when the last of them was.
+    open: AtomicU32,
+    made: AtomicU32,
+}
+
+impl Scene {
+    fn new() -> Scene {
+        Scene {
+            heard: Heard::new(),
+            open: AtomicU32::new(0),
+            made: AtomicU32::new(0),
+        }
+    }
+}
+
+/// Where a Watch writes. At its first flush it waits for some orders more, but not for ever.
+#[derive(Drop)]
+struct Page<'a, C> {
+    clock: &'a C,
+    scene: &'a Scene,
+    written: &'a mut Vec<u8>,
+    is_open: bool,
+}
+
+impl<C: Clock> Write for Page<'_, C> {
+    fn write(&mut self, buf: &[u8]) -> io::Result<usize> {
+        self.written.write(buf)
+    }
+
+    fn flush(&mut self) -> io::Result<()> {
+        if self.is_open {
+            return Ok(());
+        }
+        self.is_open = true;
+        let made = self.scene.heard.events();
+        self.scene.made.fetch_max(made, Ordering::SeqCst);
+        self.scene.open.fetch_add(1, Ordering::SeqCst);
+        for _ in 0..1_000u32 {
+            if self.scene.heard.events() >= made.saturating_add(MORE) {
+                break;
+            }
+            thread::sleep(self.clock, Duration::from_millis(1));
+        }
+        Ok(())
+    }
+}
+
+type Watching<'a, C> = Letter<'a, &'static [u8], Page<'a, C>>;
+
+fn watches<'a, C>(
+    alloc: Global,
+    clock: &'a C,
+    scene: &'a Scene,
+    opened: &'a AtomicU32,
+    pages: &'a mut [Vec<u8>],
+) -> Result<Vec<Watching<'a, C>>, AllocError> {
+    let mut jobs = Vec::new(alloc);
+    for written in pages {
+        let page = Page {
+            clock,
+            scene,
+            written,
+            is_open: false,
+        };
+        jobs.push(Letter::new(Some((WATCH_OF_A, page)), opened))?;
+    }
+    Ok(jobs)
+}
+
+/// Flips, before the last of which the Watches have the time to tell all others, and to wait.
+fn flips_with_rest(alloc: Global) -> Result<Vec<Wish>, AllocError> {
+    let mut wishes = flips(alloc, "a", FLIPS - 1)?;
+    wishes.push(Wish::SetLong)?;
+    wishes.push(Wish::Set("a", Setting::Down))?;
+    Ok(wishes)
+}
+
+fn serve_watches<R: Wait + Threads + Sync + Clock>(
+    rt: &R,
+    alloc: Global,
+    scene: &Scene,
+    looks: u32,
+    pages: &mut [Vec<u8>],
+) -> Result<Found, Fail> {
+    let opened = AtomicU32::new(0);
+    let mut orders = Vec::new(alloc);
+    orders.push(orders_of(alloc, &flips_with_rest(alloc)?)?)?;
+    let mut plan = plan_of(WATCHES);
+    plan.most = 10_000;
+    plan.seats = WATCHES + 1;
+    plan.looks = looks;
+    let mut probes = Vec::with_capacity(alloc, 1)?;
+    let awaited = u32::from(WATCHES);
+    probes.push(Paced::new(rt, &scene.heard, &scene.open, awaited))?;
+    let jobs = watches(alloc, rt, scene, &opened, pages)?;
+    let found = serve(rt, alloc, &plan, orders, probes, jobs, &OpenTurnstile)?;
+    Ok(found)
+}
+
+const HEAD: &[u8] = b"HTTP/1.1 200 OK\r\n\
+    connection: close\r\n\
+    content-type: application/grpc-web+proto\r\n\
+    transfer-encoding: chunked\r\n\
+    \r\n";
+
+const UP: &[u8] = b"7\r\n\x00\x00\x00\x00\x02\x08\x01\r\n";
+
+const DOWN: &[u8] = b"7\r\n\x00\x00\x00\x00\x02\x08\x02\r\n";
+
+const END: &[u8] = b"2f\r\n\
+    \x80\x00\x00\x00\x2agrpc-status:14\r\n\
+    grpc-message:watch ended\r\n\
+    \r\n\
+    0\r\n\
+    \r\n";
+
+/// What a Watch has written that told so many statuses, each other than the one before, and last of all that `a` is not serving.
+fn text_of(alloc: Global, messages: u32) -> Result<Vec<u8>, AllocError> {
+    let mut text = Vec::from_slice(alloc, HEAD)?;
+    for message in 0..messages {
+        let is_down = messages.saturating_sub(message) % 2 == 1;
+        text.extend_from_slice(if is_down { DOWN } else { UP })?;
+    }
+    text.extend_from_slice(END)?;
+    Ok(text)
+}
+
+fn messages_of(end: &CallEnd) -> Result<u32, Fail> {
+    match end {
+        CallEnd::Done(Outcome::Watched { messages }) => Ok(*messages),
+        _ => Err(Fail::new("no Watch")),
+    }
+}
+
+fn empty_pages(alloc: Global) -> Result<Vec<Vec<u8>>, AllocError> {
+    let mut pages = Vec::new(alloc);
+    for _ in 0..WATCHES {
+        pages.push(Vec::new(alloc))?;
+    }
+    Ok(pages)
+}
+
+// A Watch is told all changes but those that were made before it was open, which are few: those who make them wait for it. A worker
+// that ends its Watches early fails here, and one whose bell is made too late; a crew that rings before its orders; and
+// `serve_all_always_lost`, a crew that tells that all calls were lost, or that they were answered, and opens no job.
+#[test]
+fn a_watch_tells_each_change_up_to_the_last(rt: HostRuntime) -> Result<(), Fail> {
+    let alloc = rt.alloc();
+    for run in 0..3u32 {
+        let mut pages = empty_pages(alloc)?;
+        let scene = Scene::new();
+        let found = serve_watches(&rt, alloc, &scene, u32::MAX, &mut pages)?;
+        same(&found.entries, &Some(FLIPS as usize + 1), &run)?;
+        let made = scene.made.load(Ordering::SeqCst);
+        let calls = found.calls?;
+        for (end, written) in calls.iter().zip(pages.iter()) {
+            let messages = messages_of(end)?;
+            let later = FLIPS.saturating_sub(made);
+            same(
+                &(messages > later && messages <= FLIPS + 1),
+                &true,
+                &(messages, made),
+            )?;
+            same(&(*written == text_of(alloc, messages)?), &true, &messages)?;
+        }
+        same(&(made < FLIPS / 2), &true, &made)?;
+    }
+    Ok(())
+}
+
+// With a Look it would tell a later change: the orders wait for it.
+#[test]
+fn a_watch_takes_no_more_looks_than_its_limit(rt: HostRuntime) -> Result<(), Fail> {
+    let alloc = rt.alloc();
+    for looks in [0u32, 3] {
+        let mut pages = empty_pages(alloc)?;
+        let found = serve_watches(&rt, alloc, &Scene::new(), looks, &mut pages)?;
+        for end in found.calls?.iter() {
+            let messages = messages_of(end)?;
+            same(&(messages <= looks + 1), &true, &(messages, looks))?;
+        }
+    }
+    Ok(())
+}
