@@ -1,6 +1,5 @@
 ghost use Rattle.std.specs.List.{All};
 ghost use Rattle.hall.specs.Seats.{IsOf};
-ghost use Rattle.probe_core.specs.Made.{MakesAsked};
 
 use crate::live_loops::{LOOPS, LiveLoops};
 use crate::maker::Maker;
@@ -11,8 +10,7 @@ use desk_core::KeepMany;
 use hall::Hall;
 use live_run::serve_loops;
 use live_server::News;
-use probe_core::{Probe, Rule};
-use std::alloc::AllocError;
+use probe_core::Probe;
 use std::net::{Net, TcpListener, TcpStream};
 use std::rt::Files;
 use std::sync::Wait;
@@ -21,9 +19,9 @@ use std::thread::Threads;
 use std::time::Clock;
 
 /// Plays a scene beside event loops over a hall of the script, and prints what these have counted.
-pub fn play_beside_loops<R, P: Probe + Send, F: Fn(Rule) -> Result<P, AllocError>>(
+pub fn play_beside_loops<R, P: Probe + Send, M: probe_core::Maker<P>>(
     rt: &R,
-    make: &F,
+    maker: &M,
     scene: Scene,
 ) -> Option<()>
 where
@@ -35,8 +33,6 @@ where
         + Wait
         + Sync
         + Net<Listener = TcpListener, Stream = TcpStream>,
-    requires callable { F.IsAlwaysCallable make.now }
-    requires asked { MakesAsked P.rule P.memory (F.post make.now) }
 {
     let alloc = rt.alloc();
     let LiveLoops {
@@ -44,7 +40,7 @@ where
         news,
         port,
     } = LiveLoops::new(rt, alloc)?;
-    let made = script_hall(rt, alloc, make, LOOPS + 2)?;
+    let made = script_hall(rt, alloc, maker, LOOPS + 2)?;
     let (hall, mut seats) = made.into_hall();
     let maker = Maker::new(&hall, &news, last(&hall, &mut seats)?);
     let loops = seat_loops(alloc, &hall, servers, &mut seats)?;

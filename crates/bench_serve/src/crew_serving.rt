@@ -1,14 +1,12 @@
-ghost use Rattle.probe_core.specs.Made.{MakesAsked};
-
 use crate::clients::{Asked, ask_all};
 use crate::load::Load;
 use crate::request::HOST;
 use crate::script_hall::script_hall;
 use crew::CallEnd;
 use grpc_frame::Code;
-use probe_core::{Probe, Rule};
+use probe_core::{Maker, Probe};
 use server::{Capacity, SetUpHall, serve};
-use std::alloc::{AllocError, Global};
+use std::alloc::Global;
 use std::net::{Net, TcpListener, TcpStream};
 use std::sync::Wait;
 use std::thread;
@@ -22,20 +20,18 @@ const WORKERS: u16 = 4;
 const SEATS: u16 = 5;
 
 /// Serves the connections of the clients beside them, on a port that is free. None if a connection was not answered.
-pub fn serve_clients<R, P: Probe + Send, F: Fn(Rule) -> Result<P, AllocError>>(
+pub fn serve_clients<R, P: Probe + Send, M: Maker<P>>(
     rt: &R,
     alloc: Global,
-    make: &F,
+    maker: &M,
     load: Load,
 ) -> Option<Asked>
 where
     R: Clock + Threads + Wait + Sync + Net<Listener = TcpListener, Stream = TcpStream>,
-    requires callable { F.IsAlwaysCallable make.now }
-    requires asked { MakesAsked P.rule P.memory (F.post make.now) }
 {
     let listener = TcpListener::bind(rt, (HOST, 0u16)).ok()?;
     let port = listener.local_addr().ok()?.port();
-    let made = script_hall(rt, alloc, make, SEATS)?;
+    let made = script_hall(rt, alloc, maker, SEATS)?;
     let (answered, asked) = thread::join(
         rt,
         move || -> Option<usize> { serve_checks(rt, alloc, made, listener, load.connections) },

@@ -1,5 +1,3 @@
-ghost use Rattle.probe_core.specs.Made.{MakesAsked};
-
 use crate::clients::{Asked, ask_side_by_side};
 use crate::live_loops::{LOOPS, LiveLoops};
 use crate::load::Load;
@@ -7,9 +5,9 @@ use crate::script_hall::script_hall;
 use desk_core::KeepMany;
 use live_run::run_live;
 use live_server::{EventServer, News};
-use probe_core::{Probe, Rule};
+use probe_core::{Maker, Probe};
 use server::SetUpHall;
-use std::alloc::{AllocError, Global};
+use std::alloc::Global;
 use std::net::{Net, TcpListener, TcpStream};
 use std::sync::Wait;
 use std::thread;
@@ -17,16 +15,14 @@ use std::thread::Threads;
 use std::time::Clock;
 
 /// Serves the clients beside them by event loops, which end when the clients have. None if a connection was not answered.
-pub fn serve_live_clients<R, P: Probe + Send, F: Fn(Rule) -> Result<P, AllocError> + Sync>(
+pub fn serve_live_clients<R, P: Probe + Send, M: Maker<P> + Sync>(
     rt: &R,
     alloc: Global,
-    make: &F,
+    maker: &M,
     load: Load,
 ) -> Option<Asked>
 where
     R: Clock + Threads + Wait + Sync + Net<Listener = TcpListener, Stream = TcpStream>,
-    requires callable { F.IsAlwaysCallable make.now }
-    requires asked { MakesAsked P.rule P.memory (F.post make.now) }
 {
     let LiveLoops {
         servers,
@@ -34,12 +30,10 @@ where
         port,
     } = LiveLoops::new(rt, alloc)?;
     let news = &news;
-    let made = script_hall(rt, alloc, make, LOOPS + 1)?;
+    let made = script_hall(rt, alloc, maker, LOOPS + 1)?;
     let (ended, asked) = thread::join(
         rt,
-        move || -> Option<u64>
-            requires { F.IsAlwaysCallable make.now × MakesAsked P.rule P.memory (F.post make.now) }
-        { run_loops(rt, alloc, made, servers, make, news) },
+        move || -> Option<u64> { run_loops(rt, alloc, made, servers, maker, news) },
         move || {
             let asked = ask_side_by_side(rt, alloc, port, load);
             news.end();
@@ -54,20 +48,18 @@ where
 }
 
 /// How many calls have ended when all has.
-fn run_loops<R, P: Probe + Send, F: Fn(Rule) -> Result<P, AllocError> + Sync>(
+fn run_loops<R, P: Probe + Send, M: Maker<P> + Sync>(
     rt: &R,
     alloc: Global,
     made: SetUpHall<P, KeepMany>,
     servers: Vec<EventServer>,
-    make: &F,
+    maker: &M,
     news: &News,
 ) -> Option<u64>
 where
     R: Clock + Wait + Threads + Sync,
-    requires callable { F.IsAlwaysCallable make.now }
-    requires asked { MakesAsked P.rule P.memory (F.post make.now) }
 {
-    let ran = run_live(rt, alloc, made, servers, None, make, news).ok()?;
+    let ran = run_live(rt, alloc, made, servers, None, maker, news).ok()?;
     let mut ended = 0u64;
     for server in &ran.servers {
         ended = ended.saturating_add(server.ended());

@@ -31,7 +31,7 @@ mod watch_timing;
 mod watcher;
 
 use beside_loops::play_beside_loops;
-use probe_core::{Depends, Manual, Probe, Rule, Threshold};
+use probe_core::{Depends, FnMaker, Manual, Probe, ProbeFn, Rule, Threshold};
 use report::report_checks;
 use scene::Scene;
 use std::alloc::AllocError;
@@ -100,8 +100,29 @@ where
         };
         Ok(probe)
     };
+    bench_with(rt, make, run)
+}
+
+/// The same, with the probes that the closure makes.
+fn bench_with<R, P: Probe + Send, F: ProbeFn<Made = P> + Sync + Drop>(
+    rt: &R,
+    make: F,
+    run: Run,
+) -> Option<()>
+where
+    R: Print
+        + Clock
+        + Files
+        + AllocGlobal
+        + Threads
+        + Wait
+        + Sync
+        + Net<Listener = TcpListener, Stream = TcpStream>,
+    requires { F.makes_asked make }
+{
+    let maker = FnMaker::new(make);
     match run {
-        Run::Checks(connections) => report_checks(rt, &make, connections),
-        Run::Live(scene) => play_beside_loops(rt, &make, scene),
+        Run::Checks(connections) => report_checks(rt, &maker, connections),
+        Run::Live(scene) => play_beside_loops(rt, &maker, scene),
     }
 }

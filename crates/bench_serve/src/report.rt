@@ -1,20 +1,17 @@
-ghost use Rattle.probe_core.specs.Made.{MakesAsked};
-
 use crate::crew_serving::serve_clients;
 use crate::figures::Figures;
 use crate::live_serving::serve_live_clients;
 use crate::load::Load;
-use probe_core::{Probe, Rule};
-use std::alloc::AllocError;
+use probe_core::{Maker, Probe};
 use std::net::{Net, TcpListener, TcpStream};
 use std::sync::Wait;
 use std::thread::Threads;
 use std::time::Clock;
 
 /// Times Checks by each number of clients, and prints what they come to.
-pub fn report_checks<R, P: Probe + Send, F: Fn(Rule) -> Result<P, AllocError> + Sync>(
+pub fn report_checks<R, P: Probe + Send, M: Maker<P> + Sync>(
     rt: &R,
-    make: &F,
+    maker: &M,
     connections: u16,
 ) -> Option<()>
 where
@@ -25,8 +22,6 @@ where
         + Wait
         + Sync
         + Net<Listener = TcpListener, Stream = TcpStream>,
-    requires callable { F.IsAlwaysCallable make.now }
-    requires asked { MakesAsked P.rule P.memory (F.post make.now) }
 {
     let alloc = rt.alloc();
     for clients in [1, 2, 4, 64] {
@@ -34,10 +29,10 @@ where
             connections,
             clients,
         };
-        let served = Figures::of(serve_clients(rt, alloc, make, load)?)?;
+        let served = Figures::of(serve_clients(rt, alloc, maker, load)?)?;
         print!(rt; "clients {clients}, ").ok()?;
         print_requests(rt, "serve", served)?;
-        let live = Figures::of(serve_live_clients(rt, alloc, make, load)?)?;
+        let live = Figures::of(serve_live_clients(rt, alloc, maker, load)?)?;
         print!(rt; "clients {clients}, ").ok()?;
         print_requests(rt, "live", live)?;
     }

@@ -1,10 +1,8 @@
-ghost use Rattle.probe_core.specs.Made.{MakesAsked};
-
 use control_place::ControlStream;
 use event_loop::Link;
 use mio::event::Source;
 use mio::{Interest, Registry, Token};
-use probe_core::{Probe, Rule};
+use probe_core::{Maker, Probe};
 use session::{Console, Session};
 use session_loop::{Fate, turn};
 use std::alloc::{AllocError, Global};
@@ -23,7 +21,6 @@ pub(crate) struct Connection {
 
 impl Connection {
     ghost use Rattle.std.specs.Prelude.{◌≡◌, ◌<◌, length, IfOk};
-    ghost use Rattle.probe_core.specs.Made.{MakesAsked};
     ghost use Rattle.session.specs.Session.{begun};
     ghost use Rattle.event_loop.specs.declared.link.Last.{Last};
     ghost use Rattle.session_loop.specs.Turn.{Leaves, Moved};
@@ -62,15 +59,13 @@ impl Connection {
     }
 
     /// A turn of its session.
-    pub(crate) fn turn<P: Probe, C: Console<P>, F: Fn(Rule) -> Result<P, AllocError>>(
+    pub(crate) fn turn<P: Probe, C: Console<P>, M: Maker<P>>(
         &mut self,
         alloc: Global,
         console: &mut C,
-        make: &F,
+        maker: &M,
         buffer: &mut [u8],
     ) -> Fate
-        requires callable { F.IsAlwaysCallable make.now }
-        requires asked { MakesAsked P.rule P.memory (F.post make.now) }
         requires room { 0 < length buffer.old }
         ensures names { C.names console.new ≡ C.names console.old }
         ensures spoken { (moved : Moved) × HasSpoken (C.names console.old) C.seen C.looks C.changes console.old console.new (session_of self.old) (session_of self.new) moved }
@@ -81,7 +76,7 @@ impl Connection {
             &mut Link::new(&self.stream),
             &mut Link::new(&self.stream),
             console,
-            make,
+            maker,
             &mut self.session,
             buffer,
         )

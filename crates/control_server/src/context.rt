@@ -5,10 +5,10 @@ use probe_core::Probe;
 
 /// What all sessions of a server are held over.
 #[derive(Drop)]
-pub struct Context<'a, R, P: Probe, K: Keep, F> {
+pub struct Context<'a, R, P: Probe, K: Keep, M> {
     pub rt: &'a R,
     pub hall: &'a Hall<P, K>,
     /// Makes the probes of the services that sessions register.
-    pub make: &'a F,
+    pub maker: &'a M,
     pub news: &'a News,
 }

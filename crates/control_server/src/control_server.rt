@@ -1,5 +1,4 @@
 ghost use Rattle.std.specs.Prelude.{◌≡◌};
-ghost use Rattle.probe_core.specs.Made.{MakesAsked};
 ghost use Rattle.std.specs.List.{All};
 ghost use Rattle.hall.specs.Seats.{IsOf};
 ghost use Rattle.control_server.specs.Seats.{SeatsHaveMet};
@@ -12,8 +11,8 @@ use hall::Seat;
 use live_server::{Queue, Tally};
 use mio::event::Source;
 use mio::{Events, Interest, Poll, Registry, Token};
-use probe_core::{Probe, Rule};
-use std::alloc::{AllocError, Global};
+use probe_core::{Maker, Probe};
+use std::alloc::Global;
 use std::net::Net;
 use std::rt::Files;
 use std::sync::{Arc, Wait};
@@ -61,7 +60,6 @@ impl ControlServer {
     ghost use Rattle.std.specs.Prelude.{◌≡◌};
     ghost use Rattle.std.specs.List.{All};
     ghost use Rattle.hall.specs.Seats.{IsOf};
-    ghost use Rattle.probe_core.specs.Made.{MakesAsked};
     ghost use Rattle.control_server.specs.Seats.{SeatsHaveMet};
 
     /// A loop over a control place, whose sessions tell what the loops with these tallies count.
@@ -96,16 +94,14 @@ impl ControlServer {
     }
 
     /// Holds sessions until all is to end, what is left to send is sent or given up, and no connection is held.
-    pub fn run<R, P: Probe, K: Keep, F: Fn(Rule) -> Result<P, AllocError>>(
+    pub fn run<R, P: Probe, K: Keep, M: Maker<P>>(
         &mut self,
-        context: &Context<'_, R, P, K, F>,
+        context: &Context<'_, R, P, K, M>,
         seats: &mut [Seat<P, K>],
     )
     where
         R: Wait + Clock,
         requires ours { All (IsOf context.now.hall.now) seats.old }
-        requires callable { F.IsAlwaysCallable context.now.make.now }
-        requires asked { MakesAsked P.rule P.memory (F.post context.now.make.now) }
         ensures met { SeatsHaveMet context.now.hall.now.names seats.old seats.new }
         ensures ours { All (IsOf context.now.hall.now) seats.new }
     {
@@ -121,16 +117,14 @@ impl ControlServer {
 
     /// Waits for events, and does what they ask for. It accepts last, so that no key is used again among the events of one round. Where
     /// the poll fails the rest is done all the same.
-    pub fn round<R, P: Probe, K: Keep, F: Fn(Rule) -> Result<P, AllocError>>(
+    pub fn round<R, P: Probe, K: Keep, M: Maker<P>>(
         &mut self,
-        context: &Context<'_, R, P, K, F>,
+        context: &Context<'_, R, P, K, M>,
         seats: &mut [Seat<P, K>],
     ) -> io::Result<()>
     where
         R: Wait + Clock,
         requires ours { All (IsOf context.now.hall.now) seats.old }
-        requires callable { F.IsAlwaysCallable context.now.make.now }
-        requires asked { MakesAsked P.rule P.memory (F.post context.now.make.now) }
         ensures met { SeatsHaveMet context.now.hall.now.names seats.old seats.new }
         ensures ours { All (IsOf context.now.hall.now) seats.new }
     {
@@ -171,15 +165,13 @@ impl ControlServer {
     }
 
     /// Accepts connections that wait, or, once all is to end, no more.
-    fn accept<R: Wait, P: Probe, K: Keep, F: Fn(Rule) -> Result<P, AllocError>>(
+    fn accept<R: Wait, P: Probe, K: Keep, M: Maker<P>>(
         &mut self,
-        context: &Context<'_, R, P, K, F>,
+        context: &Context<'_, R, P, K, M>,
         seats: &mut [Seat<P, K>],
         now: Instant,
     )
         requires ours { All (IsOf context.now.hall.now) seats.old }
-        requires callable { F.IsAlwaysCallable context.now.make.now }
-        requires asked { MakesAsked P.rule P.memory (F.post context.now.make.now) }
         ensures met { SeatsHaveMet context.now.hall.now.names seats.old seats.new }
         ensures ours { All (IsOf context.now.hall.now) seats.new }
     {
@@ -195,15 +187,13 @@ impl ControlServer {
         }
     }
 
-    fn accept_one<R: Wait, P: Probe, K: Keep, F: Fn(Rule) -> Result<P, AllocError>>(
+    fn accept_one<R: Wait, P: Probe, K: Keep, M: Maker<P>>(
         &mut self,
-        context: &Context<'_, R, P, K, F>,
+        context: &Context<'_, R, P, K, M>,
         seats: &mut [Seat<P, K>],
         now: Instant,
     )
         requires ours { All (IsOf context.now.hall.now) seats.old }
-        requires callable { F.IsAlwaysCallable context.now.make.now }
-        requires asked { MakesAsked P.rule P.memory (F.post context.now.make.now) }
         ensures met { SeatsHaveMet context.now.hall.now.names seats.old seats.new }
         ensures ours { All (IsOf context.now.hall.now) seats.new }
     {
@@ -239,17 +229,15 @@ impl ControlServer {
 }
 
 /// Has the sessions take turns that events name, and tells whether connections wait to be accepted.
-fn take_events<R: Wait, P: Probe, K: Keep, F: Fn(Rule) -> Result<P, AllocError>>(
+fn take_events<R: Wait, P: Probe, K: Keep, M: Maker<P>>(
     events: &Events,
     registry: &Registry,
     sessions: &mut Sessions,
-    context: &Context<'_, R, P, K, F>,
+    context: &Context<'_, R, P, K, M>,
     seats: &mut [Seat<P, K>],
     now: Instant,
 ) -> bool
     requires ours { All (IsOf context.now.hall.now) seats.old }
-    requires callable { F.IsAlwaysCallable context.now.make.now }
-    requires asked { MakesAsked P.rule P.memory (F.post context.now.make.now) }
     ensures met { SeatsHaveMet context.now.hall.now.names seats.old seats.new }
     ensures ours { All (IsOf context.now.hall.now) seats.new }
 {

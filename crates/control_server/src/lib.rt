@@ -8,29 +8,25 @@
 //! ghost use Rattle.std.specs.List.{All};
 //! ghost use Rattle.control_server.specs.Seats.{SeatsHaveMet};
 //! ghost use Rattle.hall.specs.Seats.{IsOf};
-//! ghost use Rattle.probe_core.specs.Made.{MakesAsked};
 //!
 //! use control_server::{Context, ControlServer};
 //! use desk_core::Keep;
 //! use hall::Seat;
-//! use probe_core::{Probe, Rule};
-//! use std::alloc::AllocError;
+//! use probe_core::{Maker, Probe};
 //! use std::fs::Files;
 //! use std::io;
 //! use std::sync::Wait;
 //! use std::time::Clock;
 //!
 //! /// Holds sessions until all is to end, and then takes the file of its socket away, if it has one.
-//! pub fn hold_sessions<R, P: Probe, K: Keep, F: Fn(Rule) -> Result<P, AllocError>>(
+//! pub fn hold_sessions<R, P: Probe, K: Keep, M: Maker<P>>(
 //!     server: &mut ControlServer,
-//!     context: &Context<'_, R, P, K, F>,
+//!     context: &Context<'_, R, P, K, M>,
 //!     seats: &mut [Seat<P, K>],
 //! ) -> io::Result<()>
 //! where
 //!     R: Wait + Clock + Files,
 //!     requires ours { All (IsOf context.now.hall.now) seats.old }
-//!     requires callable { F.IsAlwaysCallable context.now.make.now }
-//!     requires asked { MakesAsked P.rule P.memory (F.post context.now.make.now) }
 //!     ensures met { SeatsHaveMet context.now.hall.now.names seats.old seats.new }
 //!     ensures ours { All (IsOf context.now.hall.now) seats.new }
 //! {

@@ -1,7 +1,6 @@
 ghost use Rattle.std.specs.Prelude.{◌≡◌, ◌<◌, length};
 ghost use Rattle.session_loop.specs.Turn.{Moved};
 ghost use Rattle.hall.specs.Seats.{IsOf};
-ghost use Rattle.probe_core.specs.Made.{MakesAsked};
 ghost use Rattle.control_server.specs.Connection.{SpeaksBy, session_of};
 ghost use Rattle.control_server.specs.HallConsole.{console_hall, console_seat};
 
@@ -16,9 +15,9 @@ use desk_core::Keep;
 use hall::Seat;
 use live_server::Tally;
 use mio::{Registry, Token};
-use probe_core::{Probe, Rule};
+use probe_core::{Maker, Probe};
 use session_loop::Fate;
-use std::alloc::{AllocError, Global};
+use std::alloc::Global;
 use std::io::Write;
 use std::sync::atomic::{AtomicU64, Ordering};
 use std::sync::{Arc, Wait};
@@ -52,9 +51,9 @@ fn token_of(key: usize) -> Token {
 }
 
 /// A turn of a connection's session by this seat.
-fn turn_by<R: Wait, P: Probe, K: Keep, F: Fn(Rule) -> Result<P, AllocError>>(
+fn turn_by<R: Wait, P: Probe, K: Keep, M: Maker<P>>(
     alloc: Global,
-    context: &Context<'_, R, P, K, F>,
+    context: &Context<'_, R, P, K, M>,
     overview: Overview<'_>,
     connection: &mut Connection,
     seat: &mut Seat<P, K>,
@@ -62,36 +61,31 @@ fn turn_by<R: Wait, P: Probe, K: Keep, F: Fn(Rule) -> Result<P, AllocError>>(
 ) -> Fate
     requires seat { IsOf context.now.hall.now seat.old }
     requires room { 0 < length buffer.old }
-    requires callable { F.IsAlwaysCallable context.now.make.now }
-    requires asked { MakesAsked P.rule P.memory (F.post context.now.make.now) }
     ensures { (moved : Moved) × SpeaksBy context.now.hall.now.names seat.old seat.new (session_of connection.old) (session_of connection.new) moved }
 {
     let mut console = HallConsole::new(context.rt, context.hall, seat, overview);
-    turn_over(alloc, &mut console, connection, context.make, buffer)
+    turn_over(alloc, &mut console, connection, context.maker, buffer)
 }
 
 /// The same over a console.
-fn turn_over<R: Wait, P: Probe, K: Keep, F: Fn(Rule) -> Result<P, AllocError>>(
+fn turn_over<R: Wait, P: Probe, K: Keep, M: Maker<P>>(
     alloc: Global,
     console: &mut HallConsole<'_, R, P, K>,
     connection: &mut Connection,
-    make: &F,
+    maker: &M,
     buffer: &mut [u8],
 ) -> Fate
     requires room { 0 < length buffer.old }
-    requires callable { F.IsAlwaysCallable make.now }
-    requires asked { MakesAsked P.rule P.memory (F.post make.now) }
     ensures reference { console.new.seat.ghost_name ≡ console.old.seat.ghost_name }
     ensures spoken { (moved : Moved) × SpeaksBy (console_hall console.old).names (console_seat console.old) (console_seat console.new) (session_of connection.old) (session_of connection.new) moved }
 {
-    connection.turn(alloc, console, make, buffer)
+    connection.turn(alloc, console, maker, buffer)
 }
 
 impl Sessions {
     ghost use Rattle.std.specs.Prelude.{◌≡◌, IfNone, OnSome};
     ghost use Rattle.std.specs.List.{All};
     ghost use Rattle.hall.specs.Seats.{IsOf};
-    ghost use Rattle.probe_core.specs.Made.{MakesAsked};
     ghost use Rattle.control_server.specs.Connection.{SpeaksAt};
     ghost use Rattle.control_server.specs.Seats.{IsByKey, SeatsHaveMet};
 
@@ -118,15 +112,13 @@ impl Sessions {
     }
 
     /// A turn of the session that a key holds, by the seat of that key. Once all is to end there are none.
-    fn turn_of<R: Wait, P: Probe, K: Keep, F: Fn(Rule) -> Result<P, AllocError>>(
+    fn turn_of<R: Wait, P: Probe, K: Keep, M: Maker<P>>(
         &mut self,
-        context: &Context<'_, R, P, K, F>,
+        context: &Context<'_, R, P, K, M>,
         seats: &mut [Seat<P, K>],
         key: usize,
     ) -> Option<Fate>
         requires ours { All (IsOf context.now.hall.now) seats.old }
-        requires callable { F.IsAlwaysCallable context.now.make.now }
-        requires asked { MakesAsked P.rule P.memory (F.post context.now.make.now) }
         ensures met { SeatsHaveMet context.now.hall.now.names seats.old seats.new }
         ensures ours { All (IsOf context.now.hall.now) seats.new }
         ensures own { IsByKey key seats.old seats.new }
@@ -157,17 +149,15 @@ impl Sessions {
     }
 
     /// A turn of a session, for what was reported of its socket.
-    pub(crate) fn turn<R: Wait, P: Probe, K: Keep, F: Fn(Rule) -> Result<P, AllocError>>(
+    pub(crate) fn turn<R: Wait, P: Probe, K: Keep, M: Maker<P>>(
         &mut self,
         registry: &Registry,
-        context: &Context<'_, R, P, K, F>,
+        context: &Context<'_, R, P, K, M>,
         seats: &mut [Seat<P, K>],
         key: usize,
         now: Instant,
     )
         requires ours { All (IsOf context.now.hall.now) seats.old }
-        requires callable { F.IsAlwaysCallable context.now.make.now }
-        requires asked { MakesAsked P.rule P.memory (F.post context.now.make.now) }
         ensures met { SeatsHaveMet context.now.hall.now.names seats.old seats.new }
         ensures ours { All (IsOf context.now.hall.now) seats.new }
         ensures own { IsByKey key seats.old seats.new }
@@ -187,17 +177,15 @@ impl Sessions {
 
     /// Takes in a connection that was accepted, and takes its first turn. One that is too many is told so; where memory ran out, it is
     /// closed.
-    pub(crate) fn take_in<R: Wait, P: Probe, K: Keep, F: Fn(Rule) -> Result<P, AllocError>>(
+    pub(crate) fn take_in<R: Wait, P: Probe, K: Keep, M: Maker<P>>(
         &mut self,
         registry: &Registry,
-        context: &Context<'_, R, P, K, F>,
+        context: &Context<'_, R, P, K, M>,
         seats: &mut [Seat<P, K>],
         stream: ControlStream,
         now: Instant,
     )
         requires ours { All (IsOf context.now.hall.now) seats.old }
-        requires callable { F.IsAlwaysCallable context.now.make.now }
-        requires asked { MakesAsked P.rule P.memory (F.post context.now.make.now) }
         ensures met { SeatsHaveMet context.now.hall.now.names seats.old seats.new }
         ensures ours { All (IsOf context.now.hall.now) seats.new }
     {

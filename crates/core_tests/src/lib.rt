@@ -1,9 +1,5 @@
-//! Tests of `tail`, `probe_core` and `desk_core` by their public calls, and what a registry keeps in tests.
+//! Tests of `tail`, `probe_core` and `desk_core`, by public calls alone.
 #![tactic(auto)]
-
-mod sixteen;
-
-pub use sixteen::KeepSixteen;
 
 #[cfg(test)]
 mod catalogues;
@@ -19,6 +15,8 @@ mod keeping;
 mod memory;
 #[cfg(test)]
 mod rows;
+#[cfg(test)]
+mod sixteen;
 #[cfg(test)]
 mod tails;
 #[cfg(test)]

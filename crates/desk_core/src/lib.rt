@@ -43,7 +43,6 @@ mod refusal;
 mod registrar;
 mod registration;
 mod reply;
-pub mod sixteen;
 mod slot;
 mod slots;
 mod status;

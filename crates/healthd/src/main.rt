@@ -1,7 +1,7 @@
 //! gRPC's health checking service over gRPC-Web.
 #![tactic(auto)]
 
-ghost use Rattle.probe_core.specs.Made.{IsAsked, MakesAsked};
+ghost use Rattle.probe_core.specs.Made.{IsAsked};
 
 mod answer;
 mod ask;
@@ -28,7 +28,7 @@ use clap::ArgMatches;
 use clap::error::ErrorKind;
 use control_client::is_one_line;
 use fault::Fault;
-use probe_core::{Depends, Manual, Probe, Rule, Threshold};
+use probe_core::{Depends, FnMaker, Maker, Manual, Probe, ProbeFn, Rule, Threshold};
 use run_options::RunOptions;
 use std::alloc::AllocError;
 use std::fmt::Display;
@@ -109,22 +109,13 @@ where
         };
         Ok(probe)
     };
-    match matches.subcommand() {
-        Some(("body", matches)) => body::run(rt, matches)?,
-        Some(("replay", _)) => replay::run(rt, &make)?,
-        Some(("serve", matches)) => serve::run(rt, &make, matches)?,
-        Some(("run", matches)) => return run_to_end(rt, &make, matches),
-        Some(("ask", matches)) => return ask_server(rt, matches),
-        Some(("tell", matches)) => return tell_server(rt, matches),
-        _ => return Ok(ExitCode::from(REFUSED)),
-    }
-    Ok(ExitCode::SUCCESS)
+    run_with(rt, make, matches)
 }
 
-/// The command `run`, whose faults tell their cause.
-fn run_to_end<R, P: Probe + Send, F: Fn(Rule) -> Result<P, AllocError> + Sync>(
+/// The same, with the probes that the closure makes.
+fn run_with<R, P: Probe + Send, F: ProbeFn<Made = P> + Sync + Drop>(
     rt: &R,
-    make: &F,
+    make: F,
     matches: &ArgMatches<'_>,
 ) -> Result<ExitCode, Fault>
 where
@@ -138,14 +129,44 @@ where
         + Threads
         + Sync
         + Net<Listener = TcpListener, Stream = TcpStream>,
-    requires callable { F.IsAlwaysCallable make.now }
-    requires asked { MakesAsked P.rule P.memory (F.post make.now) }
+    requires { F.makes_asked make }
+{
+    let maker = FnMaker::new(make);
+    match matches.subcommand() {
+        Some(("body", matches)) => body::run(rt, matches)?,
+        Some(("replay", _)) => replay::run(rt, &maker)?,
+        Some(("serve", matches)) => serve::run(rt, &maker, matches)?,
+        Some(("run", matches)) => return run_to_end(rt, &maker, matches),
+        Some(("ask", matches)) => return ask_server(rt, matches),
+        Some(("tell", matches)) => return tell_server(rt, matches),
+        _ => return Ok(ExitCode::from(REFUSED)),
+    }
+    Ok(ExitCode::SUCCESS)
+}
+
+/// The command `run`, whose faults tell their cause.
+fn run_to_end<R, P: Probe + Send, M: Maker<P> + Sync>(
+    rt: &R,
+    maker: &M,
+    matches: &ArgMatches<'_>,
+) -> Result<ExitCode, Fault>
+where
+    R: Input
+        + Print
+        + Eprint
+        + Files
+        + Clock
+        + AllocGlobal
+        + Wait
+        + Threads
+        + Sync
+        + Net<Listener = TcpListener, Stream = TcpStream>,
 {
     let options = match RunOptions::read(matches) {
         Ok(options) => options,
         Err(bad) => return refuse(rt, &command::bad_option(rt.alloc(), bad)?),
     };
-    match run::run(rt, make, options) {
+    match run::run(rt, maker, options) {
         Ok(()) => Ok(ExitCode::SUCCESS),
         Err(failure) => Ok(failed(rt, &failure)),
     }

@@ -1,26 +1,22 @@
 ghost use Rattle.std.specs.Prelude.{IfErr, IfOk};
 ghost use Rattle.healthd.specs.Replay.{EndsReplay, Replays};
-ghost use Rattle.probe_core.specs.Made.{MakesAsked};
 
 use crate::fault::Fault;
 use crate::input::read;
-use probe_core::{Probe, Rule};
+use probe_core::{Maker, Probe};
 use script::{Mode, read_script, run_script};
-use std::alloc::{AllocError, Global};
+use std::alloc::Global;
 use std::io;
 use std::io::Write;
 
-/// The command `replay`, with the probes that `make` gives.
-pub fn run<P: Probe, F: Fn(Rule) -> Result<P, AllocError>>(
+/// The command `replay`, with the probes that `maker` gives.
+pub fn run<P: Probe, M: Maker<P>>(
     rt: &(impl Input + Print + AllocGlobal),
-    make: &F,
-) -> Result<(), Fault>
-    requires callable { F.IsAlwaysCallable make.now }
-    requires asked { MakesAsked P.rule P.memory (F.post make.now) }
-{
+    maker: &M,
+) -> Result<(), Fault> {
     let alloc = rt.alloc();
     let bytes = read(alloc, rt.reader())?;
-    let output = replay(alloc, make, &bytes)?;
+    let output = replay(alloc, maker, &bytes)?;
     match io::writer(rt).write_all(&output) {
         Ok(()) => Ok(()),
         Err(_) => Err(Fault::Write),
@@ -28,18 +24,12 @@ pub fn run<P: Probe, F: Fn(Rule) -> Result<P, AllocError>>(
 }
 
 /// Runs the script, with a probe of its rule for each line that registers one.
-fn replay<P: Probe, F: Fn(Rule) -> Result<P, AllocError>>(
-    alloc: Global,
-    make: &F,
-    bytes: &[u8],
-) -> Result<Vec<u8>, Fault>
-    requires callable { F.IsAlwaysCallable make.now }
-    requires asked { MakesAsked P.rule P.memory (F.post make.now) }
+fn replay<P: Probe, M: Maker<P>>(alloc: Global, maker: &M, bytes: &[u8]) -> Result<Vec<u8>, Fault>
     ensures ok { IfOk result (λ output. Replays bytes.now output.items) }
     ensures fault { IfErr result (λ fault. EndsReplay bytes.now fault) }
 {
     let script = read_script(alloc, bytes, Mode::Replay)?;
-    Ok(run_script(alloc, script, make)?)
+    Ok(run_script(alloc, script, maker)?)
 }
 
 #[cfg(test)]

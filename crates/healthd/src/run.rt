@@ -3,7 +3,6 @@ ghost use Rattle.std.specs.Prelude.{◌≡◌, ◌↔◌, ◌≤◌, ◌<◌, �
 ghost use Rattle.desk_core.specs.declared.call.Call.{Call};
 ghost use Rattle.desk_core.specs.Past.{past};
 ghost use Rattle.hall.specs.Seats.{new_seats};
-ghost use Rattle.probe_core.specs.Made.{MakesAsked};
 ghost use Rattle.server.specs.Setup.{AreSetUp};
 ghost use Rattle.live_run.specs.Loops.{HaveServedAll};
 ghost use Rattle.control_place.specs.Place.{place_text};
@@ -21,7 +20,7 @@ use control_server::{ControlServer, MAX_SESSIONS};
 use desk_core::KeepMany;
 use live_run::{Ran, RefusedLine, RunFault, first_refused, run_live};
 use live_server::{EventServer, Limits, News, Tally};
-use probe_core::{Probe, Rule};
+use probe_core::{Maker, Probe};
 use script::{Mode, read_script};
 use server::{SetUpHall, hall_of};
 use std::alloc::{AllocError, Global};
@@ -32,10 +31,10 @@ use std::thread::Threads;
 use std::time::Clock;
 use std::{fs, io, thread};
 
-/// The command `run`, with the probes that `make` gives. It ends where a session asks for it, or a signal ends the process.
-pub fn run<'a, R, P: Probe + Send, F: Fn(Rule) -> Result<P, AllocError> + Sync>(
+/// The command `run`, with the probes that `maker` gives. It ends where a session asks for it, or a signal ends the process.
+pub fn run<'a, R, P: Probe + Send, M: Maker<P> + Sync>(
     rt: &R,
-    make: &F,
+    maker: &M,
     options: RunOptions<'a>,
 ) -> Result<(), RunFailure<'a>>
 where
@@ -48,20 +47,18 @@ where
         + Threads
         + Sync
         + Net<Listener = TcpListener, Stream = TcpStream>,
-    requires callable { F.IsAlwaysCallable make.now }
-    requires asked { MakesAsked P.rule P.memory (F.post make.now) }
 {
     let alloc = rt.alloc();
     let bytes = script_bytes(rt, alloc, options.script)?;
     let threads = options.threads.unwrap_or_else(|| processors(rt));
     let loops = options.bounds.loops(threads);
-    let made = set_up(rt, alloc, make, &bytes, loops + 1 + MAX_SESSIONS)?;
+    let made = set_up(rt, alloc, maker, &bytes, loops + 1 + MAX_SESSIONS)?;
     let Begun {
         servers,
         news,
         control,
     } = begin(rt, alloc, &made, options, loops)?;
-    let ran = serve_to_end(rt, alloc, made, servers, control, make, &news)?;
+    let ran = serve_to_end(rt, alloc, made, servers, control, maker, &news)?;
     remove_socket(rt, &ran);
     print_line(rt, &journal_line(alloc, &ran)?)
 }
@@ -136,15 +133,13 @@ fn script_bytes<'a, R: Input + Files>(
 }
 
 /// A hall that the script has set up, with so many seats. It keeps the newest of its entries and status changes.
-fn set_up<'a, R: Wait, P: Probe, F: Fn(Rule) -> Result<P, AllocError>>(
+fn set_up<'a, R: Wait, P: Probe, M: Maker<P>>(
     rt: &R,
     alloc: Global,
-    make: &F,
+    maker: &M,
     bytes: &[u8],
     seats: u16,
 ) -> Result<SetUpHall<P, KeepMany>, RunFailure<'a>>
-    requires callable { F.IsAlwaysCallable make.now }
-    requires asked { MakesAsked P.rule P.memory (F.post make.now) }
     requires some { 1 ≤ seats }
     requires not_too_many { seats ≤ 1024 }
     ensures ok { IfOk result (IsSetUpBy bytes.now seats) }
@@ -152,7 +147,7 @@ fn set_up<'a, R: Wait, P: Probe, F: Fn(Rule) -> Result<P, AllocError>>(
 {
     let script = read_script(alloc, bytes, Mode::Run)?;
     let numbers = Vec::from_slice(alloc, script.numbers())?;
-    let made = hall_of(rt, alloc, script, make, seats)?;
+    let made = hall_of(rt, alloc, script, maker, seats)?;
     match first_refused(&numbers, made.results()) {
         Some(line) => Err(refused(made, line)),
         None => Ok(made),
@@ -344,19 +339,17 @@ fn tallies_of(alloc: Global, servers: &[EventServer]) -> Result<Vec<Arc<Tally>>,
 }
 
 /// Serves until `news` tells that all is to end, and gives back what is left of the hall then.
-fn serve_to_end<'a, R, P: Probe + Send, F: Fn(Rule) -> Result<P, AllocError> + Sync>(
+fn serve_to_end<'a, R, P: Probe + Send, M: Maker<P> + Sync>(
     rt: &R,
     alloc: Global,
     made: SetUpHall<P, KeepMany>,
     servers: Vec<EventServer>,
     control: Option<ControlServer>,
-    make: &F,
+    maker: &M,
     news: &News,
 ) -> Result<Ran<P, KeepMany>, RunFailure<'a>>
 where
     R: Clock + Wait + Threads + Sync,
-    requires callable { F.IsAlwaysCallable make.now }
-    requires asked { MakesAsked P.rule P.memory (F.post make.now) }
     requires set_up { (calls : List (Option Call)) × IsWhollySetUp calls made }
     requires some { 1 ≤ vec_len servers }
     requires enough { vec_len servers < made.hall.seats }
@@ -368,7 +361,7 @@ where
     ensures sessions { IfOk result (λ ran. IsSome ran.sessions ↔ IsSome control) }
     ensures failure { IfErr result (λ failure. failure ≡ OutOfMemory) }
 {
-    match run_live(rt, alloc, made, servers, control, make, news) {
+    match run_live(rt, alloc, made, servers, control, maker, news) {
         Ok(ran) => Ok(ran),
         Err(fault) => Err(failure_to_run(fault)),
     }

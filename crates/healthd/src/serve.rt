@@ -1,13 +1,11 @@
-ghost use Rattle.probe_core.specs.Made.{MakesAsked};
-
 use crate::command::{HOST, MAX_WORKERS, port_in};
 use crate::fault::Fault;
 use crate::input::read;
 use clap::ArgMatches;
-use probe_core::{Probe, Rule};
+use probe_core::{Maker, Probe};
 use script::{Mode, read_script};
 use server::{Capacity, hall_of, serve};
-use std::alloc::{AllocError, Global};
+use std::alloc::Global;
 use std::io;
 use std::io::Write;
 use std::net::{Net, TcpListener, TcpStream};
@@ -17,10 +15,10 @@ use std::thread::Threads;
 /// Beside those of the workers: one for the orders, and a spare one.
 const MORE_SEATS: u16 = 2;
 
-/// The command `serve`, with the probes that `make` gives.
-pub fn run<R, P: Probe + Send, F: Fn(Rule) -> Result<P, AllocError>>(
+/// The command `serve`, with the probes that `maker` gives.
+pub fn run<R, P: Probe + Send, M: Maker<P>>(
     rt: &R,
-    make: &F,
+    maker: &M,
     matches: &ArgMatches<'_>,
 ) -> Result<(), Fault>
 where
@@ -31,15 +29,13 @@ where
         + Threads
         + Sync
         + Net<Listener = TcpListener, Stream = TcpStream>,
-    requires callable { F.IsAlwaysCallable make.now }
-    requires asked { MakesAsked P.rule P.memory (F.post make.now) }
 {
     let alloc = rt.alloc();
     let bytes = read(alloc, rt.reader())?;
     let output = serve_script(
         rt,
         alloc,
-        make,
+        maker,
         &bytes,
         port_in(matches),
         capacity_in(matches),
@@ -59,22 +55,20 @@ fn capacity_in(matches: &ArgMatches<'_>) -> Capacity {
 }
 
 /// Serves what the script says, and tells how each call ended and how long the journal is.
-fn serve_script<R, P: Probe + Send, F: Fn(Rule) -> Result<P, AllocError>>(
+fn serve_script<R, P: Probe + Send, M: Maker<P>>(
     rt: &R,
     alloc: Global,
-    make: &F,
+    maker: &M,
     bytes: &[u8],
     port: u16,
     capacity: Capacity,
 ) -> Result<String, Fault>
 where
     R: Print + Wait + Threads + Sync + Net<Listener = TcpListener, Stream = TcpStream>,
-    requires callable { F.IsAlwaysCallable make.now }
-    requires asked { MakesAsked P.rule P.memory (F.post make.now) }
 {
     let script = read_script(alloc, bytes, Mode::Serve)?;
     let seats = capacity.workers.min(MAX_WORKERS) + MORE_SEATS;
-    let made = hall_of(rt, alloc, script, make, seats)?;
+    let made = hall_of(rt, alloc, script, maker, seats)?;
     let listener = listen(rt, port)?;
     let served = serve(rt, alloc, made, &listener, capacity)?;
     let mut output = String::new(alloc);

@@ -1,7 +1,6 @@
 ghost use Rattle.std.specs.Prelude.{◌≡◌, vec_len};
 ghost use Rattle.std.specs.List.{All};
 ghost use Rattle.hall.specs.Seats.{IsOf};
-ghost use Rattle.probe_core.specs.Made.{MakesAsked};
 ghost use Rattle.control_server.specs.Seats.{SeatsHaveMet};
 ghost use Rattle.live_run.specs.Loops.{HaveServed};
 
@@ -11,8 +10,7 @@ use control_server::{Context, ControlServer};
 use desk_core::Keep;
 use hall::{Hall, Seat};
 use live_server::News;
-use probe_core::{Probe, Rule};
-use std::alloc::AllocError;
+use probe_core::{Maker, Probe};
 use std::sync::Wait;
 use std::thread;
 use std::thread::Threads;
@@ -29,10 +27,10 @@ pub(crate) struct Held<P: Probe, K: Keep> {
 ///
 /// Sessions have a thread of their own where one can be made. Where none can, they begin when the loops have ended, so that calls are
 /// served and nothing can be asked for.
-pub(crate) fn serve_beside<R, P: Probe + Send, K: Keep + Send, F>(
+pub(crate) fn serve_beside<R, P: Probe + Send, K: Keep + Send, M>(
     rt: &R,
     hall: &Hall<P, K>,
-    make: &F,
+    maker: &M,
     news: &News,
     control: ControlServer,
     seats: Vec<Seat<P, K>>,
@@ -40,11 +38,9 @@ pub(crate) fn serve_beside<R, P: Probe + Send, K: Keep + Send, F>(
 ) -> (Held<P, K>, Vec<SeatedLoop<P, K>>)
 where
     R: Wait + Threads + Clock + Sync,
-    F: Fn(Rule) -> Result<P, AllocError> + Sync,
+    M: Maker<P> + Sync,
     requires seats { All (IsOf hall.now) seats.items }
     requires loops { All (λ seated. IsOf hall.now seated.seat) loops.items }
-    requires callable { F.IsAlwaysCallable make.now }
-    requires asked { MakesAsked P.rule P.memory (F.post make.now) }
     ensures met { SeatsHaveMet hall.now.names seats.items result.0.seats.items }
     ensures len { vec_len result.1 ≡ vec_len loops }
     ensures served { HaveServed loops.items result.1.items }
@@ -58,9 +54,9 @@ where
     thread::join(
         rt,
         move || -> Held<P, K>
-            requires { All (IsOf hall.now) seats.items × (F.IsAlwaysCallable make.now × MakesAsked P.rule P.memory (F.post make.now)) }
+            requires { All (IsOf hall.now) seats.items }
             ensures { SeatsHaveMet hall.entry.now.names seats.items result.seats.items }
-        { hold_sessions(rt, hall, make, news, control, seats) },
+        { hold_sessions(rt, hall, maker, news, control, seats) },
         move || -> Vec<SeatedLoop<P, K>>
             requires { All (λ seated. IsOf waiting.hall.now seated.seat) waiting.loops.items }
             ensures len { vec_len result ≡ vec_len waiting.entry.loops }
@@ -100,10 +96,10 @@ impl<R: Wait + Threads + Clock + Sync, P: Probe + Send, K: Keep + Send> Waiting<
 }
 
 /// Holds sessions until all is to end.
-fn hold_sessions<R, P: Probe, K: Keep, F: Fn(Rule) -> Result<P, AllocError>>(
+fn hold_sessions<R, P: Probe, K: Keep, M: Maker<P>>(
     rt: &R,
     hall: &Hall<P, K>,
-    make: &F,
+    maker: &M,
     news: &News,
     mut control: ControlServer,
     mut seats: Vec<Seat<P, K>>,
@@ -111,14 +107,12 @@ fn hold_sessions<R, P: Probe, K: Keep, F: Fn(Rule) -> Result<P, AllocError>>(
 where
     R: Wait + Clock,
     requires seats { All (IsOf hall.now) seats.items }
-    requires callable { F.IsAlwaysCallable make.now }
-    requires asked { MakesAsked P.rule P.memory (F.post make.now) }
     ensures { SeatsHaveMet hall.now.names seats.items result.seats.items }
 {
     let context = Context {
         rt,
         hall,
-        make,
+        maker,
         news,
     };
     control.run(&context, seats.as_mut_slice());

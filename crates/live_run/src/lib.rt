@@ -8,35 +8,32 @@
 //! ghost use Rattle.std.specs.Prelude.{◌≡◌, IfOk, length};
 //! ghost use Rattle.std.specs.List.{sum_by};
 //! ghost use Rattle.hall.specs.Seats.{own_calls};
-//! ghost use Rattle.probe_core.specs.Made.{MakesAsked};
 //!
 //! use desk_core::Keep;
 //! use live_run::{Ran, RunFault, run_live};
 //! use live_server::{EventServer, News};
-//! use probe_core::{Probe, Rule};
+//! use probe_core::{Maker, Probe};
 //! use server::SetUpHall;
-//! use std::alloc::{AllocError, Global};
+//! use std::alloc::Global;
 //! use std::sync::Wait;
 //! use std::thread::Threads;
 //! use std::time::Clock;
 //!
 //! /// Serves by loops alone, with no place for sessions. So the journal has the changes of the setup and no others.
-//! pub fn run_loops<R, P: Probe + Send, K: Keep + Send, F>(
+//! pub fn run_loops<R, P: Probe + Send, K: Keep + Send, M>(
 //!     rt: &R,
 //!     alloc: Global,
 //!     made: SetUpHall<P, K>,
 //!     servers: Vec<EventServer>,
-//!     make: &F,
+//!     maker: &M,
 //!     news: &News,
 //! ) -> Result<Ran<P, K>, RunFault>
 //! where
 //!     R: Wait + Threads + Clock + Sync,
-//!     F: Fn(Rule) -> Result<P, AllocError> + Sync,
-//!     requires callable { F.IsAlwaysCallable make.now }
-//!     requires asked { MakesAsked P.rule P.memory (F.post make.now) }
+//!     M: Maker<P> + Sync,
 //!     ensures entries { IfOk result (λ ran. length ran.desk.journal ≡ sum_by (λ seat. length (own_calls seat)) made.seats) }
 //! {
-//!     run_live(rt, alloc, made, servers, None, make, news)
+//!     run_live(rt, alloc, made, servers, None, maker, news)
 //! }
 //! ```
 #![tactic(auto)]

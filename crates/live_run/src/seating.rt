@@ -9,7 +9,7 @@ use control_server::ControlServer;
 use desk_core::Keep;
 use hall::{Hall, Seat};
 use live_server::{EventServer, News};
-use probe_core::{Probe, Rule};
+use probe_core::{Maker, Probe};
 use std::alloc::{AllocError, Global};
 use std::sync::Wait;
 use std::thread::Threads;
@@ -95,26 +95,23 @@ impl<P: Probe + Send, K: Keep + Send> Seating<P, K> {
     ghost use Rattle.std.specs.Prelude.{◌≡◌, ◌↔◌, vec_len, IsNone, IsSome};
     ghost use Rattle.std.specs.List.{All};
     ghost use Rattle.hall.specs.Seats.{IsOf};
-    ghost use Rattle.probe_core.specs.Made.{MakesAsked};
     ghost use Rattle.live_run.specs.Loops.{HaveServedAll, SeatsHaveLooked, SeatsHaveServed};
     ghost use Rattle.live_run.specs.Seating.{HasRoom, seats_of, servers_of};
 
     /// Lets the loops serve until all is to end, beside sessions where there is a place for them, and gives everything back.
-    pub(crate) fn serve<R, F>(
+    pub(crate) fn serve<R, M>(
         self,
         rt: &R,
         hall: &Hall<P, K>,
         control: Option<ControlServer>,
-        make: &F,
+        maker: &M,
         news: &News,
     ) -> Back<P, K>
     where
         R: Wait + Threads + Clock + Sync,
-        F: Fn(Rule) -> Result<P, AllocError> + Sync,
+        M: Maker<P> + Sync,
         requires ours { All (IsOf hall.now) (seats_of self) }
         requires room { HasRoom self }
-        requires callable { F.IsAlwaysCallable make.now }
-        requires asked { MakesAsked P.rule P.memory (F.post make.now) }
         ensures served { SeatsHaveServed hall.now.names (vec_len self.loops) (seats_of self) result.seats.items }
         ensures looked { IsNone control → SeatsHaveLooked (vec_len self.loops) (seats_of self) result.seats.items }
         ensures servers { HaveServedAll (servers_of self) result.servers.items }
@@ -123,7 +120,7 @@ impl<P: Probe + Send, K: Keep + Send> Seating<P, K> {
     {
         match control {
             None => self.serve_alone(rt, hall, news),
-            Some(control) => self.serve_controlled(rt, hall, control, make, news),
+            Some(control) => self.serve_controlled(rt, hall, control, maker, news),
         }
     }
 
@@ -154,27 +151,25 @@ impl<P: Probe + Send, K: Keep + Send> Seating<P, K> {
         seating.give_back()
     }
 
-    fn serve_controlled<R, F>(
+    fn serve_controlled<R, M>(
         self,
         rt: &R,
         hall: &Hall<P, K>,
         control: ControlServer,
-        make: &F,
+        maker: &M,
         news: &News,
     ) -> Back<P, K>
     where
         R: Wait + Threads + Clock + Sync,
-        F: Fn(Rule) -> Result<P, AllocError> + Sync,
+        M: Maker<P> + Sync,
         requires ours { All (IsOf hall.now) (seats_of self) }
         requires room { HasRoom self }
-        requires callable { F.IsAlwaysCallable make.now }
-        requires asked { MakesAsked P.rule P.memory (F.post make.now) }
         ensures served { SeatsHaveServed hall.now.names (vec_len self.loops) (seats_of self) result.seats.items }
         ensures servers { HaveServedAll (servers_of self) result.servers.items }
         ensures ours { All (IsOf hall.now) result.seats.items }
         ensures sessions { IsSome result.sessions }
     {
-        let (held, loops) = serve_beside(rt, hall, make, news, control, self.spare, self.loops);
+        let (held, loops) = serve_beside(rt, hall, maker, news, control, self.spare, self.loops);
         let Back { servers, seats, .. } = self.back;
         let seating = Seating {
             loops,

@@ -3,7 +3,6 @@ ghost use Rattle.std.specs.List.{sum_by};
 ghost use Rattle.desk_core.specs.declared.call.Call.{Call};
 ghost use Rattle.desk_core.specs.Past.{past};
 ghost use Rattle.hall.specs.Seats.{own_calls, new_seats};
-ghost use Rattle.probe_core.specs.Made.{MakesAsked};
 ghost use Rattle.crew.specs.CarriedOut.{replied};
 ghost use Rattle.server.specs.Setup.{AreSetUp};
 ghost use Rattle.live_run.specs.Loops.{HaveServedAll};
@@ -16,9 +15,9 @@ use control_server::ControlServer;
 use desk_core::Keep;
 use hall::Closed;
 use live_server::{EventServer, News};
-use probe_core::{Probe, Rule};
+use probe_core::{Maker, Probe};
 use server::SetUpHall;
-use std::alloc::{AllocError, Global};
+use std::alloc::Global;
 use std::sync::Wait;
 use std::thread::Threads;
 use std::time::Clock;
@@ -27,21 +26,19 @@ use std::time::Clock;
 /// and no connection is left, and then closes the hall.
 ///
 /// The first seat has set the hall up. Those behind it are the loops', in their order, and those behind these the sessions', which make
-/// their changes by them, with probes that `make` gives.
-pub fn run_live<R, P: Probe + Send, K: Keep + Send, F>(
+/// their changes by them, with probes that `maker` gives.
+pub fn run_live<R, P: Probe + Send, K: Keep + Send, M>(
     rt: &R,
     alloc: Global,
     made: SetUpHall<P, K>,
     servers: Vec<EventServer>,
     control: Option<ControlServer>,
-    make: &F,
+    maker: &M,
     news: &News,
 ) -> Result<Ran<P, K>, RunFault>
 where
     R: Wait + Threads + Clock + Sync,
-    F: Fn(Rule) -> Result<P, AllocError> + Sync,
-    requires callable { F.IsAlwaysCallable make.now }
-    requires asked { MakesAsked P.rule P.memory (F.post make.now) }
+    M: Maker<P> + Sync,
     // Too few loops or seats is told first. That memory ran out where it says so, tests show.
     ensures refused { IfSome (run_fault (vec_len servers) (length made.seats)) (λ fault. result ≡ Err fault) }
     ensures failed { IfNone (run_fault (vec_len servers) (length made.seats)) (IfErr result (IsLaterFault made)) }
@@ -73,7 +70,7 @@ where
         servers,
         seats,
         sessions,
-    } = seating.serve(rt, &hall, control, make, news);
+    } = seating.serve(rt, &hall, control, maker, news);
     let Ok(Closed { desk, catalogue: _ }) = hall.close(seats) else {
         return Err(RunFault::SeatsMissing);
     };

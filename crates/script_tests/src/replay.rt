@@ -260,45 +260,49 @@ fn prints_what_each_line_comes_to(rt: HostRuntime) -> Result<(), Fail> {
     Ok(())
 }
 
-/// Which of the outputs a run prints with so many steps of memory left, if it prints one.
-fn output_in(
-    alloc: Global,
-    text: &str,
-    outputs: &[&str],
-    steps: usize,
-) -> Result<Option<usize>, Fail> {
-    let script = read_script(alloc, text.as_bytes(), Mode::Replay)?;
-    let scarcity = Scarcity::with_small_room(alloc)?;
-    let filler = scarcity.leave_steps(steps)?;
-    let output = printed(alloc, script).ok();
-    drop(filler);
-    drop(scarcity);
-    let Some(output) = output else {
+/// How many runs there are, each with 16 bytes more room than the last.
+const STEPS: usize = 512;
+
+/// The script so many times, since a run takes its own.
+fn copies(alloc: Global, text: &str) -> Result<Vec<Script>, Fail> {
+    let mut scripts = Vec::with_capacity(alloc, STEPS)?;
+    for _ in 0..STEPS {
+        scripts.push(read_script(alloc, text.as_bytes(), Mode::Replay)?)?;
+    }
+    Ok(scripts)
+}
+
+/// Which of the outputs a run prints, if there is memory to print one.
+fn row_of(alloc: Global, script: Script, outputs: &[&str]) -> Result<Option<usize>, Fail> {
+    let Ok(output) = printed(alloc, script) else {
         return Ok(None);
     };
     let row = outputs
         .iter()
         .position(|text| text.as_bytes() == output.as_slice());
-    same(&row.is_some(), &true, &steps)?;
+    same(&row.is_some(), &true, &"one of the outputs")?;
     Ok(row)
 }
 
-/// With more and more memory a run prints no output first, and then each of these, from the first to the last.
+/// With more and more memory a run prints nothing at first, and then each of these.
 fn expect_ends(alloc: Global, text: &str, outputs: &[&str]) -> Result<(), Fail> {
-    let mut seen = 0usize;
-    for steps in 0..512usize {
-        let row = output_in(alloc, text, outputs, steps)?;
-        let expected = if seen == 0 {
-            None
-        } else {
-            Some(seen.wrapping_sub(1))
+    let mut scripts = copies(alloc, text)?;
+    let mut ends = Vec::with_capacity(alloc, 8)?;
+    let scarcity = Scarcity::with_small_room(alloc)?;
+    for steps in 0..STEPS {
+        let Some(script) = scripts.pop() else {
+            break;
         };
-        if row != expected {
-            same(&row, &Some(seen), &steps)?;
-            seen = seen.wrapping_add(1);
+        let filler = scarcity.leave_steps(steps)?;
+        let row = row_of(alloc, script, outputs)?;
+        drop(filler);
+        if !ends.contains(&row) {
+            ends.push(row)?;
         }
     }
-    same(&seen, &outputs.len(), &text)
+    drop(scarcity);
+    let seen = ends.iter().flatten().count();
+    same(&(ends.first(), seen), &(Some(&None), outputs.len()), &text)
 }
 
 /// A registration that is refused out of memory leaves nothing, and the run goes on.

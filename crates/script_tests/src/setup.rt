@@ -1,5 +1,5 @@
 use desk_core::{Call, Catalogue, Desk, Refusal, Registrar, Reply};
-use probe_core::{Maker, Manual, Rule};
+use probe_core::{Maker, Manual, Probe, Rule};
 use script::{Mode, read_script, set_up};
 use std::alloc::{AllocError, Global};
 use std::test::Fail;
@@ -7,23 +7,28 @@ use test_support::{Scarcity, same};
 
 /// A registry of one thread.
 #[derive(Drop)]
-struct Registry {
+struct Registry<P: Probe> {
     catalogue: Catalogue,
-    desk: Desk<Manual>,
+    desk: Desk<P>,
 }
 
-impl Registrar<Manual> for Registry {
-    ghost use Rattle.std.specs.Prelude.{⊤};
+impl<P: Probe> Registrar<P> for Registry<P> {
+    ghost use Rattle.std.specs.Prelude.{◌≡◌, IfSome};
+    ghost use Rattle.std.specs.Option.{option_map};
+    ghost use Rattle.desk_core.specs.Mutation.{rule_of};
 
     ghost names = { λ registry. registry.catalogue };
 
-    ghost answers = { λ _ _ _ _. ⊤ };
+    ghost answers = { λ old new call result. Unit {0} };
 
     fn catalogue(&self) -> &Catalogue {
         &self.catalogue
     }
 
-    fn change(&mut self, call: Option<Call>, probe: Option<Manual>) -> Result<Reply, Refusal> {
+    fn change(&mut self, call: Option<Call>, probe: Option<P>) -> Result<Reply, Refusal>
+        requires ruled { IfSome call (λ c. option_map P.rule probe ≡ rule_of c) }
+        ensures names { self.new.catalogue ≡ self.old.catalogue }
+    {
         let Some(call) = call else {
             return Err(Refusal::NotListed);
         };

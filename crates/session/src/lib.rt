@@ -6,22 +6,19 @@
 //! #![tactic(auto)]
 //!
 //! ghost use Rattle.std.specs.Prelude.{◌≡◌, [], IsTrue, IsFalse};
-//! ghost use Rattle.probe_core.specs.Made.{MakesAsked};
 //! ghost use Rattle.session.specs.Session.{behind_line};
 //!
-//! use probe_core::{Probe, Rule};
+//! use probe_core::{Maker, Probe};
 //! use session::{Console, Session};
-//! use std::alloc::{AllocError, Global};
+//! use std::alloc::Global;
 //!
 //! /// Answers the next line of a session, if a whole one has come. Its answer then waits to be sent.
-//! pub fn answer_next<P: Probe, C: Console<P>, F: Fn(Rule) -> Result<P, AllocError>>(
+//! pub fn answer_next<P: Probe, C: Console<P>, M: Maker<P>>(
 //!     alloc: Global,
 //!     session: &mut Session,
 //!     console: &mut C,
-//!     make: &F,
+//!     maker: &M,
 //! ) -> bool
-//!     requires callable { F.IsAlwaysCallable make.now }
-//!     requires asked { MakesAsked P.rule P.memory (F.post make.now) }
 //!     requires sent { session.old.waiting ≡ [] }
 //!     ensures answered { IsTrue result → session.new.unread ≡ behind_line session.old.unread }
 //!     ensures none { IsFalse result → session.new ≡ session.old }
@@ -30,7 +27,7 @@
 //!     if !session.has_line() {
 //!         return false;
 //!     }
-//!     session.answer(alloc, console, make);
+//!     session.answer(alloc, console, maker);
 //!     true
 //! }
 //! ```

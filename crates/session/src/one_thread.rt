@@ -1,21 +1,21 @@
 //! A registry of one thread for tests, over which sessions are held. Its ghosts say little: the tests look at what it answers.
 
-ghost use Rattle.probe_core.specs.Made.{IsAsked};
-
 use crate::{Console, Counts, Ended, OpenNow, Stats};
 use desk_core::{Call, Catalogue, Desk, Refusal, Reply, board_entries};
 use health_wire::Serving;
-use probe_core::{Manual, Probe, Rule};
+use probe_core::{Maker, Manual, Probe, Rule};
 use std::alloc::{AllocError, Global};
 use std::test::Fail;
 
-/// A service that is set by hand. There is no memory for one of another rule.
-pub fn make_manual(rule: Rule) -> Result<Manual, AllocError>
-    ensures { IsAsked ⟦<Manual as Probe>⟧.rule ⟦<Manual as Probe>⟧.memory rule result }
-{
-    match rule {
-        Rule::Manual => Ok(Manual::new()),
-        _ => Err(AllocError),
+/// Makes services that are set by hand. There is no memory for one of another rule.
+pub struct Manuals;
+
+impl Maker<Manual> for Manuals {
+    fn make(&self, rule: Rule) -> Result<Manual, AllocError> {
+        match rule {
+            Rule::Manual => Ok(Manual::new()),
+            _ => Err(AllocError),
+        }
     }
 }
 

@@ -6,7 +6,7 @@ use crate::console::Console;
 use crate::meeting::meet_text;
 use crate::writing::write_answer;
 use desk_core::Catalogue;
-use probe_core::{Probe, Rule};
+use probe_core::{Maker, Probe};
 use std::alloc::{AllocError, Global};
 use std::marker::Model;
 
@@ -42,7 +42,6 @@ impl Model for Session {
 
 impl Session {
     ghost use Rattle.std.specs.Prelude.{◌≡◌, ◌-◌, ◌≤◌, ◌++◌, ◌↔◌, [], drop, min, take, length, IfOk, IsTrue, if◌then◌else◌};
-    ghost use Rattle.probe_core.specs.Made.{MakesAsked};
     ghost use Rattle.session.specs.Meeting.{IsLineMet};
     ghost use Rattle.session.specs.Talk.{IsCut};
     ghost use Rattle.session.specs.Text.{IsTold, answer_text, ends_session};
@@ -125,14 +124,12 @@ impl Session {
     }
 
     /// Answers the first line, and takes it away. The probe of a line that registers a service is made before the change is asked for.
-    pub fn answer<P: Probe, C: Console<P>, F: Fn(Rule) -> Result<P, AllocError>>(
+    pub fn answer<P: Probe, C: Console<P>, M: Maker<P>>(
         &mut self,
         alloc: Global,
         console: &mut C,
-        make: &F,
+        maker: &M,
     ) -> Answer
-        requires callable { F.IsAlwaysCallable make.now }
-        requires asked { MakesAsked P.rule P.memory (F.post make.now) }
         requires line { HasLine self.old }
         requires sent { self.old.waiting ≡ [] }
         ensures names { C.names console.new ≡ C.names console.old }
@@ -143,7 +140,7 @@ impl Session {
         ensures waiting { self.new.waiting ≡ answer_text (C.names console.old) result }
         ensures over { self.new.is_over ≡ ends_session result }
     {
-        let answer = meet_text(alloc, console, make, self.first_line());
+        let answer = meet_text(alloc, console, maker, self.first_line());
         self.drop_line();
         let told = self.say(alloc, console.catalogue(), answer);
         self.is_over = told.ends_session();

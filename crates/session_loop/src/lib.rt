@@ -6,30 +6,27 @@
 //! #![tactic(auto)]
 //!
 //! ghost use Rattle.std.specs.Prelude.{◌≡◌};
-//! ghost use Rattle.probe_core.specs.Made.{MakesAsked};
 //!
 //! use event_loop::Link;
-//! use probe_core::{Probe, Rule};
+//! use probe_core::{Maker, Probe};
 //! use session::{Console, Session};
 //! use session_loop::{Fate, turn};
-//! use std::alloc::{AllocError, Global};
+//! use std::alloc::Global;
 //! use std::io::{Read, Write};
 //!
 //! /// Takes a session as far as it goes without waiting. It says whether the connection is to be closed.
-//! pub fn is_over<R: Read, W: Write, P: Probe, C: Console<P>, F: Fn(Rule) -> Result<P, AllocError>>(
+//! pub fn is_over<R: Read, W: Write, P: Probe, C: Console<P>, M: Maker<P>>(
 //!     alloc: Global,
 //!     reader: &mut Link<R>,
 //!     writer: &mut Link<W>,
 //!     console: &mut C,
-//!     make: &F,
+//!     maker: &M,
 //!     session: &mut Session,
 //! ) -> bool
-//!     requires callable { F.IsAlwaysCallable make.now }
-//!     requires asked { MakesAsked P.rule P.memory (F.post make.now) }
 //!     ensures names { C.names console.new ≡ C.names console.old }
 //! {
 //!     let mut buffer = [0u8; 512];
-//!     let fate = turn(alloc, reader, writer, console, make, session, &mut buffer);
+//!     let fate = turn(alloc, reader, writer, console, maker, session, &mut buffer);
 //!     matches!(fate, Fate::Over | Fate::GivenUp)
 //! }
 //! ```

@@ -2,16 +2,15 @@ ghost use Rattle.std.specs.Prelude.{◌≡◌, ◌≢◌, ◌≤◌, ◌<◌, �
 ghost use Rattle.std.specs.Bool.{OnTrue, OnFalse};
 ghost use Rattle.event_loop.specs.Link.{link_inner, link_last, has_stopped};
 ghost use Rattle.event_loop.specs.declared.link.Last.{Last};
-ghost use Rattle.probe_core.specs.Made.{MakesAsked};
 ghost use Rattle.session.specs.Session.{at_end};
 ghost use Rattle.session.specs.Talk.{nobody};
 ghost use Rattle.session_loop.specs.Chain.{HasGone};
 ghost use Rattle.session_loop.specs.Turn.{Moved, HasStepped, HasTalked, HasTurned, IsIdle, fate_of, only_read, only_sent};
 
 use event_loop::{Last, Link};
-use probe_core::{Probe, Rule};
+use probe_core::{Maker, Probe};
 use session::{Console, Session};
-use std::alloc::{AllocError, Global};
+use std::alloc::Global;
 use std::io::{Read, Write};
 
 /// The most pieces of work that a turn does before it gives way: a read, a write, or a line that is answered.
@@ -111,17 +110,15 @@ fn takes_no_more(session: &Session) -> bool
 
 /// Does one piece of work: it sends what waits, or answers a line, or reads where there is neither. It tells the fate of the session
 /// where there is no more to do.
-fn step<R: Read, W: Write, P: Probe, C: Console<P>, F: Fn(Rule) -> Result<P, AllocError>>(
+fn step<R: Read, W: Write, P: Probe, C: Console<P>, M: Maker<P>>(
     alloc: Global,
     reader: &mut Link<R>,
     writer: &mut Link<W>,
     console: &mut C,
-    make: &F,
+    maker: &M,
     session: &mut Session,
     buffer: &mut [u8],
 ) -> Option<Fate>
-    requires callable { F.IsAlwaysCallable make.now }
-    requires asked { MakesAsked P.rule P.memory (F.post make.now) }
     requires room { 0 < length buffer.old }
     ensures talked { (moved : Moved) × HasGone nobody (C.names console.old) C.seen C.looks C.changes console.old console.new
         (R.remaining (link_inner reader.old)) (R.remaining (link_inner reader.new)) (W.contents (link_inner writer.old)) (W.contents (link_inner writer.new))
@@ -134,7 +131,7 @@ fn step<R: Read, W: Write, P: Probe, C: Console<P>, F: Fn(Rule) -> Result<P, All
         return send_some(writer, session);
     }
     if session.has_line() {
-        session.answer(alloc, console, make);
+        session.answer(alloc, console, maker);
         return None;
     }
     if takes_no_more(session) {
@@ -150,17 +147,15 @@ fn step<R: Read, W: Write, P: Probe, C: Console<P>, F: Fn(Rule) -> Result<P, All
 /// A reader and a writer that would wait return an error of the kind `WouldBlock`, and one that was interrupted is tried again in the
 /// next turn; an error of another kind gives the session up. The writer is not flushed. The buffer is a place for what is read, and
 /// holds nothing afterwards that is wanted.
-pub fn turn<R: Read, W: Write, P: Probe, C: Console<P>, F: Fn(Rule) -> Result<P, AllocError>>(
+pub fn turn<R: Read, W: Write, P: Probe, C: Console<P>, M: Maker<P>>(
     alloc: Global,
     reader: &mut Link<R>,
     writer: &mut Link<W>,
     console: &mut C,
-    make: &F,
+    maker: &M,
     session: &mut Session,
     buffer: &mut [u8],
 ) -> Fate
-    requires callable { F.IsAlwaysCallable make.now }
-    requires asked { MakesAsked P.rule P.memory (F.post make.now) }
     requires room { 0 < length buffer.old }
     ensures turned { (moved : Moved) × HasTurned (C.names console.old) C.seen C.looks C.changes console.old console.new
         (R.remaining (link_inner reader.old)) (R.remaining (link_inner reader.new)) (W.contents (link_inner writer.old)) (W.contents (link_inner writer.new))
@@ -169,7 +164,7 @@ pub fn turn<R: Read, W: Write, P: Probe, C: Console<P>, F: Fn(Rule) -> Result<P,
 {
     let mut steps = 0;
     while steps < MOST {
-        if let Some(fate) = step(alloc, reader, writer, console, make, session, buffer) {
+        if let Some(fate) = step(alloc, reader, writer, console, maker, session, buffer) {
             return fate;
         }
         steps += 1;

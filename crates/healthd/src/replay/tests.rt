@@ -3,8 +3,9 @@ ghost use Rattle.probe_core.specs.Made.{IsAsked};
 use super::*;
 use crate::tests::texts::padded;
 use desk_core::CatalogueFault;
-use probe_core::{Depends, Manual, Threshold};
+use probe_core::{Depends, FnMaker, Manual, ProbeFn, Rule, Threshold};
 use script::ScriptFault;
+use std::alloc::AllocError;
 use std::fmt::Display;
 use std::test::Fail;
 use test_support::same;
@@ -93,7 +94,18 @@ done
 serving
 ";
 
-/// What `replay` answers with probes of the three kinds.
+/// What `replay` answers with the probes that the closure makes.
+fn replayed_by<P: Probe, F: ProbeFn<Made = P> + Drop>(
+    alloc: Global,
+    make: F,
+    bytes: &[u8],
+) -> Result<Vec<u8>, Fault>
+    requires { F.makes_asked make }
+{
+    replay(alloc, &FnMaker::new(make), bytes)
+}
+
+/// The same with probes of the three kinds.
 fn replayed(alloc: Global, bytes: &[u8]) -> Result<Vec<u8>, Fault> {
     let make = |rule: Rule| -> Result<Box<dyn Probe + Send>, AllocError>
         ensures { IsAsked (λ probe. (Probe-box probe).rule probe.value) (λ probe. (Probe-box probe).memory probe.value) rule result }
@@ -108,7 +120,7 @@ fn replayed(alloc: Global, bytes: &[u8]) -> Result<Vec<u8>, Fault> {
         };
         Ok(probe)
     };
-    replay(alloc, &make, bytes)
+    replayed_by(alloc, make, bytes)
 }
 
 #[test]

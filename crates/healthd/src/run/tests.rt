@@ -1,13 +1,13 @@
 ghost use Rattle.std.specs.Prelude.{List, Option};
 ghost use Rattle.desk_core.specs.declared.call.Call.{Call};
-ghost use Rattle.probe_core.specs.Made.{IsAsked, MakesAsked};
+ghost use Rattle.probe_core.specs.Made.{IsAsked};
 ghost use Rattle.healthd.specs.Run.{IsWhollySetUp};
 
 use super::*;
 use crate::cause::Cause;
 use desk_core::{CatalogueFault, Refusal, Reply};
 use live_run::RefusedLine;
-use probe_core::{Depends, Manual, Threshold};
+use probe_core::{Depends, FnMaker, Manual, ProbeFn, Rule, Threshold};
 use script::ScriptFault;
 use std::test::Fail;
 use test_support::same;
@@ -16,16 +16,15 @@ mod beside;
 mod ready;
 
 /// Why a script sets up no hall of one seat, if it sets up none.
-fn failure_with<'a, R: Wait, P: Probe, F: Fn(Rule) -> Result<P, AllocError>>(
+fn failure_with<'a, R: Wait, P: Probe, F: ProbeFn<Made = P> + Drop>(
     rt: &R,
     alloc: Global,
-    make: &F,
+    make: F,
     bytes: &[u8],
 ) -> Option<RunFailure<'a>>
-    requires callable { F.IsAlwaysCallable make.now }
-    requires asked { MakesAsked P.rule P.memory (F.post make.now) }
+    requires { F.makes_asked make }
 {
-    set_up(rt, alloc, make, bytes, 1).err()
+    set_up(rt, alloc, &FnMaker::new(make), bytes, 1).err()
 }
 
 /// The same, with probes of the three kinds.
@@ -43,7 +42,7 @@ fn failure_of<'a, R: Wait>(rt: &R, alloc: Global, bytes: &[u8]) -> Option<RunFai
         };
         Ok(probe)
     };
-    failure_with(rt, alloc, &make, bytes)
+    failure_with(rt, alloc, make, bytes)
 }
 
 /// Scripts, and why they set up no hall.
@@ -107,12 +106,14 @@ fn ends_where_a_script_is_none_or_a_change_is_not_made(rt: HostRuntime) -> Resul
 }
 
 /// Makes probes that are set by hand, and no others.
-fn manual(rule: Rule) -> Result<Manual, AllocError>
-    ensures { IsAsked ⟦<Manual as Probe>⟧.rule ⟦<Manual as Probe>⟧.memory rule result }
-{
-    match rule {
-        Rule::Manual => Ok(Manual::new()),
-        Rule::Threshold(..) | Rule::Depends(_) => Err(AllocError),
+struct Manuals;
+
+impl Maker<Manual> for Manuals {
+    fn make(&self, rule: Rule) -> Result<Manual, AllocError> {
+        match rule {
+            Rule::Manual => Ok(Manual::new()),
+            Rule::Threshold(..) | Rule::Depends(_) => Err(AllocError),
+        }
     }
 }
 
@@ -142,7 +143,7 @@ where
 
 #[test]
 fn tells_that_its_address_is_in_use(rt: HostRuntime) -> Result<(), Fail> {
-    match set_up(&rt, rt.alloc(), &|rule| manual(rule), SCRIPT, 1) {
+    match set_up(&rt, rt.alloc(), &Manuals, SCRIPT, 1) {
         Ok(made) => expect_in_use(&rt, &made),
         Err(failure) => same(&Some(failure), &None, &"the setup"),
     }

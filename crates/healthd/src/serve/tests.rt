@@ -2,12 +2,14 @@ ghost use Rattle.std.specs.Prelude.{◌≤◌, length};
 ghost use Rattle.probe_core.specs.Made.{IsAsked};
 
 use super::*;
-use crate::ask::ask_at;
+use crate::ask::{ask_at, ask_within};
 use crate::command::command;
 use client::Told;
 use desk_core::CatalogueFault;
-use probe_core::{Depends, Manual, Threshold};
+use probe_core::{Depends, FnMaker, Manual, ProbeFn, Rule, Threshold};
 use script::ScriptFault;
+use std::alloc::AllocError;
+use std::net::SocketAddr;
 use std::test::Fail;
 use std::thread;
 use std::time::{Clock, Duration};
@@ -24,7 +26,23 @@ where
     Ok((listener, port))
 }
 
-/// What `serve_script` answers with probes of the three kinds.
+/// What `serve_script` answers with the probes that the closure makes.
+fn output_by<R, P: Probe + Send, F: ProbeFn<Made = P> + Drop>(
+    rt: &R,
+    alloc: Global,
+    make: F,
+    script: &[u8],
+    port: u16,
+    capacity: Capacity,
+) -> Result<String, Fault>
+where
+    R: Print + Wait + Threads + Sync + Net<Listener = TcpListener, Stream = TcpStream>,
+    requires { F.makes_asked make }
+{
+    serve_script(rt, alloc, &FnMaker::new(make), script, port, capacity)
+}
+
+/// The same with probes of the three kinds.
 fn output_of<R>(
     rt: &R,
     alloc: Global,
@@ -48,7 +66,7 @@ where
         };
         Ok(probe)
     };
-    serve_script(rt, alloc, &make, script, port, capacity)
+    output_by(rt, alloc, make, script, port, capacity)
 }
 
 const CAPACITY: Capacity = Capacity {
@@ -135,25 +153,32 @@ fn check_when_open<R: Clock + Net<Stream = TcpStream>>(
     None
 }
 
-/// The statuses that four Checks are told, of `a`, `b`, `c` and the whole.
-type Answers = (Option<Told>, Option<Told>, Option<Told>, Option<Told>);
+/// What five Checks are told, of `a`, a name that is not listed, `b`, `c` and the whole.
+type Answers = (
+    Option<Told>,
+    Option<Told>,
+    Option<Told>,
+    Option<Told>,
+    Option<Told>,
+);
 
 fn serve_and_check<R>(rt: &R, alloc: Global, port: u16) -> (Result<String, Fault>, Answers)
 where
     R: Print + Wait + Threads + Sync + Clock + Net<Listener = TcpListener, Stream = TcpStream>,
 {
     let capacity = Capacity {
-        workers: 2,
-        calls: 4,
+        workers: 1,
+        calls: 5,
     };
     thread::join(
         rt,
         move || output_of(rt, alloc, SCRIPT, port, capacity),
         move || {
             let a = check_when_open(rt, alloc, port, "a");
+            let unknown = check_when_open(rt, alloc, port, "zz");
             let b = check_when_open(rt, alloc, port, "b");
             let c = check_when_open(rt, alloc, port, "c");
-            (a, b, c, check_when_open(rt, alloc, port, ""))
+            (a, unknown, b, c, check_when_open(rt, alloc, port, ""))
         },
     )
 }
@@ -163,16 +188,76 @@ fn expect_status(told: &Option<Told>, expected: u64) -> Result<(), Fail> {
     same(&statuses, &Some([expected].as_slice()), &"statuses")
 }
 
+// One worker takes the calls as they come, so that each end has its line.
 #[test]
 fn serves_what_its_script_says(rt: HostRuntime) -> Result<(), Fail> {
     let (listener, port) = taken_port(&rt)?;
     drop(listener);
-    let (output, (a, b, c, whole)) = serve_and_check(&rt, rt.alloc(), port);
+    let (output, (a, unknown, b, c, whole)) = serve_and_check(&rt, rt.alloc(), port);
     expect_status(&a, 1)?;
+    same(
+        &unknown.is_some_and(|told| told.statuses.is_empty()),
+        &true,
+        &"zz",
+    )?;
     expect_status(&b, 2)?;
     expect_status(&c, 0)?;
     expect_status(&whole, 2)?;
     let expected =
-        "call 0 status 0\ncall 1 status 0\ncall 2 status 0\ncall 3 status 0\njournal 6\n";
+        "call 0 status 0\ncall 1 status 5\ncall 2 status 0\ncall 3 status 0\ncall 4 status 0\njournal 6\n";
     same(&output?.as_str(), &expected, &"output")
+}
+
+/// A connection to the port, which is made once the server listens. It gives up after some seconds.
+fn connect_when_open<R: Clock + Net<Stream = TcpStream>>(rt: &R, port: u16) -> Option<TcpStream> {
+    for _ in 0..1_000u32 {
+        match TcpStream::connect(rt, (HOST, port)) {
+            Ok(stream) => return Some(stream),
+            Err(_) => thread::sleep(rt, Duration::from_millis(5)),
+        }
+    }
+    None
+}
+
+/// What a Check is told within ten seconds beside a client that is silent, and whether there was one.
+fn check_beside_silence<R: Clock + Net<Stream = TcpStream>>(
+    rt: &R,
+    alloc: Global,
+    port: u16,
+) -> (Option<Told>, bool) {
+    let silent = connect_when_open(rt, port);
+    let addr = SocketAddr::from(([127, 0, 0, 1], port));
+    let timeout = Duration::from_secs(10);
+    let told = ask_within(rt, alloc, addr, timeout, Method::Check, "a", 1).ok();
+    (told, silent.is_some())
+}
+
+fn serve_beside_silence<R>(
+    rt: &R,
+    alloc: Global,
+    port: u16,
+) -> (Result<String, Fault>, (Option<Told>, bool))
+where
+    R: Print + Wait + Threads + Sync + Clock + Net<Listener = TcpListener, Stream = TcpStream>,
+{
+    let capacity = Capacity {
+        workers: 2,
+        calls: 2,
+    };
+    thread::join(
+        rt,
+        move || output_of(rt, alloc, SCRIPT, port, capacity),
+        move || check_beside_silence(rt, alloc, port),
+    )
+}
+
+// With one worker the silent client would keep the other from its answer.
+#[test]
+fn two_workers_are_in_a_call_at_once(rt: HostRuntime) -> Result<(), Fail> {
+    let (listener, port) = taken_port(&rt)?;
+    drop(listener);
+    let (output, (told, is_silent)) = serve_beside_silence(&rt, rt.alloc(), port);
+    same(&is_silent, &true, &"the silent client")?;
+    expect_status(&told, 1)?;
+    same(&output.is_ok(), &true, &"output")
 }

@@ -1,6 +1,6 @@
 //! What the tests of a run send to threads.
 
-use crate::tests::runs::manual;
+use crate::tests::runs::Manuals;
 use crate::{Ran, RunFault, run_live};
 use control_server::ControlServer;
 use desk_core::KeepMany;
@@ -33,14 +33,6 @@ impl<R: Wait + Threads + Clock + Sync> Ready<'_, R> {
             control,
             news,
         } = self;
-        run_live(
-            rt,
-            alloc,
-            made,
-            servers,
-            control,
-            &|rule| manual(rule),
-            news,
-        )
+        run_live(rt, alloc, made, servers, control, &Manuals, news)
     }
 }

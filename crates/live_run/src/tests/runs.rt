@@ -1,5 +1,4 @@
 ghost use Rattle.std.specs.Prelude.{◌≤◌, IfOk};
-ghost use Rattle.probe_core.specs.Made.{IsAsked};
 
 use crate::tests::scenes::{Counts, Watcher, expect_checked};
 use crate::tests::sessions::{Outcome, run_beside};
@@ -7,7 +6,7 @@ use crate::tests::talks::Talk;
 use crate::{RefusedLine, first_refused};
 use desk_core::{KeepMany, Reply};
 use live_server::News;
-use probe_core::{Manual, Probe, Rule};
+use probe_core::{Maker, Manual, Probe, Rule};
 use script::{Mode, read_script};
 use server::{SetUpHall, hall_of};
 use std::alloc::{AllocError, Global};
@@ -36,12 +35,14 @@ up -
 ";
 
 /// Makes probes that are set by hand, and no others.
-pub(super) fn manual(rule: Rule) -> Result<Manual, AllocError>
-    ensures { IsAsked ⟦<Manual as Probe>⟧.rule ⟦<Manual as Probe>⟧.memory rule result }
-{
-    match rule {
-        Rule::Manual => Ok(Manual::new()),
-        Rule::Threshold(..) | Rule::Depends(_) => Err(AllocError),
+pub(super) struct Manuals;
+
+impl Maker<Manual> for Manuals {
+    fn make(&self, rule: Rule) -> Result<Manual, AllocError> {
+        match rule {
+            Rule::Manual => Ok(Manual::new()),
+            Rule::Threshold(..) | Rule::Depends(_) => Err(AllocError),
+        }
     }
 }
 
@@ -57,7 +58,7 @@ pub(super) fn set_up<R: Wait>(
 {
     let script = read_script(alloc, script, Mode::Run)?;
     let numbers = script.numbers().to_vec(alloc)?;
-    let made = hall_of(rt, alloc, script, &|rule| manual(rule), seats)?;
+    let made = hall_of(rt, alloc, script, &Manuals, seats)?;
     let refused = first_refused(&numbers, made.results());
     Ok((made, refused))
 }

@@ -1,4 +1,4 @@
-use crate::one_thread::{OneThread, make_manual};
+use crate::one_thread::{Manuals, OneThread};
 use crate::{Answer, Session};
 use probe_core::Manual;
 use std::alloc::Global;
@@ -46,7 +46,7 @@ fn answer_all(
             return Ok(());
         }
         if session.to_send().is_empty() {
-            session.answer(alloc, console, &|rule| make_manual(rule));
+            session.answer(alloc, console, &Manuals);
         }
         let waiting = session.to_send();
         let count = waiting.len();
@@ -98,7 +98,7 @@ fn ends_at_a_line_that_is_too_long(rt: HostRuntime) -> Result<(), Fail> {
     same(&session.has_line(), &true, &"a line")?;
     if session.has_line() && session.to_send().is_empty() {
         same(
-            &session.answer(alloc, &mut console, &|rule| make_manual(rule)),
+            &session.answer(alloc, &mut console, &Manuals),
             &Answer::TooLong,
             &"answer",
         )?;

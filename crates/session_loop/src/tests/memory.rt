@@ -3,7 +3,7 @@ use crate::{Fate, turn};
 use event_loop::Link;
 use probe_core::Manual;
 use session::Session;
-use session::one_thread::{OneThread, make_manual};
+use session::one_thread::{Manuals, OneThread};
 use std::alloc::{AllocError, Global};
 use std::test::Fail;
 use test_support::{Scarcity, same};
@@ -62,7 +62,7 @@ fn sent_with(alloc: Global, bytes: &[u8], piece: usize, steps: usize) -> Result<
             &mut Link::new(&mut reader),
             &mut Link::new(&mut writer),
             &mut console,
-            &|rule| make_manual(rule),
+            &Manuals,
             &mut session,
             &mut buffer,
         );

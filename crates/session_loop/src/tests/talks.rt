@@ -3,7 +3,7 @@ use crate::{Fate, turn};
 use event_loop::Link;
 use probe_core::Manual;
 use session::Session;
-use session::one_thread::{OneThread, make_manual};
+use session::one_thread::{Manuals, OneThread};
 use std::alloc::Global;
 use std::test::Fail;
 use test_support::same;
@@ -42,7 +42,7 @@ fn sent_over(alloc: Global, bytes: &[u8], manner: Manner) -> Result<Vec<u8>, Fai
             &mut Link::new(&mut reader),
             &mut Link::new(&mut writer),
             &mut console,
-            &|rule| make_manual(rule),
+            &Manuals,
             &mut session,
             &mut buffer,
         );

@@ -2,7 +2,7 @@
 
 ghost use Rattle.std.specs.Prelude.{◌≡◌, ◌≤◌, ◌<◌, List, Option, IfOk, vec_len};
 ghost use Rattle.desk_core.specs.declared.call.Call.{Call};
-ghost use Rattle.probe_core.specs.Made.{IsAsked, MakesAsked};
+ghost use Rattle.probe_core.specs.Made.{IsAsked};
 ghost use Rattle.healthd.specs.Run.{IsWhollySetUp};
 
 use super::ready::Ready;
@@ -179,19 +179,17 @@ impl<R: AllocGlobal + Net<Stream = TcpStream>> Visitor<'_, R> {
 }
 
 /// Serves while a client is there.
-fn serve_beside<R, P: Probe + Send, F>(
-    ready: Ready<'_, R, P, F>,
+fn serve_beside<R, P: Probe + Send, M>(
+    ready: Ready<'_, R, P, M>,
     client: Client<'_>,
     port: u16,
 ) -> (Option<Ran<P, KeepMany>>, Beside)
 where
     R: AllocGlobal + Clock + Wait + Threads + Sync + Net<Stream = TcpStream>,
-    F: Fn(Rule) -> Result<P, AllocError> + Sync,
+    M: Maker<P> + Sync,
     requires set_up { (calls : List (Option Call)) × IsWhollySetUp calls ready.made }
     requires some { 1 ≤ vec_len ready.servers }
     requires enough { vec_len ready.servers < ready.made.hall.seats }
-    requires callable { F.IsAlwaysCallable ready.make.now }
-    requires asked { MakesAsked P.rule P.memory (F.post ready.make.now) }
 {
     let rt = ready.rt;
     let visitor = Visitor {
@@ -206,8 +204,6 @@ where
             requires set_up { (calls : List (Option Call)) × IsWhollySetUp calls ready.made }
             requires some { 1 ≤ vec_len ready.servers }
             requires enough { vec_len ready.servers < ready.made.hall.seats }
-            requires callable { F.IsAlwaysCallable ready.make.now }
-            requires asked { MakesAsked P.rule P.memory (F.post ready.make.now) }
         { ready.serve() },
         move || visitor.go(),
     )
@@ -254,7 +250,7 @@ fn run_with<'a, R, P: Probe + Send, F>(
     rt: &R,
     script: &[u8],
     client: Client<'a>,
-    make: &F,
+    make: F,
 ) -> Result<(Option<u32>, Beside), Fail>
 where
     R: AllocGlobal
@@ -264,11 +260,11 @@ where
         + Threads
         + Sync
         + Net<Listener = TcpListener, Stream = TcpStream>,
-    F: Fn(Rule) -> Result<P, AllocError> + Sync,
-    requires callable { F.IsAlwaysCallable make.now }
-    requires asked { MakesAsked P.rule P.memory (F.post make.now) }
+    F: ProbeFn<Made = P> + Sync + Drop,
+    requires { F.makes_asked make }
 {
-    let made = set_up(rt, rt.alloc(), make, script, 3 + MAX_SESSIONS)?;
+    let maker = FnMaker::new(make);
+    let made = set_up(rt, rt.alloc(), &maker, script, 3 + MAX_SESSIONS)?;
     let listener = listen(rt, &made, SocketAddr::from(([127, 0, 0, 1], 0)))?;
     let port = listener.local_addr()?.port();
     let Begun {
@@ -281,7 +277,7 @@ where
         made,
         servers,
         control,
-        make,
+        maker: &maker,
         news: &news,
     };
     let (ran, beside) = serve_beside(ready, client, port);
@@ -321,7 +317,7 @@ where
         };
         Ok(probe)
     };
-    run_with(rt, script, client, &make)
+    run_with(rt, script, client, make)
 }
 
 fn expect_status(told: &Result<Told, Fault>, expected: u64) -> Result<(), Fail> {
