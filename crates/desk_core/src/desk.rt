@@ -118,6 +118,7 @@ impl<P: Probe, K: Keep> Desk<P, K> {
         ensures full { IsAtLimit K.kept self.old
             → IfErr result (λ refused. refused.0 ≢ Refusal.NoMemory) }
         ensures holds { HoldsMemory self.old self.new }
+        ensures placed { IfOk result (λ taken. 16 ≤ self.new.places) }
     {
         if let Some(refusal) = self.refusal_of(&call) {
             return Err((refusal, probe));
@@ -185,6 +186,8 @@ impl<P: Probe, K: Keep> Desk<P, K> {
         ensures handed_back { IfErr result (λ handed. handed.probe ≡ probe) }
         ensures full { IsAtLimit K.kept self.old
             → IfErr result (λ handed. handed.refusal ≢ Refusal.NoMemory) }
+        ensures holds { HoldsMemory self.old self.new }
+        ensures placed { IfOk result (λ taken. 16 ≤ self.new.places) }
     {
         let call = Call::Register(slot, probe.rule());
         match self.change(seat, call, Some(probe)) {
@@ -205,6 +208,8 @@ impl<P: Probe, K: Keep> Desk<P, K> {
             ≡ probe_at (past self.old.journal) slot) }
         ensures full { IsAtLimit K.kept self.old
             → IfErr result (λ refusal. refusal ≢ Refusal.NoMemory) }
+        ensures holds { HoldsMemory self.old self.new }
+        ensures placed { IfOk result (λ taken. 16 ≤ self.new.places) }
     {
         match self.change(seat, Call::Retire(slot), None) {
             Ok(taken) => Ok(taken),
@@ -216,6 +221,8 @@ impl<P: Probe, K: Keep> Desk<P, K> {
     pub fn observe(&mut self, seat: u16, slot: Slot, finding: Finding) -> Result<Reply, Refusal>
         ensures answered { HasAnswered self.old self.new seat (Call.Observe slot finding) result }
         ensures full { IsAtLimit K.kept self.old → result ≢ Err Refusal.NoMemory }
+        ensures holds { HoldsMemory self.old self.new }
+        ensures placed { IfOk result (λ reply. 16 ≤ self.new.places) }
     {
         self.make(seat, Call::Observe(slot, finding))
     }
@@ -224,6 +231,8 @@ impl<P: Probe, K: Keep> Desk<P, K> {
     pub fn set(&mut self, seat: u16, slot: Slot, setting: Setting) -> Result<Reply, Refusal>
         ensures answered { HasAnswered self.old self.new seat (Call.Set slot setting) result }
         ensures full { IsAtLimit K.kept self.old → result ≢ Err Refusal.NoMemory }
+        ensures holds { HoldsMemory self.old self.new }
+        ensures placed { IfOk result (λ reply. 16 ≤ self.new.places) }
     {
         self.make(seat, Call::Set(slot, setting))
     }
@@ -232,6 +241,8 @@ impl<P: Probe, K: Keep> Desk<P, K> {
     pub fn shutdown(&mut self, seat: u16) -> Result<Reply, Refusal>
         ensures answered { HasAnswered self.old self.new seat Call.Shutdown result }
         ensures full { IsAtLimit K.kept self.old → result ≢ Err Refusal.NoMemory }
+        ensures holds { HoldsMemory self.old self.new }
+        ensures placed { IfOk result (λ reply. 16 ≤ self.new.places) }
     {
         self.make(seat, Call::Shutdown)
     }
@@ -240,6 +251,8 @@ impl<P: Probe, K: Keep> Desk<P, K> {
     pub fn resume(&mut self, seat: u16) -> Result<Reply, Refusal>
         ensures answered { HasAnswered self.old self.new seat Call.Resume result }
         ensures full { IsAtLimit K.kept self.old → result ≢ Err Refusal.NoMemory }
+        ensures holds { HoldsMemory self.old self.new }
+        ensures placed { IfOk result (λ reply. 16 ≤ self.new.places) }
     {
         self.make(seat, Call::Resume)
     }
@@ -249,6 +262,8 @@ impl<P: Probe, K: Keep> Desk<P, K> {
         requires { rule_of call ≡ None }
         ensures answered { HasAnswered self.old self.new seat call result }
         ensures full { IsAtLimit K.kept self.old → result ≢ Err Refusal.NoMemory }
+        ensures holds { HoldsMemory self.old self.new }
+        ensures placed { IfOk result (λ reply. 16 ≤ self.new.places) }
     {
         match self.change(seat, call, None) {
             Ok((reply, _)) => Ok(reply),
