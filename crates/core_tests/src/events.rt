@@ -93,20 +93,24 @@ const HEARD: [(Rule, &[Heard]); 7] = [
     ),
 ];
 
-/// Lets a new probe hear the events, and takes it back to its opening state.
-fn expect_heard<P: Probe>(probe: &mut P, rule: Rule, heard: &[Heard]) -> Result<(), Fail> {
+/// Lets a new probe hear the events, and takes it back to its opening state. Counts the events.
+fn expect_heard<P: Probe>(probe: &mut P, rule: Rule, heard: &[Heard]) -> Result<u32, Fail> {
     let opening = health_of(probe);
+    let mut count = 0u32;
     for (event, fits, after) in heard {
         let found = (rule.fits(*event), probe.note(*event), health_of(probe));
         same(&found, &(*fits, *fits, *after), event)?;
+        count = count.wrapping_add(1);
     }
     probe.reset();
-    same(&(probe.rule(), health_of(probe)), &(rule, opening), &rule)
+    same(&(probe.rule(), health_of(probe)), &(rule, opening), &rule)?;
+    Ok(count)
 }
 
 #[test]
 fn hears_what_fits_its_rule(rt: HostRuntime) -> Result<(), Fail> {
     let alloc = rt.alloc();
+    let mut count = 0u32;
     for (rule, heard) in &HEARD {
         let mut probe: Box<dyn Probe + Send> = match *rule {
             Rule::Threshold(fall, rise, start) => Box::new(
@@ -116,9 +120,9 @@ fn hears_what_fits_its_rule(rt: HostRuntime) -> Result<(), Fail> {
             Rule::Manual => Box::new(alloc, Manual::new())?,
             Rule::Depends(mask) => Box::new(alloc, Depends::new(mask))?,
         };
-        expect_heard(&mut probe, *rule, *heard)?;
+        count = count.wrapping_add(expect_heard(&mut probe, *rule, *heard)?);
     }
-    Ok(())
+    same(&count, &32, &"the events")
 }
 
 /// A boxed probe that hears a setting and is dropped then.

@@ -1,123 +1,179 @@
+use crate::rows::{Answer, Row, expect_change};
 use desk_core::{Desk, Finding, Refusal, Reply, Setting, Slot};
 use probe_core::tracked::Tracked;
-use probe_core::{Event, Manual, Probe, Rule};
+use probe_core::{Event, Manual, Probe, Rule, Start, Threshold};
 use std::alloc::Global;
 use std::sync::Arc;
 use std::sync::atomic::{AtomicU64, Ordering};
 use std::test::Fail;
 use test_support::same;
 
+fn slot(number: u8) -> Result<Slot, Fail> {
+    Ok(Slot::new(number).ok_or("no slot")?)
+}
+
 fn counter(alloc: Global) -> Result<Arc<AtomicU64>, Fail> {
     Ok(Arc::new(alloc, AtomicU64::new(0))?)
 }
 
-fn expect_drops(counters: &[Arc<AtomicU64>; 3], expected: [u64; 3]) -> Result<(), Fail> {
-    let [a, b, other] = counters;
+fn expect_drops(counters: &[Arc<AtomicU64>; 4], expected: [u64; 4]) -> Result<(), Fail> {
+    let [a, b, c, other] = counters;
     let drops = [
         a.load(Ordering::SeqCst),
         b.load(Ordering::SeqCst),
+        c.load(Ordering::SeqCst),
         other.load(Ordering::SeqCst),
     ];
     same(&drops, &expected, &"the counters")
 }
 
-/// Replaces a probe, retires the one in its place, and registers one where the journal is full. What comes back is dropped at once.
+/// Two slots have a probe each. Replaces one of them, retires both slots, and registers a probe where the journal is full. What comes
+/// back is dropped at once.
 fn expect_given_back(
     desk: &mut Desk<Tracked>,
-    slot: Slot,
-    counters: &[Arc<AtomicU64>; 3],
+    one: Slot,
+    two: Slot,
+    counters: &[Arc<AtomicU64>; 4],
 ) -> Result<(), Fail> {
-    let [a, b, other] = counters;
-    drop(desk.register(0, slot, Tracked::new(a.clone()?)));
-    expect_drops(counters, [0, 0, 0])?;
-    drop(desk.register(0, slot, Tracked::new(b.clone()?)));
-    expect_drops(counters, [1, 0, 0])?;
-    drop(desk.retire(0, slot));
-    expect_drops(counters, [1, 1, 0])?;
-    drop(desk.register(0, slot, Tracked::new(other.clone()?)));
-    expect_drops(counters, [1, 1, 1])
+    let [a, b, c, other] = counters;
+    drop(desk.register(0, one, Tracked::new(a.clone()?)));
+    drop(desk.register(0, two, Tracked::new(b.clone()?)));
+    expect_drops(counters, [0, 0, 0, 0])?;
+    drop(desk.register(0, one, Tracked::new(c.clone()?)));
+    expect_drops(counters, [1, 0, 0, 0])?;
+    drop(desk.retire(0, two));
+    expect_drops(counters, [1, 1, 0, 0])?;
+    drop(desk.retire(0, one));
+    expect_drops(counters, [1, 1, 1, 0])?;
+    drop(desk.register(0, one, Tracked::new(other.clone()?)));
+    expect_drops(counters, [1, 1, 1, 1])
 }
 
-/// Each probe has a counter of its own, so that the wrong body `retire_makes_its_own_box` is seen here, and in no contract: a
-/// desk that hands out another probe of the same rule and memory than the one that was registered.
+/// Each probe has a counter of its own, so that wrong bodies are seen here that are seen in no contract: a desk that hands out another
+/// probe of the same rule and memory than the one that was registered in that slot, one of its own making
+/// (`retire_makes_its_own_box`) or another slot's.
 #[test]
 fn gives_the_very_probe_back(rt: HostRuntime) -> Result<(), Fail> {
     let alloc = rt.alloc();
-    let counters = [counter(alloc)?, counter(alloc)?, counter(alloc)?];
-    let slot = Slot::new(1).ok_or("no slot")?;
-    let mut desk = Desk::new(alloc, 3);
-    expect_given_back(&mut desk, slot, &counters)
+    let counters = [
+        counter(alloc)?,
+        counter(alloc)?,
+        counter(alloc)?,
+        counter(alloc)?,
+    ];
+    let mut desk = Desk::new(alloc, 5);
+    expect_given_back(&mut desk, slot(1)?, slot(2)?, &counters)
 }
 
 /// A kind of a caller's own: it counts the events that reach it.
 #[derive(Drop)]
-struct Counted {
-    manual: Manual,
+struct Counted<P: Probe> {
+    probe: P,
     notes: Arc<AtomicU64>,
 }
 
-impl Probe for Counted {
-    ghost rule = { λ probe. ⟦<probe_core::Manual as probe_core::Probe>⟧.rule probe.manual };
+impl<P: Probe> Probe for Counted<P> {
+    ghost rule = { λ counted. P.rule counted.probe };
 
-    ghost memory = { λ probe. ⟦<probe_core::Manual as probe_core::Probe>⟧.memory probe.manual };
+    ghost memory = { λ counted. P.memory counted.probe };
 
     fn rule(&self) -> Rule {
-        self.manual.rule()
+        self.probe.rule()
     }
 
     fn is_up(&self) -> bool {
-        self.manual.is_up()
+        self.probe.is_up()
     }
 
     fn is_unknown(&self) -> bool {
-        self.manual.is_unknown()
+        self.probe.is_unknown()
     }
 
     fn note(&mut self, event: Event) -> bool {
         self.notes.fetch_add(1, Ordering::SeqCst);
-        self.manual.note(event)
+        self.probe.note(event)
     }
 
     fn reset(&mut self) {
-        self.manual.reset()
+        self.probe.reset()
     }
 }
 
-/// An event that is of the wrong kind, ignored, or refused by the full journal reaches no probe, and another reaches its probe once.
-fn expect_notes(desk: &mut Desk<Counted>, slot: Slot, notes: &AtomicU64) -> Result<(), Fail> {
-    let answers = [
-        desk.observe(0, slot, Finding::Fail),
-        desk.shutdown(0),
-        desk.set(0, slot, Setting::Down),
-        desk.resume(0),
-    ];
-    let expected = [
-        Ok(Reply::WrongKind),
-        Ok(Reply::Done),
-        Ok(Reply::Ignored),
-        Ok(Reply::Done),
-    ];
-    same(&answers, &expected, &"what is not heard")?;
-    same(&notes.load(Ordering::SeqCst), &0, &"what is not heard")?;
-    let answers = [
-        desk.set(0, slot, Setting::Down),
-        desk.set(0, slot, Setting::Up),
-    ];
-    let expected = [Ok(Reply::Done), Err(Refusal::Full)];
-    same(&answers, &expected, &"what is heard")?;
-    same(&notes.load(Ordering::SeqCst), &1, &"what is heard")
+const DONE: Answer = Ok(Reply::Done);
+
+const IGNORED: Answer = Ok(Reply::Ignored);
+
+const WRONG_KIND: Answer = Ok(Reply::WrongKind);
+
+const FULL: Answer = Err(Refusal::Full);
+
+/// A change, and how many events have reached the probes of the slots 1 and 2 then.
+type Heard = (Row, [u64; 2]);
+
+/// Of services that are set. An event that is of the wrong kind, ignored, or refused by the full journal reaches no probe; one that
+/// leaves the service as it is reaches its probe like any other.
+const SETTINGS: [Heard; 11] = [
+    (Row::Observe(1, Finding::Fail, WRONG_KIND), [0, 0]),
+    (Row::Shutdown(DONE), [0, 0]),
+    (Row::Set(1, Setting::Down, IGNORED), [0, 0]),
+    (Row::Resume(DONE), [0, 0]),
+    (Row::Set(1, Setting::Up, DONE), [1, 0]),
+    (Row::Set(2, Setting::Up, DONE), [1, 1]),
+    (Row::Set(2, Setting::Down, DONE), [1, 2]),
+    (Row::Set(2, Setting::Down, DONE), [1, 3]),
+    (Row::Set(1, Setting::Down, DONE), [2, 3]),
+    (Row::Set(2, Setting::Up, DONE), [2, 4]),
+    (Row::Set(1, Setting::Up, FULL), [2, 4]),
+];
+
+/// The same of services that are checked, and are down after one failure.
+const FINDINGS: [Heard; 11] = [
+    (Row::Set(1, Setting::Down, WRONG_KIND), [0, 0]),
+    (Row::Shutdown(DONE), [0, 0]),
+    (Row::Observe(1, Finding::Fail, IGNORED), [0, 0]),
+    (Row::Resume(DONE), [0, 0]),
+    (Row::Observe(1, Finding::Pass, DONE), [1, 0]),
+    (Row::Observe(2, Finding::Pass, DONE), [1, 1]),
+    (Row::Observe(2, Finding::Fail, DONE), [1, 2]),
+    (Row::Observe(2, Finding::Fail, DONE), [1, 3]),
+    (Row::Observe(1, Finding::Fail, DONE), [2, 3]),
+    (Row::Observe(2, Finding::Pass, DONE), [2, 4]),
+    (Row::Observe(1, Finding::Pass, FULL), [2, 4]),
+];
+
+/// Registers the two probes in the slots 1 and 2, and makes the changes, of which the last is refused by the full journal.
+fn expect_heard<P: Probe>(alloc: Global, one: P, two: P, rows: &[Heard; 11]) -> Result<(), Fail> {
+    let rule = one.rule();
+    let counters = [counter(alloc)?, counter(alloc)?];
+    let [first, second] = &counters;
+    let (one, two) = (
+        Counted {
+            probe: one,
+            notes: first.clone()?,
+        },
+        Counted {
+            probe: two,
+            notes: second.clone()?,
+        },
+    );
+    let mut desk = Desk::new(alloc, 12);
+    drop(desk.register(0, slot(1)?, one));
+    drop(desk.register(0, slot(2)?, two));
+    for (at, (row, expected)) in rows.iter().enumerate() {
+        expect_change(&mut desk, *row, at)?;
+        let notes = [first.load(Ordering::SeqCst), second.load(Ordering::SeqCst)];
+        same(&notes, expected, &(rule, at))?;
+    }
+    Ok(())
 }
 
 #[test]
 fn an_event_reaches_its_probe_once_if_it_is_heard(rt: HostRuntime) -> Result<(), Fail> {
     let alloc = rt.alloc();
-    let notes = counter(alloc)?;
-    let slot = Slot::new(1).ok_or("no slot")?;
-    let mut desk = Desk::new(alloc, 6);
-    let probe = Counted {
-        manual: Manual::new(),
-        notes: notes.clone()?,
-    };
-    drop(desk.register(0, slot, probe));
-    expect_notes(&mut desk, slot, &notes)
+    expect_heard(alloc, Manual::new(), Manual::new(), &SETTINGS)?;
+    let (one, two) = (
+        Threshold::new(1, 1, Start::Up),
+        Threshold::new(1, 1, Start::Up),
+    );
+    expect_heard(alloc, one, two, &FINDINGS)
 }

@@ -476,6 +476,9 @@ const HISTORIES: [History; 14] = [
     },
 ];
 
+/// How many rows the histories have in all.
+const ROWS: u32 = 151;
+
 fn expect_told(changes: &[Change], told: &[Told], name: &str) -> Result<(), Fail> {
     same(&changes.len(), &told.len(), &name)?;
     for (change, expected) in changes.iter().zip(told) {
@@ -485,20 +488,22 @@ fn expect_told(changes: &[Change], told: &[Told], name: &str) -> Result<(), Fail
     Ok(())
 }
 
-/// Goes through a history with these probes, of which the last is registered first.
+/// Goes through a history with these probes, of which the last is registered first. Counts its rows.
 fn expect_history<P: Probe>(
     alloc: Global,
     mut probes: Vec<P>,
     history: &History,
-) -> Result<(), Fail> {
+) -> Result<u32, Fail> {
     let mut desk = Desk::new(alloc, history.most);
-    expect_rows(&mut desk, &mut probes, history.rows)?;
-    expect_told(desk.changes(), history.told, history.name)
+    let count = expect_rows(&mut desk, &mut probes, history.rows)?;
+    expect_told(desk.changes(), history.told, history.name)?;
+    Ok(count)
 }
 
 #[test]
 fn answers_worked_histories(rt: HostRuntime) -> Result<(), Fail> {
     let alloc = rt.alloc();
+    let mut count = 0u32;
     for history in &HISTORIES {
         let mut probes: Vec<Box<dyn Probe + Send>> = Vec::new(alloc);
         for rule in history.rules.iter().rev() {
@@ -511,9 +516,9 @@ fn answers_worked_histories(rt: HostRuntime) -> Result<(), Fail> {
             };
             probes.push(probe)?;
         }
-        expect_history(alloc, probes, history)?;
+        count = count.wrapping_add(expect_history(alloc, probes, history)?);
     }
-    Ok(())
+    same(&count, &ROWS, &"the rows")
 }
 
 /// The numbers of the refusals are in no clause.

@@ -1,3 +1,7 @@
+ghost use Rattle.std.specs.Prelude.{◌≢◌, Err, IfSome};
+
+use crate::asked::{Asked, ask, change};
+use crate::rows::Answer;
 use crate::sixteen::KeepSixteen;
 use desk_core::{
     Behind, Capacity, Desk, Keep, KeepMany, Refusal, Reply, Setting, Slot, Watch, board_entries,
@@ -75,8 +79,47 @@ fn is_refused(alloc: Global) -> bool {
     empty.shutdown(0) == Err(Refusal::NoMemory) && board_entries(empty.board()) == 0
 }
 
-/// Flips a hundred times without memory, and tells whether an empty desk is refused a change meanwhile.
-fn flip_without_memory(
+/// The six changes, of a slot that is registered and is again after the last one, with what each is answered.
+const ROUND: [(Asked, Reply); 7] = [
+    (Asked::Set, Reply::Done),
+    (Asked::Shutdown, Reply::Done),
+    (Asked::Resume, Reply::Done),
+    (Asked::Observe, Reply::WrongKind),
+    (Asked::Register, Reply::Replaced),
+    (Asked::Retire, Reply::Done),
+    (Asked::Register, Reply::Done),
+];
+
+/// Makes the changes ten times by their own functions, and each time by `change` too.
+fn expect_rounds<K: Keep>(desk: &mut Desk<Manual, K>, slot: Slot) -> Result<(), Fail> {
+    for time in 0..10u32 {
+        for (asked, reply) in &ROUND {
+            same(&ask(desk, slot, *asked), &Ok(*reply), &(time, *asked))?;
+        }
+        for (asked, reply) in &ROUND {
+            same(&change(desk, slot, *asked), &Ok(*reply), &(time, *asked))?;
+        }
+    }
+    Ok(())
+}
+
+/// The second change of a desk at its limit is not refused for memory: the first has placed the slots.
+fn resume_after_shutdown(desk: &mut Desk<Manual, KeepSixteen>) -> Option<Answer>
+    ensures { IfSome result (λ answer. answer ≢ Err Refusal.NoMemory) }
+{
+    if desk.shutdown(0).is_err() {
+        return None;
+    }
+    let Capacity { entries, changes } = desk.capacity();
+    if entries == 32 && changes == 32 {
+        Some(desk.resume(0))
+    } else {
+        None
+    }
+}
+
+/// Makes the changes without memory, and tells whether an empty desk is refused one meanwhile.
+fn change_without_memory(
     alloc: Global,
     desk: &mut Desk<Manual, KeepSixteen>,
     slot: Slot,
@@ -84,28 +127,35 @@ fn flip_without_memory(
     let scarcity = Scarcity::with_small_room(alloc)?;
     let rest = scarcity.leave_steps(0)?;
     let is_refused = is_refused(alloc);
-    let gone_on = flip(desk, slot, 60, 160);
+    let gone_on = expect_rounds(desk, slot);
+    let resumed = resume_after_shutdown(desk);
     drop(rest);
     drop(scarcity);
     gone_on?;
+    same(&resumed, &Some(Ok(Reply::Done)), &"the resume")?;
     Ok(is_refused)
 }
 
+/// All slots are registered, so that a shutdown or a resume is as many changes as one entry can bring.
+fn fill(desk: &mut Desk<Manual, KeepSixteen>, slot: Slot) -> Result<(), Fail> {
+    for number in 0..16u8 {
+        let slot = Slot::new(number).ok_or("no slot")?;
+        drop(desk.register(0, slot, Manual::new()));
+    }
+    flip(desk, slot, 0, 60)
+}
+
 #[test]
-fn takes_no_memory_at_its_limit(rt: HostRuntime) -> Result<(), Fail> {
+fn a_desk_at_its_limit_makes_each_change_without_memory(rt: HostRuntime) -> Result<(), Fail> {
     let alloc: Global = rt.alloc();
-    let mut desk = Desk::new(alloc, 200);
-    drop(desk.register(0, slot()?, Manual::new()));
-    flip(&mut desk, slot()?, 0, 60)?;
+    let mut desk = Desk::new(alloc, 218);
+    fill(&mut desk, slot()?)?;
     let limit = Capacity {
         entries: 32,
         changes: 32,
     };
     same(&desk.capacity(), &limit, &"the limit")?;
-    let is_refused = flip_without_memory(alloc, &mut desk, slot()?)?;
-    same(
-        &(is_refused, desk.capacity()),
-        &(true, limit),
-        &"without memory",
-    )
+    let is_refused = change_without_memory(alloc, &mut desk, slot()?)?;
+    let found = (is_refused, desk.capacity(), board_entries(desk.board()));
+    same(&found, &(true, limit, 218), &"without memory")
 }

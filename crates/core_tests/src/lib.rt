@@ -2,6 +2,8 @@
 #![tactic(auto)]
 
 #[cfg(test)]
+mod asked;
+#[cfg(test)]
 mod catalogues;
 #[cfg(test)]
 mod events;
@@ -11,6 +13,8 @@ mod given_back;
 mod histories;
 #[cfg(test)]
 mod keeping;
+#[cfg(test)]
+mod makers;
 #[cfg(test)]
 mod memory;
 #[cfg(test)]

@@ -1,21 +1,10 @@
+use crate::asked::{Asked, ask};
+use crate::rows::Answer;
 use desk_core::{Capacity, Desk, Finding, Refusal, Reply, Setting, Slot};
 use probe_core::Manual;
 use std::alloc::Global;
 use std::test::Fail;
 use test_support::{Scarcity, same};
-
-type Answer = Result<Reply, Refusal>;
-
-/// One of the six changes, of the slot 0.
-#[derive(Clone, Copy)]
-enum Asked {
-    Register,
-    Retire,
-    Observe,
-    Set,
-    Shutdown,
-    Resume,
-}
 
 /// The six changes, and what each is answered once there is memory for it.
 const ASKED: [(Asked, Reply); 6] = [
@@ -29,23 +18,6 @@ const ASKED: [(Asked, Reply); 6] = [
 
 fn slot(number: u8) -> Result<Slot, Fail> {
     Ok(Slot::new(number).ok_or("no slot")?)
-}
-
-fn ask(desk: &mut Desk<Manual>, slot: Slot, asked: Asked) -> Answer {
-    match asked {
-        Asked::Register => match desk.register(0, slot, Manual::new()) {
-            Ok(taken) => Ok(taken.reply),
-            Err(handed) => Err(handed.refusal),
-        },
-        Asked::Retire => match desk.retire(0, slot) {
-            Ok((reply, _)) => Ok(reply),
-            Err(refusal) => Err(refusal),
-        },
-        Asked::Observe => desk.observe(0, slot, Finding::Pass),
-        Asked::Set => desk.set(0, slot, Setting::Down),
-        Asked::Shutdown => desk.shutdown(0),
-        Asked::Resume => desk.resume(0),
-    }
 }
 
 /// Makes the change with no memory left, and then with a little more each time until it is not refused. Tells the answer, and how

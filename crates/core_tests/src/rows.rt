@@ -53,7 +53,7 @@ fn retire<P: Probe>(desk: &mut Desk<P>, slot: Slot) -> Given {
 }
 
 /// Makes the change of a row that registers nothing, and looks at its answer.
-fn expect_change<P: Probe>(desk: &mut Desk<P>, row: Row, at: usize) -> Result<(), Fail> {
+pub(crate) fn expect_change<P: Probe>(desk: &mut Desk<P>, row: Row, at: usize) -> Result<(), Fail> {
     match row {
         Row::Retire(number, given) => same(&retire(desk, slot(number)?), &given, &at),
         Row::Observe(number, finding, answer) => {
@@ -107,18 +107,20 @@ fn expect_registered<P: Probe>(
 }
 
 /// Goes through the rows, each at a desk that the rows before it changed; the probes are registered from the last one on. What the
-/// desk keeps has to be what computing anew gives after each.
+/// desk keeps has to be what computing anew gives after each. Counts the rows.
 pub(crate) fn expect_rows<P: Probe>(
     desk: &mut Desk<P>,
     probes: &mut Vec<P>,
     rows: &[Row],
-) -> Result<(), Fail> {
+) -> Result<u32, Fail> {
     let (mut watch, _) = desk.open(None);
+    let mut count = 0u32;
     for (at, row) in rows.iter().enumerate() {
         expect_registered(desk, probes, *row, at)?;
         expect_change(desk, *row, at)?;
         expect_seen(desk, &mut watch, *row, at)?;
         same(&desk.board(), &desk.board_anew(), &at)?;
+        count = count.wrapping_add(1);
     }
-    Ok(())
+    Ok(count)
 }

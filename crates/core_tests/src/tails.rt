@@ -55,7 +55,7 @@ fn keeps_the_last_sixteen_or_all(rt: HostRuntime) -> Result<(), Fail> {
 }
 
 #[test]
-fn takes_no_memory_at_its_limit(rt: HostRuntime) -> Result<(), Fail> {
+fn a_tail_at_its_limit_takes_no_memory(rt: HostRuntime) -> Result<(), Fail> {
     let alloc: Global = rt.alloc();
     let mut full = Tail::new(alloc, Some(16));
     put(&mut full, 40)?;

@@ -38,7 +38,7 @@ last_passing {X = X} {Y = Y} p f (x ∷ xs) o =
     by_test false later = later o ∙ without_it (find p (reverse xs))
 
 -- what was told last of the changes so far, and then of the later ones, is what is told last of all
-told_last : (front since : List Change) (slot : ℕ)
+pub told_last : (front since : List Change) (slot : ℕ)
     → last_or (Some (last_told front slot)) (map (λ change. change.status) (filter (is_of slot) since)) ≡ Some (last_told (front ++ since) slot)
 told_last front since slot =
     last_passing (is_of slot) (λ change. change.status) since (Some (last_told front slot))
@@ -53,7 +53,7 @@ told_last front since slot =
     by_found (Some change) before = refl
 
 -- the story of the later changes is what each of the slot's among them says
-story_since : (front since : List Change) (slot : ℕ)
+pub story_since : (front since : List Change) (slot : ℕ)
     → story (front ++ since) (Some slot) (length front) (length (front ++ since)) ≡ map (λ change. change.status) (filter (is_of slot) since)
 story_since front since slot =
     ap (λ cs. map (λ change. change.status) (filter (is_of slot) (drop (length front) cs))) (take-length (front ++ since))
@@ -74,7 +74,7 @@ knows_now entries now slot is_older few =
     ∙ ap Some (last_is_shown now slot few)
 
 -- the last of the histories goes on from the first
-goes_on : (later : List (List Entry)) (entries : List Entry) → GoOn entries later → IsOlder entries (last_of entries later)
+pub goes_on : (later : List (List Entry)) (entries : List Entry) → GoOn entries later → IsOlder entries (last_of entries later)
 goes_on [] entries go_on = record { newer = []; is = refl }
 goes_on (next ∷ later) entries go_on =
     let first = go_on.0 in

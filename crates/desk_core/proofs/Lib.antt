@@ -9,6 +9,7 @@ pub mod KeptLemmas
 pub mod KeyLemmas
 pub mod LawfulLemmas
 pub mod LawLemmas
+pub mod OnceLemmas
 pub mod OutcomeLemmas
 pub mod ReadingLemmas
 pub mod RefreshLemmas

@@ -37,7 +37,7 @@ told_at_turn changes at n slot was is known = by_test (is_same was is) refl
     by_test false same = ap (λ cs. unwrap_or (option_map (λ c. c.status) (find (is_of slot) cs)) ServiceUnknown) (reverse-append changes (change ∷ [])) ∙ grind (arith, nat_tests)
 
 -- of the slots below the n-th what is told is what is shown after the entry, and of the others what was shown before it
-told_below : (changes : List Change) (at n slot : ℕ) (before after : ℕ → Serving) → last_told changes slot ≡ before slot
+pub told_below : (changes : List Change) (at n slot : ℕ) (before after : ℕ → Serving) → last_told changes slot ≡ before slot
     → last_told (changes ++ changed at before after n) slot ≡ (if nat_lt slot n then after slot else before slot)
 unfolding changed
 told_below changes at zero slot before after known = ap (λ cs. last_told cs slot) (append-nil changes) ∙ known ∙ grind (arith, nat_tests)

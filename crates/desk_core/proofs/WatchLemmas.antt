@@ -81,7 +81,7 @@ not_found p xs is = by_place (nat_lt (position_or_len p xs) (length xs)) refl is
     by_place false below is = ltb-false (position_or_len p xs) (length xs) below
 
 -- the story up to a later place is the story up to the first of the two, and the story between them
-story_joined : (changes : List Change) (slot : Option ℕ) (start cursor after : ℕ) → start ≤ cursor → cursor ≤ after → cursor ≤ length changes
+pub story_joined : (changes : List Change) (slot : Option ℕ) (start cursor after : ℕ) → start ≤ cursor → cursor ≤ after → cursor ≤ length changes
     → story changes slot start after ≡ story changes slot start cursor ++ story changes slot cursor after
 story_joined changes None start cursor after first forth within = refl
 story_joined changes (Some slot) start cursor after first forth within =
@@ -180,7 +180,7 @@ step_tells changes (Some slot) start cursor = by_place (position (is_of slot) (d
     by_place (Some n) is = finds_one changes slot cursor n is
 
 -- changes that are added at the end leave the story up to a cursor as it was
-story_stays : (front more : List Change) (slot : Option ℕ) (start cursor : ℕ) → cursor ≤ length front → story (front ++ more) slot start cursor ≡ story front slot start cursor
+pub story_stays : (front more : List Change) (slot : Option ℕ) (start cursor : ℕ) → cursor ≤ length front → story (front ++ more) slot start cursor ≡ story front slot start cursor
 story_stays front more None start cursor within = refl
 story_stays front more (Some slot) start cursor within =
     ap (λ cs. map (λ change. change.status) (filter (is_of slot) (drop start cs))) (take-append-le cursor front more within)

@@ -1,5 +1,5 @@
 -- Watchers: after its first status (`shown`) each is told its service's later status changes, each once and in order.
-use Rattle.std.specs.Prelude.{◌≡◌, ℕ, suc, ◌+◌, ◌<◌, ◌==◌, Bool, Option, None, Some, List, [], ◌∷◌, ◌++◌, length, map, take, drop, reverse, slice_get, max, unwrap_or, IsSome}
+use Rattle.std.specs.Prelude.{◌≡◌, ◌≢◌, ℕ, suc, ◌+◌, ◌<◌, ◌==◌, Bool, Option, None, Some, List, [], ◌∷◌, ◌++◌, length, map, take, drop, reverse, slice_get, max, unwrap_or, IsSome}
 use Rattle.std.specs.List.{position, filter, find}
 use Rattle.std.specs.Option.{option_map, option_and_then}
 use Rattle.health_wire.specs.declared.serving.Serving.{Serving}
@@ -59,6 +59,11 @@ story changes (Some slot) start cursor =
 abbrev pub last_told : List Change → ℕ → Serving
 last_told changes slot =
     unwrap_or (option_map (λ change. change.status) (find (is_of slot) (reverse changes))) ServiceUnknown
+
+-- each of the statuses is another than the one before it, and the first is another than this one
+abbrev pub AreChanges : Serving → List Serving → Type 0
+AreChanges before [] = Unit {0}
+AreChanges before (status ∷ later) = (status ≢ before) × AreChanges status later
 
 -- an answer as the statuses that are told
 abbrev pub told : Option Serving → List Serving

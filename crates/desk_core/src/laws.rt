@@ -16,9 +16,9 @@ ghost use Rattle.desk_core.specs.Mutation.{IsAnswered};
 ghost use Rattle.desk_core.specs.Reply.{reply_to};
 ghost use Rattle.tail.specs.Tail.{forgotten, kept_of};
 ghost use Rattle.desk_core.specs.Changes.{changes_of};
-ghost use Rattle.desk_core.specs.Watch.{WatchState, IsBehind, IsOlder, GoOn, last_of, opened, answer_of, cursor_after, told, walk, cursor_past, story, last_told};
+ghost use Rattle.desk_core.specs.Watch.{WatchState, IsBehind, IsOlder, GoOn, last_of, AreChanges, opened, answer_of, cursor_after, told, walk, cursor_past, story, last_told};
 ghost use Rattle.health_wire.specs.declared.serving.Serving.{Serving};
-ghost use Rattle.health_wire.specs.declared.serving.Serving.TheVariants.{Unknown, Serving as IsServing};
+ghost use Rattle.health_wire.specs.declared.serving.Serving.TheVariants.{Unknown, ServiceUnknown, Serving as IsServing};
 ghost use Rattle.probe_core.specs.declared.event.Event.{Event};
 ghost use Rattle.probe_core.specs.declared.rule.Rule.{Rule};
 ghost use Rattle.probe_core.specs.declared.rule.Rule.TheVariants.{Depends};
@@ -149,6 +149,18 @@ pub fn watchers_end_up_right()
         ∷ story (changes_of now) (Some slot) (length (changes_of entries))
         (length (changes_of now)))
         ≡ Some (shown now (Some slot)) }
+{}
+
+/// No status is told twice in a row: each change of a service is to another status than the one before it, and each status that a
+/// watcher is told is another than the one that it was told before, or was shown at its opening.
+pub fn tells_changes_alone()
+    ensures changes { (entries : List Entry) (slot : ℕ) → slot < 16
+        → AreChanges ServiceUnknown
+        (story (changes_of entries) (Some slot) 0 (length (changes_of entries))) }
+    ensures walk { (entries : List Entry) (later : List (List Entry)) (slot : ℕ)
+        → GoOn entries later → slot < 16
+        → AreChanges (shown entries (Some slot))
+        (walk (opened (changes_of entries) (Some slot)) later) }
 {}
 
 /// A history, and a change that is asked for, have one outcome, whatever else a registry keeps of them: where two registries with this

@@ -59,7 +59,7 @@ pub use keep::{Capacity, Keep, KeepAll, KeepMany};
 pub use laws::{
     behind_for_good, changes_grow, depends_on_all, events_decide, faultless_names,
     kept_changes_suffice, last_call_decides, last_change_is_shown, legal_fronts, legal_growth,
-    one_outcome, slots_and_names, steps_leave_none_out, walks_tell_the_story,
+    one_outcome, slots_and_names, steps_leave_none_out, tells_changes_alone, walks_tell_the_story,
     watchers_end_up_right,
 };
 pub use name::Name;

@@ -1,0 +1,50 @@
+use crate::rows::Answer;
+use desk_core::{Call, Desk, Finding, Keep, Setting, Slot};
+use probe_core::{Manual, Rule};
+
+/// One of the six changes, of one slot.
+#[derive(Clone, Copy, Debug)]
+pub(crate) enum Asked {
+    Register,
+    Retire,
+    Observe,
+    Set,
+    Shutdown,
+    Resume,
+}
+
+/// Makes the change by its own function.
+pub(crate) fn ask<K: Keep>(desk: &mut Desk<Manual, K>, slot: Slot, asked: Asked) -> Answer {
+    match asked {
+        Asked::Register => match desk.register(0, slot, Manual::new()) {
+            Ok(taken) => Ok(taken.reply),
+            Err(handed) => Err(handed.refusal),
+        },
+        Asked::Retire => match desk.retire(0, slot) {
+            Ok((reply, _)) => Ok(reply),
+            Err(refusal) => Err(refusal),
+        },
+        Asked::Observe => desk.observe(0, slot, Finding::Pass),
+        Asked::Set => desk.set(0, slot, Setting::Down),
+        Asked::Shutdown => desk.shutdown(0),
+        Asked::Resume => desk.resume(0),
+    }
+}
+
+/// Makes the change by `change`.
+pub(crate) fn change<K: Keep>(desk: &mut Desk<Manual, K>, slot: Slot, asked: Asked) -> Answer {
+    let changed = match asked {
+        Asked::Register => {
+            desk.change(0, Call::Register(slot, Rule::Manual), Some(Manual::new()))
+        }
+        Asked::Retire => desk.change(0, Call::Retire(slot), None),
+        Asked::Observe => desk.change(0, Call::Observe(slot, Finding::Pass), None),
+        Asked::Set => desk.change(0, Call::Set(slot, Setting::Down), None),
+        Asked::Shutdown => desk.change(0, Call::Shutdown, None),
+        Asked::Resume => desk.change(0, Call::Resume, None),
+    };
+    match changed {
+        Ok((reply, _)) => Ok(reply),
+        Err((refusal, _)) => Err(refusal),
+    }
+}
