@@ -1,5 +1,5 @@
 -- A response that is read in pieces.
-use Rattle.std.proofs.Common.{ℕ, ◌≡◌, ◌+◌, ◌<◌, ◌≤◌, Bool, List, [], ◌∷◌, ◌++◌, Option, length, refl, sym, ap, ◌∙◌, subst, inr, arith, length-append}
+use Rattle.std.proofs.Common.{ℕ, ◌≡◌, ◌+◌, ◌<◌, ◌≤◌, Bool, true, false, List, [], ◌∷◌, ◌++◌, Option, length, refl, sym, ap, ◌∙◌, subst, inl, inr, arith, length-append}
 use Rattle.std.proofs.KnownBytes.{Consumes-nil, Consumes-kept}
 use Rattle.std.proofs.lemmas.List.{append-nil}
 use Rattle.std.proofs.lemmas.Bool.Decides.{nat_tests}
@@ -10,13 +10,14 @@ use Rattle.client.specs.declared.ask_fault.AskFault.TheVariants.{Read, Write, Ba
 use Rattle.client.specs.declared.reply.Reply.{Reply}
 use Rattle.client.specs.declared.told.Ended.{Ended}
 use Rattle.client.specs.declared.told.Told.{Told as Answered}
-use Rattle.client.specs.Ask.{HasReadCause, IsFaultAt, IsReadFor, Says}
+use Rattle.client.specs.Ask.{HasReadCause, IsFaultAt, IsReadFor, IsWithin, Says}
 use Rattle.web_call.specs.declared.method.Method.{Method}
 use Rattle.web_call.specs.declared.method.Method.TheVariants.{Check, Watch}
 use Rattle.client.specs.declared.reply.Stage.{Stage}
 use Rattle.client.specs.declared.reply.Stage.TheVariants.{Head, Body, Told}
-use Rattle.client.specs.Reply.{IsBad, IsOfResponse, IsOpen, IsRefused, IsTold, InHead, InBody, ByTrailers, ByCount, ByEnd}
+use Rattle.client.specs.Reply.{IsBad, IsOfResponse, IsOpen, IsRefused, IsTold, WasOpen, InHead, InBody, ByTrailers, ByCount, ByEnd}
 use Rattle.client.specs.Stages.{Holds, StandsAt, method_of, most_of, wanted_at}
+use Rattle.web_call.specs.InputHead.{IsHead, ends_blank}
 
 -- a response that wants bytes is open
 pub open_at : (method : Method) (most : ℕ) (bytes head : List ℕ) (stage : Stage) → 0 < wanted_at stage → StandsAt method most bytes head stage
@@ -43,21 +44,22 @@ fault_says Read method most front piece front_open none =
 fault_says Write method most front piece front_open none = absurd none
 fault_says BadResponse method most front piece front_open bad = bad
 fault_says (Http status) method most front piece front_open refused = refused
-fault_says NoMemory method most front piece front_open none = inr (front, piece, refl, front_open)
+fault_says NoMemory method most front piece front_open was = inr was
 
 -- what a response answers to bytes that were read for it
 pub given_fault : (result : Result Reply AskFault) (old new : Option (List ℕ)) (piece : List ℕ) (reply : Reply) → Consumes old new piece
+    → ((bytes : List ℕ) → Holds bytes reply → WasOpen (method_of reply) (most_of reply) (bytes ++ piece))
     → (result ≡ Err BadResponse → (bytes : List ℕ) → Holds bytes reply → IsBad (method_of reply) (most_of reply) (bytes ++ piece))
     → ((status : ℕ) → result ≡ Err (Http status) → (bytes : List ℕ) → Holds bytes reply → IsRefused (bytes ++ piece) status)
     → IfErr result IsOfResponse
     → IfErr result (λ fault. (bytes : List ℕ) × Consumes old new bytes
     × ((front : List ℕ) → Holds front reply → IsFaultAt fault (method_of reply) (most_of reply) front bytes))
-given_fault (Ok after) old new piece reply read bad refused faults = tt
-given_fault (Err Read) old new piece reply read bad refused faults = absurd (faults.0 refl)
-given_fault (Err Write) old new piece reply read bad refused faults = absurd (faults.1 refl)
-given_fault (Err BadResponse) old new piece reply read bad refused faults = (piece, read, bad refl)
-given_fault (Err (Http status)) old new piece reply read bad refused faults = (piece, read, refused status refl)
-given_fault (Err NoMemory) old new piece reply read bad refused faults = (piece, read, λ front holds. tt)
+given_fault (Ok after) old new piece reply read opened bad refused faults = tt
+given_fault (Err Read) old new piece reply read opened bad refused faults = absurd (faults.0 refl)
+given_fault (Err Write) old new piece reply read opened bad refused faults = absurd (faults.1 refl)
+given_fault (Err BadResponse) old new piece reply read opened bad refused faults = (piece, read, λ front holds. (bad refl front holds, opened front holds))
+given_fault (Err (Http status)) old new piece reply read opened bad refused faults = (piece, read, λ front holds. (refused status refl front holds, opened front holds))
+given_fault (Err NoMemory) old new piece reply read opened bad refused faults = (piece, read, opened)
 
 -- no read failed where the fault is one of the response
 pub given_cause : {T : Type 0} (result : Result T AskFault) (failed failed_after : Bool) → IfErr result IsOfResponse → failed_after ≡ failed
@@ -71,15 +73,34 @@ given_cause (Err NoMemory) failed failed_after faults kept = kept
 
 -- a Watch's bytes tell as many statuses as it asks for, at most
 few_told : (method : Method) (most : ℕ) (bytes told : List ℕ) (end : Option Ended) → method ≡ Watch → 1 ≤ most → IsTold method most bytes told end → length told ≤ most
-few_told Watch most bytes told end is some (ByTrailers next more block ended ends unfinished none trailers same) = grind (arith, nat_tests)
+few_told Watch most bytes told end is some (ByTrailers next more block ended ends fits unfinished none trailers same) = grind (arith, nat_tests)
 few_told Watch most bytes told end is some (ByCount next more statuses message status ends fits unfinished response push enough none) =
     let len : length told ≡ length statuses + 1 = ap length push ∙ length-append statuses (status ∷ []) in grind (arith, nat_tests, len)
 few_told Watch most bytes told end is some (ByEnd more watch reply unfinished none) = grind (arith, nat_tests)
 few_told Check most bytes told end is some says = cc
 
+-- no bytes have no head in them
+no_head : (head body : List ℕ) → [] ≡ head ++ body → ¬ IsHead head
+no_head [] body parts is = elim is.ends [ inl blank ↦ (let never : false ≡ true = blank in cc) | inr long ↦ omega (arith, long) ]
+no_head (byte ∷ head) body parts is = cc
+
+-- so they tell nothing
+nothing_told : (method : Method) (most : ℕ) (told : List ℕ) (end : Option Ended) → ¬ IsTold method most [] told end
+nothing_told method most told end (ByTrailers next more block ended ends fits unfinished none trailers same) =
+    no_head ends.reply.head ends.reply.body ends.reply.parts ends.reply.is_head
+nothing_told method most told end (ByCount next more statuses message status ends fits unfinished response push enough none) =
+    no_head ends.reply.head ends.reply.body ends.reply.parts ends.reply.is_head
+nothing_told method most told end (ByEnd more watch reply unfinished none) = no_head reply.head reply.body reply.parts reply.is_head
+
+-- before the last of the bytes that tell something came, more had to be read
+pub told_earliest : (method : Method) (most : ℕ) (bytes told : List ℕ) (end : Option Ended) → IsWithin method most bytes → IsTold method most bytes told end
+    → WasOpen method most bytes
+told_earliest method most bytes told end (inl none) says = absurd (nothing_told method most told end (subst (λ (all : List ℕ). IsTold method most all told end) none says))
+told_earliest method most bytes told end (inr was) says = was
+
 -- so a Watch that is answered has so many at most
 pub few_answered : (result : Result Answered AskFault) (method : Method) (most : ℕ) (remaining after : Option (List ℕ)) → IsReadFor result method most remaining after
     → 1 ≤ most → method ≡ Watch → IfOk result (λ told. vec_len told.statuses ≤ most)
 few_answered (Ok told) method most remaining after read some is =
-    let few = few_told method most read.0 told.statuses.items told.end is some read.2 in omega (arith, told.statuses.ok.0, few)
+    let few = few_told method most read.0 told.statuses.items told.end is some read.2.0 in omega (arith, told.statuses.ok.0, few)
 few_answered (Err fault) method most remaining after read some is = tt

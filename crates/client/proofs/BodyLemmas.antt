@@ -81,6 +81,7 @@ begun_chunks = record {
     short = omega arith;
   };
   most = refl;
+  room = omega arith;
 }
 
 -- one number is at most another, or above it
@@ -115,9 +116,9 @@ whole_line part byte len size line none at =
 
 -- a line that is whole
 pub line_data : (framing : Framing) (bytes content part : List ℕ) (byte more len size : ℕ) (line : ChunkLine) → IsChunkLineAt (part ++ byte ∷ []) len size line
-    → 0 < size → Stands framing bytes content (Line part) more
+    → 0 < size → size ≤ more → Stands framing bytes content (Line part) more
     → Stands framing (bytes ++ byte ∷ []) (content ++ []) (Data size) more
-line_data Chunked bytes content part byte more len size line at some stands =
+line_data Chunked bytes content part byte more len size line at some room stands =
     let came = AreChunks-more bytes content part (byte ∷ []) stands.comes.chunks in
     let whole = whole_line part byte len size line stands.comes.none at in
     content_stays Chunked _ content _ more (record {
@@ -135,8 +136,9 @@ line_data Chunked bytes content part byte more len size line at some stands =
         some,
       );
       most = stands.most;
+      room = room;
     })
-line_data (Length len) bytes content part byte more to size line at some stands = absurd stands.comes
+line_data (Length len) bytes content part byte more to size line at some room stands = absurd stands.comes
 
 -- the line of the last chunk
 pub line_last : (framing : Framing) (bytes content part : List ℕ) (byte more len size : ℕ) (line : ChunkLine) → IsChunkLineAt (part ++ byte ∷ []) len size line
@@ -154,6 +156,7 @@ line_last Chunked bytes content part byte more len size line at none stands =
         no_more = refl;
       };
       most = stands.most;
+      room = omega arith;
     })
 line_last (Length len) bytes content part byte more to size line at none stands = absurd stands.comes
 
@@ -217,6 +220,7 @@ pub data_more : (framing : Framing) (bytes content piece : List ℕ) (left more 
 data_more Chunked bytes content piece left more fewer room stands = record {
   comes = (chunk_more bytes content piece left (left - length piece) (omega arith) stands.comes.0, omega arith);
   most = omega (arith, length-append content piece, stands.most);
+  room = omega (arith, stands.room);
 }
 data_more (Length len) bytes content piece left more fewer room stands = absurd stands.comes
 
@@ -227,6 +231,7 @@ pub data_end : (framing : Framing) (bytes content piece : List ℕ) (left more :
 data_end Chunked bytes content piece left more all room stands = record {
   comes = record { chunk = chunk_more bytes content piece left 0 (add-zero (length piece) ∙ all) stands.comes.0; short = omega arith };
   most = omega (arith, length-append content piece, stands.most);
+  room = omega (arith, stands.room);
 }
 data_end (Length len) bytes content piece left more all room stands = absurd stands.comes
 
@@ -241,6 +246,7 @@ last_more (Length len) bytes content piece left more some within room stands = r
     size = omega (arith, length-append bytes piece, stands.comes.size);
   };
   most = omega (arith, length-append content piece, stands.most);
+  room = omega (arith, stands.room);
 }
 
 -- one byte behind the data of a chunk
@@ -250,6 +256,7 @@ end_more Chunked bytes content part piece more short stands =
     content_stays Chunked _ content _ more (record {
       comes = record { chunk = chunk_behind bytes content part piece stands.comes.chunk; short = short };
       most = stands.most;
+      room = omega arith;
     })
 end_more (Length len) bytes content part piece more short stands = absurd stands.comes
 
@@ -277,6 +284,7 @@ end_line Chunked bytes content part piece more is stands =
         short = omega arith;
       };
       most = stands.most;
+      room = omega arith;
     })
 end_line (Length len) bytes content part piece more is stands = absurd stands.comes
 

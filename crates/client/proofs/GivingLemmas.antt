@@ -17,7 +17,7 @@ use Rattle.client.specs.declared.response_body.Next.{Next}
 use Rattle.client.specs.declared.response_body.Next.TheVariants.{Line, Data, End, Last}
 use Rattle.client.specs.GrpcFrames.{IsSoundFront}
 use Rattle.client.specs.HttpFraming.{IsFramed}
-use Rattle.client.specs.Reply.{IsReply, IsGoingOn, InBody, IsBad, ByBody, is_enough}
+use Rattle.client.specs.Reply.{IsReply, IsGoingOn, IsBad, ByBody, is_enough}
 use Rattle.client.specs.ResponseBody.{Stands, GoesOn, IsBadBody, content_of, is_content, left_of, wanted_by}
 use Rattle.client.specs.Stages.{IsEnding}
 use Rattle.client.proofs.BodyLemmas.{data_more, last_more}
@@ -57,7 +57,7 @@ begun_from method most head framing next more statuses rest some is_head framed 
     (subst (λ (all : List ℕ). IsGoingOn method most head next more all []) (sym none) (begun_on method most head framing next more some is_head framed stands))
 
 -- a response with a body that goes on
-reply_goes : (bytes piece : List ℕ) (next next_after : Next) (more more_after : ℕ) (statuses rest : List ℕ) → GoesOn next more piece next_after more_after
+pub reply_goes : (bytes piece : List ℕ) (next next_after : Next) (more more_after : ℕ) (statuses rest : List ℕ) → GoesOn next more piece next_after more_after
     → IsReply bytes next more statuses rest → IsReply (bytes ++ piece) next_after more_after statuses (rest ++ content_of next piece)
 reply_goes bytes piece next next_after more more_after statuses rest goes reply = record {
   head = reply.head;
@@ -108,7 +108,7 @@ pub record HasLast (piece : List ℕ) : Type 0 where
   pub is : piece ≡ front ++ byte ∷ []
   pub shorter : length front < length piece
 
-last_of : (piece : List ℕ) → 0 < length piece → HasLast piece
+pub last_of : (piece : List ℕ) → 0 < length piece → HasLast piece
 last_of [] some = absurd (omega arith)
 last_of (byte ∷ []) some = record { front = []; byte = byte; is = refl; shorter = omega arith }
 last_of (first ∷ byte ∷ rest) some =
@@ -149,12 +149,12 @@ content_on method most bytes piece next next_after more more_after statuses rest
     }
 
 -- bytes that no body has
-pub body_bad : (method : Method) (most : ℕ) (bytes piece : List ℕ) (next : Next) (more : ℕ) (statuses rest : List ℕ) → 1 ≤ wanted_by next
+pub body_bad : (method : Method) (most : ℕ) (bytes piece : List ℕ) (next : Next) (more : ℕ) (statuses rest : List ℕ)
     → (going : IsGoingOn method most bytes next more statuses rest) → IsBadBody going.reply.framing (going.reply.body ++ piece) → IsBad method most (bytes ++ piece)
-body_bad method most bytes piece next more statuses rest comes going wrong =
+body_bad method most bytes piece next more statuses rest going wrong =
     let reply = going.reply in
-    ByBody reply.head (reply.body ++ piece) bytes piece reply.framing (ap (λ (all : List ℕ). all ++ piece) reply.parts ∙ append_assoc reply.head reply.body piece)
-    reply.is_head reply.framed wrong refl (InBody next more statuses rest going comes)
+    ByBody reply.head (reply.body ++ piece) reply.framing (ap (λ (all : List ℕ). all ++ piece) reply.parts ∙ append_assoc reply.head reply.body piece)
+    reply.is_head reply.framed wrong
 
 -- a longer front of a head
 front_blank : (part : List ℕ) (byte k : ℕ) → IsOpenHead part → k < length (part ++ byte ∷ []) → ends_blank (take k (part ++ byte ∷ [])) ≡ false

@@ -15,7 +15,7 @@ use Rattle.client.specs.GrpcFrames.{HasStatus, Tells, missing_in}
 use Rattle.client.proofs.BodyLemmas.{at_most, front_of}
 
 -- the length that stands in a frame
-len_is : (flag a b c d : ℕ) (part content rest : List ℕ) (mark : ℕ) → BeginsWithFrame (flag ∷ a ∷ b ∷ c ∷ d ∷ part) mark content rest
+pub len_is : (flag a b c d : ℕ) (part content rest : List ℕ) (mark : ℕ) → BeginsWithFrame (flag ∷ a ∷ b ∷ c ∷ d ∷ part) mark content rest
     → from_be_bytes w32 (a ∷ b ∷ c ∷ d ∷ []) ≡ length content
 len_is flag a b c d part content rest mark front =
     let fits : length content < 2 ^ 32 = omega (arith, front.fits) in
@@ -23,7 +23,7 @@ len_is flag a b c d part content rest mark front =
     ap (from_be_bytes w32) four ∙ from_be_bytes-to_be_bytes_4 (length content) fits
 
 -- a frame has five bytes before its content
-length-frame : (flag : ℕ) (content : List ℕ) → length (frame flag content) ≡ 5 + length content
+pub length-frame : (flag : ℕ) (content : List ℕ) → length (frame flag content) ≡ 5 + length content
 length-frame flag content = omega arith
 
 -- five bytes at most that are a frame have nothing behind it

@@ -32,7 +32,7 @@ at_last (Last left) some none = let zero : left ≡ 0 = omega arith in ap Last z
 pub cut_bad : (method : Method) (most : ℕ) (bytes : List ℕ) (next : Next) (more : ℕ) (statuses rest : List ℕ) → 1 ≤ spare_in next → wanted_by next ≤ 0
     → 0 < length rest → IsGoingOn method most bytes next more statuses rest → IsBad method most bytes
 cut_bad method most bytes next more statuses rest some none front going =
-    ByContent next more statuses rest going.reply going.unfinished (CutFrame (at_last next some none) front)
+    ByContent next more statuses rest going.reply going.unfinished (CutFrame (at_last next some none) front going.none)
 
 -- a Check without trailers
 pub check_bad : (method : Method) (most : ℕ) (bytes : List ℕ) (next : Next) (more : ℕ) (statuses rest : List ℕ) → 1 ≤ spare_in next → wanted_by next ≤ 0
@@ -63,9 +63,9 @@ sound_start more = record {
 
 -- a message that is none
 pub message_bad : (method : Method) (most : ℕ) (bytes : List ℕ) (next : Next) (more : ℕ) (statuses message : List ℕ) (fault : WireFault) → IsFault message fault
-    → IsEnding method most bytes next more statuses (frame 0 message) → IsBad method most bytes
-message_bad method most bytes next more statuses message fault is ending =
-    ByContent next more statuses (frame 0 message) ending.ends.reply ending.unfinished (BadMessage message fault refl is)
+    → length message ≤ max_content_len → IsEnding method most bytes next more statuses (frame 0 message) → IsBad method most bytes
+message_bad method most bytes next more statuses message fault is fits ending =
+    ByContent next more statuses (frame 0 message) ending.ends.reply ending.unfinished (BadMessage message fault refl fits is)
 
 -- one status more
 reply_push : (bytes : List ℕ) (next : Next) (more : ℕ) (statuses message : List ℕ) (status : ℕ) → length message ≤ max_content_len → IsResponse message status
@@ -102,22 +102,22 @@ message_on method most bytes next more statuses message told status fits has is 
 
 -- trailers with bytes behind them in their chunk
 pub behind_bad : (method : Method) (most : ℕ) (bytes : List ℕ) (next : Next) (more : ℕ) (statuses block : List ℕ) → 0 < left_of next
-    → IsEnding method most bytes next more statuses (frame 128 block) → IsBad method most bytes
-behind_bad method most bytes next more statuses block left ending =
-    ByContent next more statuses (frame 128 block) ending.ends.reply ending.unfinished (Behind block refl left)
+    → length block ≤ max_content_len → IsEnding method most bytes next more statuses (frame 128 block) → IsBad method most bytes
+behind_bad method most bytes next more statuses block left fits ending =
+    ByContent next more statuses (frame 128 block) ending.ends.reply ending.unfinished (Behind block refl fits left)
 
 -- trailers that are none
 pub trailers_bad : (method : Method) (most : ℕ) (bytes : List ℕ) (next : Next) (more : ℕ) (statuses block : List ℕ) (fault : TrailerFault)
-    → trailers_in (lines block) ≡ Err fault → IsEnding method most bytes next more statuses (frame 128 block) → IsBad method most bytes
-trailers_bad method most bytes next more statuses block fault is ending =
-    ByContent next more statuses (frame 128 block) ending.ends.reply ending.unfinished (BadTrailers block fault refl is)
+    → trailers_in (lines block) ≡ Err fault → length block ≤ max_content_len → IsEnding method most bytes next more statuses (frame 128 block) → IsBad method most bytes
+trailers_bad method most bytes next more statuses block fault is fits ending =
+    ByContent next more statuses (frame 128 block) ending.ends.reply ending.unfinished (BadTrailers block fault refl fits is)
 
 -- the end of the call
 pub trailers_told : (method : Method) (most : ℕ) (bytes : List ℕ) (next : Next) (more : ℕ) (statuses block : List ℕ) (ended : Ended) → left_of next ≡ 0
-    → trailers_in (lines block) ≡ Ok (ended.code, ended.text.items) → IsEnding method most bytes next more statuses (frame 128 block)
+    → trailers_in (lines block) ≡ Ok (ended.code, ended.text.items) → length block ≤ max_content_len → IsEnding method most bytes next more statuses (frame 128 block)
     → IsTold method most bytes statuses (Some ended)
-trailers_told method most bytes next more statuses block ended none is ending =
-    ByTrailers next more block ended ending.ends ending.unfinished none is refl
+trailers_told method most bytes next more statuses block ended none is fits ending =
+    ByTrailers next more block ended ending.ends fits ending.unfinished none is refl
 
 -- content that no frame begins with
 pub front_bad : (method : Method) (most : ℕ) (bytes : List ℕ) (next : Next) (more : ℕ) (statuses rest : List ℕ) → ¬ IsSoundFront more rest

@@ -52,6 +52,13 @@ pub data IsOpen (method : Method) (most : ℕ) (bytes : List ℕ) : Type 0 where
   InBody : (next : Next) (more : ℕ) (statuses rest : List ℕ) → IsGoingOn method most bytes next more statuses rest → 0 < wanted_by next
       → IsOpen method most bytes
 
+-- before the last of these bytes came, more bytes had to be read
+pub record WasOpen (method : Method) (most : ℕ) (bytes : List ℕ) : Type 0 where
+  pub front : List ℕ
+  pub byte : ℕ
+  pub bytes_are : bytes ≡ front ++ byte ∷ []
+  pub was_open : IsOpen method most front
+
 -- the last byte that came is the last one of this rest of the content
 pub record EndsWith (bytes : List ℕ) (next : Next) (more : ℕ) (statuses rest : List ℕ) : Type 0 where
   pub reply : IsReply bytes next more statuses rest
@@ -68,7 +75,7 @@ pub record EndsWith (bytes : List ℕ) (next : Next) (more : ℕ) (statuses rest
 pub data IsTold (method : Method) (most : ℕ) (bytes told : List ℕ) (end : Option Ended) : Type 0 where
   -- by trailers, which are the last of their chunk, or of the body by its length
   ByTrailers : (next : Next) (more : ℕ) (block : List ℕ) (ended : Ended) → EndsWith bytes next more told (frame 128 block)
-      → is_enough method most (length told) ≡ false → left_of next ≡ 0
+      → length block ≤ max_content_len → is_enough method most (length told) ≡ false → left_of next ≡ 0
       → trailers_in (lines block) ≡ Ok (ended.code, ended.text.items) → end ≡ Some ended → IsTold method most bytes told end
   -- by the last status that was asked for
   ByCount : (next : Next) (more : ℕ) (statuses message : List ℕ) (status : ℕ) → EndsWith bytes next more statuses (frame 0 message)
@@ -83,19 +90,19 @@ pub data IsBadRest (method : Method) (next : Next) (more : ℕ) (rest : List ℕ
   -- no frame of a response begins so, or none that can become whole
   NotSound : ¬ IsSoundFront more rest → IsBadRest method next more rest
   -- a message that is none
-  BadMessage : (message : List ℕ) (fault : WireFault) → rest ≡ frame 0 message → IsFault message fault → IsBadRest method next more rest
+  BadMessage : (message : List ℕ) (fault : WireFault) → rest ≡ frame 0 message → length message ≤ max_content_len → IsFault message fault → IsBadRest method next more rest
   -- trailers that are none, or that are not the last of their chunk or of the body by its length
-  BadTrailers : (block : List ℕ) (fault : TrailerFault) → rest ≡ frame 128 block → trailers_in (lines block) ≡ Err fault → IsBadRest method next more rest
-  Behind : (block : List ℕ) → rest ≡ frame 128 block → 0 < left_of next → IsBadRest method next more rest
-  -- the body ends within a frame, or without trailers, which a Check has to have
-  CutFrame : next ≡ Last 0 → 0 < length rest → IsBadRest method next more rest
+  BadTrailers : (block : List ℕ) (fault : TrailerFault) → rest ≡ frame 128 block → length block ≤ max_content_len → trailers_in (lines block) ≡ Err fault → IsBadRest method next more rest
+  Behind : (block : List ℕ) → rest ≡ frame 128 block → length block ≤ max_content_len → 0 < left_of next → IsBadRest method next more rest
+  -- the body ends within a frame that is not whole, or without trailers, which a Check has to have
+  CutFrame : next ≡ Last 0 → 0 < length rest → BeginsWithNoFrame rest → IsBadRest method next more rest
   NoTrailers : method ≡ Check → next ≡ Last 0 → rest ≡ [] → IsBadRest method next more rest
 
--- the bytes are no front of a response to the call: by the head, by the chunks behind bytes from which more had to be known, or by the content
+-- the bytes are no front of a response to the call: by the head, by the chunks, or by the content
 pub data IsBad (method : Method) (most : ℕ) (bytes : List ℕ) : Type 0 where
   ByHead : IsHead bytes → IsFramed bytes (Err BadResponse) → IsBad method most bytes
-  ByBody : (head body front piece : List ℕ) (framing : Framing) → bytes ≡ head ++ body → IsHead head → IsFramed head (Ok framing) → IsBadBody framing body
-      → bytes ≡ front ++ piece → IsOpen method most front → IsBad method most bytes
+  ByBody : (head body : List ℕ) (framing : Framing) → bytes ≡ head ++ body → IsHead head → IsFramed head (Ok framing) → IsBadBody framing body
+      → IsBad method most bytes
   ByContent : (next : Next) (more : ℕ) (statuses rest : List ℕ) → IsReply bytes next more statuses rest → is_enough method most (length statuses) ≡ false
       → IsBadRest method next more rest → IsBad method most bytes
 

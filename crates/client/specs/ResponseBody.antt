@@ -64,10 +64,18 @@ Comes (Length len) bytes content (Data left) = ⊥
 Comes (Length len) bytes content (End part) = ⊥
 Comes (Length len) bytes content (Last left) = IsWithinLength len bytes content left
 
--- the same, and so many bytes of content may still come at most
+-- how many bytes of the chunk, or of the body by its length, are still to come
+abbrev pub left_of : Next → ℕ
+left_of (Line part) = 0
+left_of (Data left) = left
+left_of (End part) = 0
+left_of (Last left) = left
+
+-- the same, and so many bytes of content may still come at most, among them those of the chunk that has begun
 pub record Stands (framing : Framing) (bytes content : List ℕ) (next : Next) (more : ℕ) : Type 0 where
   pub comes : Comes framing bytes content next
   pub most : length content + more ≡ most_content framing
+  pub room : left_of next ≤ more
 
 -- a chunk's bytes that nothing can make right: by a line that is none, whatever follows; by a line that has no end within the limit; by
 -- a chunk that makes the content longer than the limit; by two other bytes than CR LF behind the data
@@ -96,13 +104,6 @@ content_of (Line part) piece = []
 content_of (Data left) piece = piece
 content_of (End part) piece = []
 content_of (Last left) piece = piece
-
--- how many bytes of the chunk, or of the body by its length, are still to come
-abbrev pub left_of : Next → ℕ
-left_of (Line part) = 0
-left_of (Data left) = left
-left_of (End part) = 0
-left_of (Last left) = left
 
 -- how many bytes are taken at once, at most
 abbrev pub wanted_by : Next → ℕ

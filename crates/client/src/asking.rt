@@ -2,6 +2,7 @@ ghost use Rattle.std.specs.Prelude.{◌≡◌, ◌≢◌, ◌≤◌, ◌<◌, �
 ghost use Rattle.std.specs.Io.KnownBytes.{Consumes};
 ghost use Rattle.client.specs.Ask.{HasReadCause, HasWriteCause, IsFaultAt, IsReadFor, IsSentFor};
 ghost use Rattle.client.specs.Lent.{lent_inner, lent_failed};
+ghost use Rattle.client.specs.Reply.{WasOpen};
 ghost use Rattle.client.specs.Request.{WritesRequest};
 ghost use Rattle.client.specs.Stages.{Holds, method_of, most_of, owed_of, wanted_of};
 
@@ -124,7 +125,8 @@ fn read_more<R: Read>(
     ensures reference { reader.new.inner.ghost_name ≡ reader.old.inner.ghost_name }
     ensures ok { IfOk result (λ after. (bytes : List ℕ)
         × Consumes (R.remaining (lent_inner reader.old)) (R.remaining (lent_inner reader.new)) bytes
-        × ((front : List ℕ) → Holds front reply → Holds (front ++ bytes) after)) }
+        × ((front : List ℕ) → Holds front reply → Holds (front ++ bytes) after
+        × WasOpen (method_of reply) (most_of reply) (front ++ bytes))) }
     ensures err { IfErr result (λ fault. (bytes : List ℕ)
         × Consumes (R.remaining (lent_inner reader.old)) (R.remaining (lent_inner reader.new)) bytes
         × ((front : List ℕ) → Holds front reply

@@ -105,11 +105,12 @@ fn with_trailers(
     statuses: Vec<u64>,
     block: &[u8],
 ) -> Result<Stage, AskFault>
-    ensures ok { IfOk result (λ stage. (bytes head : List ℕ)
+    ensures ok { IfOk result (λ stage. (bytes head : List ℕ) → length block.now ≤ max_content_len
         → IsEnding call.method call.most bytes body.now.next body.now.more statuses.items
         (frame 128 block.now)
         → StandsAt call.method call.most bytes head stage) }
     ensures bad { IsErrOf result AskFault.BadResponse → (bytes : List ℕ)
+        → length block.now ≤ max_content_len
         → IsEnding call.method call.most bytes body.now.next body.now.more statuses.items
         (frame 128 block.now)
         → IsBad call.method call.most bytes }

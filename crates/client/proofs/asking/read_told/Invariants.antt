@@ -1,5 +1,6 @@
 use Rattle.std.proofs.Common.{◌≡◌, List, ℕ}
 use Rattle.std.specs.Io.KnownBytes.{Consumes}
+use Rattle.client.specs.Ask.{IsWithin}
 use Rattle.client.specs.Lent.{lent_inner, lent_failed}
 use Rattle.client.specs.Stages.{Holds, method_of, most_of, owed_of}
 use Rattle.client.proofs.asking.read_told.Given as goal
@@ -7,7 +8,8 @@ use Rattle.client.proofs.asking.read_told.Given as goal
 abbrev pub invariant-loop-piece : goal.invariant-loop-piece
 invariant-loop-piece g l = record {
   received : (bytes : List ℕ)
-      × Consumes (g.R.Read.remaining (lent_inner l.initial.reader)) (g.R.Read.remaining (lent_inner l.reader)) bytes × Holds bytes l.reply;
+      × Consumes (g.R.Read.remaining (lent_inner l.initial.reader)) (g.R.Read.remaining (lent_inner l.reader)) bytes × Holds bytes l.reply
+      × IsWithin l.fn.method l.fn.most bytes;
   method : method_of l.reply ≡ l.fn.method;
   most : most_of l.reply ≡ l.fn.most;
   same : l.reader.inner.ghost_name ≡ l.initial.reader.inner.ghost_name;

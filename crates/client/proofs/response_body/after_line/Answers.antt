@@ -20,7 +20,7 @@ pub returns-else-size-eq0-clause-goes : goal.returns-else-size-eq0-clause-goes
 returns-else-size-eq0-clause-goes c = λ framing bytes content stands.
     let found = rw c.in-Ok-Complete.field-0-is at c.in-Ok-Complete.ensures.complete in
     let at = subst (λ (all : List ℕ). IsChunkLineAt all c.in-Ok-Complete.field-0-0-0 c.in-Ok-Complete.size found.0) (c.bytes.ensures ∙ c.push.ensures) found.1 in
-    line_data framing bytes content c.args.line c.args.byte c.args.more _ c.in-Ok-Complete.size found.0 at (omega arith) stands
+    line_data framing bytes content c.args.line c.args.byte c.args.more _ c.in-Ok-Complete.size found.0 at (omega arith) (omega arith) stands
 
 pub returns-then-len-eq-MAX_LINE_LEN-clause-bad : goal.returns-then-len-eq-MAX_LINE_LEN-clause-bad
 returns-then-len-eq-MAX_LINE_LEN-clause-bad c = λ framing bytes content stands.

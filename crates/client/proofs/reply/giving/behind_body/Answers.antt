@@ -8,7 +8,7 @@ use Rattle.client.proofs.reply.giving.behind_body.Goals as goal
 pub returns-in-Err-clause-bad : goal.returns-in-Err-clause-bad
 returns-in-Err-clause-bad c = λ is bytes going.
     let body = c.args.reading.body in
-    body_bad c.args.call.method c.args.call.most bytes c.args.piece.now body.next body.more c.args.reading.heard.statuses.items c.args.reading.heard.splitter c.args.reading.comes going
+    body_bad c.args.call.method c.args.call.most bytes c.args.piece.now body.next body.more c.args.reading.heard.statuses.items c.args.reading.heard.splitter going
     (c.in-Err.ensures.bad going.reply.framing going.reply.body going.reply.content going.reply.stands)
 
 pub returns-then-is_content-clause-ok : goal.returns-then-is_content-clause-ok

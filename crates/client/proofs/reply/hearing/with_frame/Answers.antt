@@ -15,5 +15,5 @@ pub returns-else-taken-eq-MESSAGE-clause-bad : goal.returns-else-taken-eq-MESSAG
 returns-else-taken-eq-MESSAGE-clause-bad c = λ is bytes empty fits ending.
     let Ends : ℕ → List ℕ → Type 0 = λ flag content. IsEnding c.args.call.method c.args.call.most bytes c.args.body.next c.args.body.more c.args.heard.statuses.items (frame flag content) in
     let same = sym c.deref-else-taken-eq-MESSAGE.ensures.value in
-    c.with_trailers.ensures.bad is bytes
+    c.with_trailers.ensures.bad is bytes (subst (λ (all : List ℕ). length all ≤ max_content_len) same fits)
     (subst (Ends 128) same (subst (λ (flag : ℕ). Ends flag c.args.taken.now.body.items) (c.requires c.if-taken-eq-MESSAGE.false) ending))

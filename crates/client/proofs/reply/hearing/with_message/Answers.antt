@@ -8,7 +8,7 @@ use Rattle.client.proofs.reply.hearing.with_message.Goals as goal
 pub returns-in-Err-clause-bad : goal.returns-in-Err-clause-bad
 returns-in-Err-clause-bad c = λ is bytes empty fits ending.
     message_bad c.args.call.method c.args.call.most bytes c.args.body.next c.args.body.more c.args.heard.statuses.items c.args.message.now
-    c.in-Err.field-0 c.in-Err.ensures.err ending
+    c.in-Err.field-0 c.in-Err.ensures.err fits ending
 
 pub returns-then-is_enough-clause-ok : goal.returns-then-is_enough-clause-ok
 returns-then-is_enough-clause-ok c = λ bytes head empty fits ending.
