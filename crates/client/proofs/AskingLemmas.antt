@@ -3,21 +3,21 @@ use Rattle.std.proofs.Common.{ℕ, ◌≡◌, ◌+◌, ◌<◌, ◌≤◌, Bool,
 use Rattle.std.proofs.KnownBytes.{Consumes-nil, Consumes-kept}
 use Rattle.std.proofs.lemmas.List.{append-nil}
 use Rattle.std.proofs.lemmas.Bool.Decides.{nat_tests}
-use Rattle.std.specs.Prelude.{IfOk, IfErr, Result, Ok, Err, vec_len}
+use Rattle.std.specs.Prelude.{IfOk, IfErr, IsSome, Result, Ok, Err}
 use Rattle.std.specs.Io.KnownBytes.{Consumes, Keeps}
 use Rattle.client.specs.declared.ask_fault.AskFault.{AskFault}
 use Rattle.client.specs.declared.ask_fault.AskFault.TheVariants.{Read, Write, BadResponse, Http, NoMemory}
 use Rattle.client.specs.declared.reply.Reply.{Reply}
 use Rattle.client.specs.declared.told.Ended.{Ended}
 use Rattle.client.specs.declared.told.Told.{Told as Answered}
-use Rattle.client.specs.Ask.{HasReadCause, IsFaultAt, IsReadFor, IsWithin, Says}
+use Rattle.client.specs.Ask.{HasReadCause, IsAnswerTo, IsFaultAt, IsReadFor, IsWithin, Says}
 use Rattle.web_call.specs.declared.method.Method.{Method}
 use Rattle.web_call.specs.declared.method.Method.TheVariants.{Check, Watch}
 use Rattle.client.specs.declared.reply.Stage.{Stage}
 use Rattle.client.specs.declared.reply.Stage.TheVariants.{Head, Body, Told}
 use Rattle.client.specs.Reply.{IsBad, IsOfResponse, IsOpen, IsRefused, IsTold, WasOpen, InHead, InBody, ByTrailers, ByCount, ByEnd}
 use Rattle.client.specs.Stages.{Holds, StandsAt, method_of, most_of, wanted_at}
-use Rattle.web_call.specs.InputHead.{IsHead, ends_blank}
+use Rattle.web_call.specs.InputHead.{IsHead}
 
 -- a response that wants bytes is open
 pub open_at : (method : Method) (most : ℕ) (bytes head : List ℕ) (stage : Stage) → 0 < wanted_at stage → StandsAt method most bytes head stage
@@ -98,9 +98,18 @@ pub told_earliest : (method : Method) (most : ℕ) (bytes told : List ℕ) (end 
 told_earliest method most bytes told end (inl none) says = absurd (nothing_told method most told end (subst (λ (all : List ℕ). IsTold method most all told end) none says))
 told_earliest method most bytes told end (inr was) says = was
 
--- so a Watch that is answered has so many at most
-pub few_answered : (result : Result Answered AskFault) (method : Method) (most : ℕ) (remaining after : Option (List ℕ)) → IsReadFor result method most remaining after
-    → 1 ≤ most → method ≡ Watch → IfOk result (λ told. vec_len told.statuses ≤ most)
-few_answered (Ok told) method most remaining after read some is =
-    let few = few_told method most read.0 told.statuses.items told.end is some read.2.0 in omega (arith, told.statuses.ok.0, few)
-few_answered (Err fault) method most remaining after read some is = tt
+-- a Check's bytes tell an end
+end_told : (method : Method) (most : ℕ) (bytes told : List ℕ) (end : Option Ended) → method ≡ Check → IsTold method most bytes told end → IsSome end
+end_told Check most bytes told end is (ByTrailers next more block ended ends fits unfinished none trailers same) = subst IsSome (sym same) refl
+end_told Check most bytes told end is (ByCount next more statuses message status ends fits unfinished response push enough none) = cc
+end_told Check most bytes told end is (ByEnd more watch reply unfinished none) = cc
+end_told Watch most bytes told end is says = cc
+
+-- so what a call tells is an answer to it
+pub is_answer : (result : Result Answered AskFault) (method : Method) (most : ℕ) (remaining after : Option (List ℕ)) → IsReadFor result method most remaining after
+    → 1 ≤ most → IfOk result (IsAnswerTo method most)
+is_answer (Ok told) method most remaining after read some = record {
+  check = λ is. end_told method most read.0 told.statuses.items told.end is read.2.0;
+  watch = λ is. let few = few_told method most read.0 told.statuses.items told.end is some read.2.0 in omega (arith, told.statuses.ok.0, few);
+}
+is_answer (Err fault) method most remaining after read some = tt

@@ -82,7 +82,7 @@ Tells-more content statuses rest piece tells = record {
 }
 
 -- one item more in both lists
-zip_push : (frames : List (ℕ × List ℕ)) (statuses : List ℕ) (one : ℕ × List ℕ) (status : ℕ) → AllZip HasStatus frames statuses → HasStatus one status
+pub zip_push : (frames : List (ℕ × List ℕ)) (statuses : List ℕ) (one : ℕ × List ℕ) (status : ℕ) → AllZip HasStatus frames statuses → HasStatus one status
     → AllZip HasStatus (frames ++ one ∷ []) (statuses ++ status ∷ [])
 zip_push [] [] one status each last = (last, tt)
 zip_push [] (other ∷ others) one status each last = absurd each

@@ -2,6 +2,10 @@ pub mod AskingLemmas
 pub mod BodyLemmas
 pub mod GivingLemmas
 pub mod GrpcFrameLemmas
+pub mod OneAnswerLemmas
+pub mod OneBodyLemmas
+pub mod OneContentLemmas
+pub mod OneHeadLemmas
 pub mod OpenLemmas
 pub mod ReplyLemmas
 pub mod TransferLemmas

@@ -1,10 +1,9 @@
 -- Before the last byte of a piece came, more of the response had to be read.
-use Rattle.std.proofs.Common.{ℕ, ◌≡◌, ◌+◌, ◌-◌, ◌<◌, ◌≤◌, List, [], ◌∷◌, ◌++◌, length, take, drop, refl, sym, ap, ◌∙◌, subst, arith, append_assoc, length-append, inl, inr}
+use Rattle.std.proofs.Common.{ℕ, ◌≡◌, ◌+◌, ◌-◌, ◌<◌, ◌≤◌, List, [], ◌∷◌, ◌++◌, length, take, drop, sym, ap, ◌∙◌, subst, arith, append_assoc, length-append, inl, inr}
 use Rattle.std.proofs.lemmas.List.{append-nil, nil_from_length}
 use Rattle.std.specs.Int.{w32, to_be_bytes, from_be_bytes}
 use Rattle.grpc_frame.specs.Frame.{frame}
 use Rattle.grpc_frame.specs.Split.{BeginsTooLong, BeginsWithFrame, BeginsWithNoFrame}
-use Rattle.web_call.specs.InputHead.{IsOpenHead}
 use Rattle.web_call.specs.declared.method.Method.{Method}
 use Rattle.client.specs.declared.reply.Reply.{Reply}
 use Rattle.client.specs.declared.reply.Stage.{Stage}

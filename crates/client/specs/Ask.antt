@@ -1,7 +1,8 @@
 -- What a client has written and read at the end of its call, by its answer.
-use Rattle.std.specs.Prelude.{ℕ, ◌≡◌, ◌⊎◌, Bool, true, Option, Result, Ok, Err, List, [], ◌++◌}
+use Rattle.std.specs.Prelude.{ℕ, ◌≡◌, ◌≤◌, ◌⊎◌, IsSome, vec_len, Bool, true, Option, Result, Ok, Err, List, [], ◌++◌}
 use Rattle.std.specs.Io.KnownBytes.{Consumes, Keeps}
 use Rattle.web_call.specs.declared.method.Method.{Method}
+use Rattle.web_call.specs.declared.method.Method.TheVariants.{Check, Watch}
 use Rattle.client.specs.declared.ask_fault.AskFault.{AskFault}
 use Rattle.client.specs.declared.ask_fault.AskFault.TheVariants.{Read, Write, BadResponse, Http, NoMemory}
 use Rattle.client.specs.declared.told.Told.{Told}
@@ -16,6 +17,11 @@ IsSentFor (Err Write) method name contents after = WritesRequestFront method nam
 IsSentFor (Err BadResponse) method name contents after = WritesRequest method name contents after
 IsSentFor (Err (Http status)) method name contents after = WritesRequest method name contents after
 IsSentFor (Err NoMemory) method name contents after = Keeps contents after ⊎ WritesRequest method name contents after
+
+-- a Check is told its end, and a Watch so many statuses at most
+pub record IsAnswerTo (method : Method) (most : ℕ) (told : Told) : Type 0 where
+  pub check : method ≡ Check → IsSome told.end
+  pub watch : method ≡ Watch → vec_len told.statuses ≤ most
 
 -- no byte came but those that had to be read: none at all, or more bytes had to be read before the last one came
 abbrev pub IsWithin : Method → ℕ → List ℕ → Type 0

@@ -3,6 +3,7 @@ pub mod Chunks
 pub mod GrpcFrames
 pub mod HttpFraming
 pub mod Lent
+pub mod Meaning
 pub mod Reply
 pub mod Request
 pub mod ResponseBody

@@ -1,7 +1,7 @@
-ghost use Rattle.std.specs.Prelude.{◌≡◌, ◌≢◌, ◌≤◌, ◌<◌, ◌⊎◌, ◌++◌, List, length, vec_len, IfOk, IfErr, IsErrOf, IsSome, ℕ};
+ghost use Rattle.std.specs.Prelude.{◌≡◌, ◌≢◌, ◌≤◌, ◌<◌, ◌⊎◌, ◌++◌, List, length, IfOk, IfErr, IsErrOf, ℕ};
 ghost use Rattle.std.specs.Io.KnownBytes.{Consumes};
-ghost use Rattle.client.specs.Ask.{HasReadCause, HasWriteCause, IsFaultAt, IsReadFor, IsSentFor};
-ghost use Rattle.client.specs.Lent.{lent_inner, lent_failed};
+ghost use Rattle.client.specs.Ask.{HasReadCause, HasWriteCause, IsAnswerTo, IsFaultAt, IsReadFor, IsSentFor};
+ghost use Rattle.client.specs.Lent.{lent_inner, lent_failed, lent_name};
 ghost use Rattle.client.specs.Reply.{WasOpen};
 ghost use Rattle.client.specs.Request.{WritesRequest};
 ghost use Rattle.client.specs.Stages.{Holds, method_of, most_of, owed_of, wanted_of};
@@ -40,8 +40,7 @@ pub fn ask<R: Read, W: Write>(
     ensures no_memory { IsErrOf result AskFault.NoMemory
         → ((writer.new ≡ writer.old) × (reader.new ≡ reader.old))
         ⊎ WritesRequest method name.now (W.contents writer.old) (W.contents writer.new) }
-    ensures check { method ≡ Method.Check → IfOk result (λ told. IsSome told.end) }
-    ensures watch { method ≡ Method.Watch → IfOk result (λ told. vec_len told.statuses ≤ most) }
+    ensures answer { IfOk result (IsAnswerTo method most) }
 {
     let mut reader = Lent::new(reader);
     let mut writer = Lent::new(writer);
@@ -60,8 +59,8 @@ pub fn ask_through<R: Read, W: Write>(
 ) -> Result<Told, AskFault>
     requires name { length name.now ≤ 1048576 }
     requires most { 1 ≤ most }
-    ensures reference { (reader.new.inner.ghost_name ≡ reader.old.inner.ghost_name)
-        × (writer.new.inner.ghost_name ≡ writer.old.inner.ghost_name) }
+    ensures loans { (lent_name reader.new ≡ lent_name reader.old)
+        × (lent_name writer.new ≡ lent_name writer.old) }
     ensures request { IsSentFor result method name.now
         (W.contents (lent_inner writer.old)) (W.contents (lent_inner writer.new)) }
     ensures response { IsReadFor result method most
@@ -74,8 +73,7 @@ pub fn ask_through<R: Read, W: Write>(
         (W.contents (lent_inner writer.old)) (W.contents (lent_inner writer.new)) }
     ensures read { HasReadCause result (lent_failed reader.old) (lent_failed reader.new) }
     ensures write { HasWriteCause result (lent_failed writer.old) (lent_failed writer.new) }
-    ensures check { method ≡ Method.Check → IfOk result (λ told. IsSome told.end) }
-    ensures watch { method ≡ Method.Watch → IfOk result (λ told. vec_len told.statuses ≤ most) }
+    ensures answer { IfOk result (IsAnswerTo method most) }
 {
     let Ok(request) = request_text(alloc, method, name) else {
         return Err(AskFault::NoMemory);
@@ -94,7 +92,7 @@ fn read_told<R: Read>(
     most: u32,
 ) -> Result<Told, AskFault>
     requires most { 1 ≤ most }
-    ensures reference { reader.new.inner.ghost_name ≡ reader.old.inner.ghost_name }
+    ensures reference { lent_name reader.new ≡ lent_name reader.old }
     ensures response { IsReadFor result method most
         (R.remaining (lent_inner reader.old)) (R.remaining (lent_inner reader.new)) }
     ensures read { HasReadCause result (lent_failed reader.old) (lent_failed reader.new) }
@@ -122,7 +120,7 @@ fn read_more<R: Read>(
 ) -> Result<Reply, AskFault>
     requires some { 0 < length piece.old }
     requires within { length piece.old ≤ wanted_of reply }
-    ensures reference { reader.new.inner.ghost_name ≡ reader.old.inner.ghost_name }
+    ensures reference { lent_name reader.new ≡ lent_name reader.old }
     ensures ok { IfOk result (λ after. (bytes : List ℕ)
         × Consumes (R.remaining (lent_inner reader.old)) (R.remaining (lent_inner reader.new)) bytes
         × ((front : List ℕ) → Holds front reply → Holds (front ++ bytes) after

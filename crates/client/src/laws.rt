@@ -5,8 +5,10 @@ ghost use Rattle.grpc_frame.specs.Code.{code_number};
 ghost use Rattle.grpc_frame.specs.Lines.{lines, trim};
 ghost use Rattle.grpc_frame.specs.Trailers.{IsStatusText, block, trailers_in, written_text};
 ghost use Rattle.grpc_frame.specs.declared.code.Code.{Code};
+ghost use Rattle.web_call.specs.declared.method.Method.{Method};
 ghost use Rattle.client.specs.declared.told.Ended.{Ended};
 ghost use Rattle.client.specs.GrpcFrames.{HasStatus, Tells};
+ghost use Rattle.client.specs.Meaning.{Meaning, Means};
 
 use grpc_frame::{any_cutting, trailers_read_back, written_frames};
 
@@ -35,3 +37,9 @@ pub fn written_trailers_tell()
 {
     trailers_read_back();
 }
+
+/// Bytes have one meaning to a call at most: they tell statuses and an end, or are open, bad or refused, and never two of these.
+pub fn one_answer()
+    ensures { (method : Method) (most : ℕ) (bytes : List ℕ) (a b : Meaning)
+        → Means method most bytes a → Means method most bytes b → a ≡ b }
+{}

@@ -1,7 +1,7 @@
 ghost use Rattle.std.specs.Prelude.{◌≡◌, ◌<◌, ◌||◌, false, is_err, length};
 ghost use Rattle.std.specs.Io.{ReadsAtMost, WritesAtMost};
 ghost use Rattle.std.specs.Io.KnownBytes.{Keeps, ReadConsumes, WriteAppends};
-ghost use Rattle.client.specs.Lent.{lent_inner, lent_failed, is_stopped};
+ghost use Rattle.client.specs.Lent.{lent_inner, lent_failed, lent_name, is_stopped};
 
 use std::io;
 use std::io::{Read, Write};
@@ -16,7 +16,7 @@ pub struct Lent<'a, T> {
 impl<'a, T> Lent<'a, T> {
     /// A reader or a writer through which nothing has failed yet.
     pub fn new(inner: &'a mut T) -> Lent<'a, T>
-        ensures reference { result.inner.ghost_name ≡ inner.entry.ghost_name }
+        ensures reference { lent_name result ≡ inner.entry.ghost_name }
         ensures inner { lent_inner result ≡ inner.old }
         ensures failed { lent_failed result ≡ false }
     {
@@ -38,7 +38,7 @@ impl<R: Read> Lent<'_, R> {
     /// Reads at least one byte, or fails. The buffer has room.
     pub(crate) fn read(&mut self, buf: &mut [u8]) -> io::Result<usize>
         requires { 0 < length buf.old }
-        ensures reference { self.new.inner.ghost_name ≡ self.old.inner.ghost_name }
+        ensures reference { lent_name self.new ≡ lent_name self.old }
         ensures bound { ReadsAtMost result buf.new }
         ensures bytes { ReadConsumes (R.remaining (lent_inner self.old))
             (R.remaining (lent_inner self.new)) result buf.new }
@@ -54,7 +54,7 @@ impl<W: Write> Lent<'_, W> {
     /// Writes at least one byte, or fails. There is one to write.
     pub(crate) fn write(&mut self, buf: &[u8]) -> io::Result<usize>
         requires { 0 < length buf.now }
-        ensures reference { self.new.inner.ghost_name ≡ self.old.inner.ghost_name }
+        ensures reference { lent_name self.new ≡ lent_name self.old }
         ensures bound { WritesAtMost result buf.now }
         ensures bytes { WriteAppends (W.contents (lent_inner self.old))
             (W.contents (lent_inner self.new)) result buf.now }
@@ -67,7 +67,7 @@ impl<W: Write> Lent<'_, W> {
 
     /// Flushes, or fails.
     pub(crate) fn flush(&mut self) -> io::Result<()>
-        ensures reference { self.new.inner.ghost_name ≡ self.old.inner.ghost_name }
+        ensures reference { lent_name self.new ≡ lent_name self.old }
         ensures bytes { Keeps (W.contents (lent_inner self.old))
             (W.contents (lent_inner self.new)) }
         ensures failed { lent_failed self.new ≡ (lent_failed self.old || is_err result) }

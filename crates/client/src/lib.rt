@@ -44,6 +44,6 @@ mod transfer;
 
 pub use ask_fault::AskFault;
 pub use asking::{ask, ask_through};
-pub use laws::{frames_tell, written_frames_tell, written_trailers_tell};
+pub use laws::{frames_tell, one_answer, written_frames_tell, written_trailers_tell};
 pub use lent::Lent;
 pub use told::{Ended, Told};

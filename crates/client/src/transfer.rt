@@ -2,7 +2,7 @@
 
 ghost use Rattle.std.specs.Prelude.{◌≡◌, ℕ, true, take, length, OnOk, OnErr, IfErr};
 ghost use Rattle.std.specs.Io.KnownBytes.{Appends};
-ghost use Rattle.client.specs.Lent.{lent_inner, lent_failed};
+ghost use Rattle.client.specs.Lent.{lent_inner, lent_failed, lent_name};
 
 use crate::ask_fault::AskFault;
 use crate::lent::Lent;
@@ -10,7 +10,7 @@ use std::io::Write;
 
 /// Writes the whole text and flushes it.
 pub(crate) fn send<W: Write>(writer: &mut Lent<'_, W>, text: &[u8]) -> Result<(), AskFault>
-    ensures reference { writer.new.inner.ghost_name ≡ writer.old.inner.ghost_name }
+    ensures reference { lent_name writer.new ≡ lent_name writer.old }
     ensures ok { OnOk result (Appends (W.contents (lent_inner writer.old))
         (W.contents (lent_inner writer.new)) text.now) }
     ensures front { OnErr result ((taken : ℕ)

@@ -7,10 +7,18 @@ const THREE: &[u8] = b"\0\0\0\0\x02\x08\x01\0\0\0\0\x02\x08\x02\0\0\0\0\x02\x08\
 const THREE_AND_END: &[u8] =
     b"\0\0\0\0\x02\x08\x01\0\0\0\0\x02\x08\x02\0\0\0\0\x02\x08\x01\x80\0\0\0\x0fgrpc-status:0\r\n";
 
+/// The statuses 1 and 2, and trailers.
+const TWO_AND_END: &[u8] =
+    b"\0\0\0\0\x02\x08\x01\0\0\0\0\x02\x08\x02\x80\0\0\0\x0fgrpc-status:0\r\n";
+
 const OK: Option<(u32, &[u8])> = Some((0, b""));
 
 /// A body, the most statuses of a Watch, what it tells, and how many bytes of the body it leaves.
-const WATCHES: [(&[u8], u32, Seen<'static>, usize); 9] = [
+const WATCHES: [(&[u8], u32, Seen<'static>, usize); 13] = [
+    // whole frames behind each other are no frame that was cut
+    (TWO_AND_END, 1, (&[1], None), 27),
+    (TWO_AND_END, 2, (&[1, 2], None), 20),
+    (TWO_AND_END, 3, (&[1, 2], OK), 0),
     (THREE_AND_END, 1, (&[1], None), 34),
     (THREE_AND_END, 2, (&[1, 2], None), 27),
     (THREE_AND_END, 3, (&[1, 2, 1], None), 20),
@@ -18,13 +26,20 @@ const WATCHES: [(&[u8], u32, Seen<'static>, usize); 9] = [
     // a Watch whose body ends without trailers was cut off
     (THREE, 3, (&[1, 2, 1], None), 0),
     (THREE, 4, (&[1, 2, 1], None), 0),
+    (
+        b"\0\0\0\0\x02\x08\x01\0\0\0\0\x02\x08\x02",
+        3,
+        (&[1, 2], None),
+        0,
+    ),
     (b"", 1, (&[], None), 0),
     (b"\x80\0\0\0\x0fgrpc-status:0\r\n", 1, (&[], OK), 0),
     (b"\0\0\0\0\0", 1, (&[0], None), 0),
 ];
 
 /// The body of a Check, and what it tells.
-const CHECKS: [(&[u8], Seen<'static>); 8] = [
+const CHECKS: [(&[u8], Seen<'static>); 9] = [
+    (TWO_AND_END, (&[1, 2], OK)),
     // UNKNOWN is no byte, and a status that this program doesn't know is told by its number
     (b"\0\0\0\0\0\x80\0\0\0\x0fgrpc-status:0\r\n", (&[0], OK)),
     (
@@ -57,10 +72,15 @@ const CHECKS: [(&[u8], Seen<'static>); 8] = [
 ];
 
 /// Bodies without trailers, which a Watch may have and a Check may not.
-const WITHOUT_TRAILERS: [&[u8]; 3] = [b"", b"\0\0\0\0\x02\x08\x01", b"\0\0\0\0\0\0\0\0\0\0"];
+const WITHOUT_TRAILERS: [&[u8]; 4] = [
+    b"",
+    b"\0\0\0\0\x02\x08\x01",
+    b"\0\0\0\0\0\0\0\0\0\0",
+    b"\0\0\0\0\x02\x08\x01\0\0\0\0\x02\x08\x02",
+];
 
 /// Bodies that no response to a call has, and how many bytes of each are not read.
-const BAD: [(&[u8], usize); 21] = [
+const BAD: [(&[u8], usize); 27] = [
     // the flag of a compressed message or of compressed trailers, or no flag
     (b"\x01\0\0\0\x02\x08\x01", 6),
     (b"\x81\0\0\0\x0fgrpc-status:0\r\n", 19),
@@ -73,6 +93,16 @@ const BAD: [(&[u8], usize); 21] = [
     (b"\0\0\0\0\x02\x08", 1),
     (b"\0\0\0\0\x02\x08\x01\0\xff\xff\xff\xff\0", 1),
     (b"\x80\0\0\0\x10grpc-status:0\r\n", 15),
+    // the same behind whole frames
+    (b"\0\0\0\0\x02\x08\x01\0", 0),
+    (b"\0\0\0\0\x02\x08\x01\0\0\0\0", 0),
+    (b"\0\0\0\0\x02\x08\x01\0\0\0\0\x02", 0),
+    (b"\0\0\0\0\x02\x08\x01\0\0\0\0\x02\x08", 1),
+    (b"\0\0\0\0\x02\x08\x01\0\0\0\0\x02\x08\x02\x80\0\0", 0),
+    (
+        b"\0\0\0\0\x02\x08\x01\0\0\0\0\x02\x08\x02\x80\0\0\0\x0fgrpc-status:0\r",
+        14,
+    ),
     // messages that are cut, or have a bad tag
     (b"\0\0\0\0\x01\x08", 0),
     (b"\0\0\0\0\x01\x0b\x80\0\0\0\x0fgrpc-status:0\r\n", 20),

@@ -23,8 +23,12 @@ loop-piece-preserved g c =
     let read = c.in-Ok.ensures.ok in
     let reply = c.loop-piece.reply in
     let gives = read.2 before.received.0 before.received.2 in record {
-      received = (before.received.0 ++ read.0, Consumes-trans _ _ _ before.received.0 read.0 before.received.1 read.1, gives.0,
-          inr (asked_for (λ (method : Method) (most : ℕ). WasOpen method most (before.received.0 ++ read.0)) (method_of reply) c.args.method (most_of reply) c.args.most before.method before.most gives.1));
+      received = (
+        before.received.0 ++ read.0,
+        Consumes-trans _ _ _ before.received.0 read.0 before.received.1 read.1,
+        gives.0,
+        inr (asked_for (λ (method : Method) (most : ℕ). WasOpen method most (before.received.0 ++ read.0)) (method_of reply) c.args.method (most_of reply) c.args.most before.method before.most gives.1),
+      );
       method = c.in-Ok.ensures.call.0 ∙ before.method;
       most = c.in-Ok.ensures.call.1 ∙ before.most;
       same = c.in-Ok.ensures.reference ∙ before.same;

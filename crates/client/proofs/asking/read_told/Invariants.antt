@@ -1,7 +1,7 @@
 use Rattle.std.proofs.Common.{◌≡◌, List, ℕ}
 use Rattle.std.specs.Io.KnownBytes.{Consumes}
 use Rattle.client.specs.Ask.{IsWithin}
-use Rattle.client.specs.Lent.{lent_inner, lent_failed}
+use Rattle.client.specs.Lent.{lent_inner, lent_failed, lent_name}
 use Rattle.client.specs.Stages.{Holds, method_of, most_of, owed_of}
 use Rattle.client.proofs.asking.read_told.Given as goal
 
@@ -12,7 +12,7 @@ invariant-loop-piece g l = record {
       × IsWithin l.fn.method l.fn.most bytes;
   method : method_of l.reply ≡ l.fn.method;
   most : most_of l.reply ≡ l.fn.most;
-  same : l.reader.inner.ghost_name ≡ l.initial.reader.inner.ghost_name;
+  same : lent_name l.reader ≡ lent_name l.initial.reader;
   kept : lent_failed l.reader ≡ lent_failed l.initial.reader;
 }
 
