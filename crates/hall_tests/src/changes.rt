@@ -5,7 +5,7 @@ ghost use Rattle.hall.specs.Seats.{IsOf};
 use crate::guest::{Guest, Probes, manuals, two_seats};
 use crate::rows::{DONE, Found, Step, Wrong, is_as, result_of};
 use desk_core::{Finding, Keep, KeepAll, Refusal, Reply, Setting};
-use hall::Hall;
+use hall::{Extent, Hall};
 use health_wire::Serving;
 use probe_core::{Manual, Probe, Start, Threshold};
 use std::alloc::Global;
@@ -174,7 +174,17 @@ static SETTINGS: Story = Story {
         ),
         (Who::Second, Step::Next, Found::Next(Ok(Some(SERVING)))),
         (Who::Second, Step::Next, Found::Next(Ok(None))),
+        (Who::First, Step::Set("a", Setting::Down), DONE),
+        (Who::Second, Step::Open("a"), Found::Opened(NOT_SERVING)),
+        (Who::First, Step::Set("a", Setting::Up), DONE),
+        (Who::Second, Step::Extent, Found::Extent(FIVE)),
+        (Who::Second, Step::Next, Found::Next(Ok(Some(SERVING)))),
     ],
+};
+
+const FIVE: Extent = Extent {
+    entries: 5,
+    kept: 5,
 };
 
 /// `answers_from_last_look`: a hall that answered from what the seat saw last would not show it the changes of the other.

@@ -6,6 +6,8 @@ mod gathers;
 mod letters;
 mod memory;
 mod orders;
+mod paced;
 mod plans;
 mod rings;
 mod sides;
+mod wakes;

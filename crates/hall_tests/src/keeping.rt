@@ -2,13 +2,14 @@
 
 use crate::changes::{Story, Turn, Who, expect_story};
 use crate::guest::manuals;
-use crate::race::{Race, expect_race};
+use crate::race::{Race, closed_after};
 use crate::rows::{DONE, Found, Row, Step};
-use desk_core::{Behind, Keep, Setting};
+use desk_core::{Behind, Capacity, Finding, Keep, Setting};
 use hall::Extent;
 use health_wire::Serving;
 use probe_core::Manual;
 use std::test::Fail;
+use test_support::same;
 
 /// The last four.
 #[derive(Drop)]
@@ -76,15 +77,18 @@ fn a_hall_forgets_and_says_so(rt: HostRuntime) -> Result<(), Fail> {
     expect_story::<HostRuntime, Manual, KeepFour>(&rt, alloc, &FORGETTING, probes)
 }
 
-/// Each call under a name, of which five are changes. What a watch is told depends on the other thread.
+/// Each call under a name, of which six are changes. What a watch is told depends on the other thread.
 const EACH_OF_A: &[Row] = &[
     (Step::Register("a"), Found::Reply),
     (Step::Note, Found::Nothing),
     (Step::Set("a", Setting::Down), Found::Reply),
     (Step::Look("a"), Found::Nothing),
+    (Step::Observe("a", Finding::Fail), Found::Reply),
+    (Step::Open("a"), Found::Any),
     (Step::Shutdown, Found::Reply),
-    (Step::Look("a"), Found::Nothing),
+    (Step::Next, Found::Any),
     (Step::Resume, Found::Reply),
+    (Step::Extent, Found::Kept(4)),
     (Step::Note, Found::Nothing),
     (Step::Retire("a"), Found::Reply),
 ];
@@ -94,33 +98,44 @@ const EACH_OF_B: &[Row] = &[
     (Step::Note, Found::Nothing),
     (Step::Shutdown, Found::Reply),
     (Step::Look("b"), Found::Nothing),
+    (Step::Open("b"), Found::Any),
     (Step::Set("b", Setting::Down), Found::Reply),
-    (Step::Look("b"), Found::Nothing),
+    (Step::Next, Found::Any),
+    (Step::Observe("b", Finding::Pass), Found::Reply),
     (Step::Resume, Found::Reply),
+    (Step::Extent, Found::Kept(4)),
     (Step::Note, Found::Nothing),
     (Step::Retire("b"), Found::Reply),
 ];
+
+/// For how many entries a hall that keeps four takes memory at most: sixteen more can come before it forgets.
+const MOST_HELD: usize = 20;
 
 static EACH_CALL: Race = Race {
     names: &["a", "b", ""],
     max_entries: 1_000,
     before: &[],
     threads: (EACH_OF_A, EACH_OF_B),
-    counts: (180, 180),
+    counts: (240, 240),
     after: (
         &[
-            (Step::Made, Found::Made(100)),
-            (Step::Check("a"), Found::Check(200, None)),
+            (Step::Made, Found::Made(120)),
+            (Step::Check("a"), Found::Check(240, None)),
         ],
         &[
-            (Step::Made, Found::Made(100)),
-            (Step::Check("b"), Found::Check(200, None)),
+            (Step::Made, Found::Made(120)),
+            (Step::Check("b"), Found::Check(240, None)),
         ],
     ),
-    entries: 200,
+    entries: 240,
 };
 
 #[test]
 fn a_hall_that_forgets_takes_each_call_of_two_threads(rt: HostRuntime) -> Result<(), Fail> {
-    expect_race::<HostRuntime, KeepFour>(&rt, rt.alloc(), &EACH_CALL)
+    let alloc = rt.alloc();
+    let probes = manuals(alloc)?;
+    let closed = closed_after::<HostRuntime, Manual, KeepFour>(&rt, alloc, &EACH_CALL, probes)?;
+    let Capacity { entries, changes } = closed.desk.capacity();
+    let are_few = entries <= MOST_HELD && changes <= MOST_HELD;
+    same(&are_few, &true, &(entries, changes))
 }

@@ -4,6 +4,8 @@
 #[cfg(test)]
 mod changes;
 #[cfg(test)]
+mod closes;
+#[cfg(test)]
 mod crews;
 #[cfg(test)]
 mod doors;

@@ -1,6 +1,7 @@
 use crate::race::{Race, expect_race};
 use crate::rows::{DONE, Found, Row, Step};
 use desk_core::{Finding, KeepAll, Refusal, Setting};
+use hall::Extent;
 use health_wire::Serving;
 use std::test::Fail;
 
@@ -24,9 +25,18 @@ static FLIPS: Race = Race {
             (Step::Check("a"), Found::Check(202, Some(Serving::Serving))),
             (Step::Made, Found::Made(102)),
         ],
-        &[(Step::Made, Found::Made(100))],
+        &[
+            (Step::Open("a"), Found::Opened(Serving::Serving)),
+            (Step::Extent, Found::Extent(ALL)),
+            (Step::Made, Found::Made(100)),
+        ],
     ),
     entries: 202,
+};
+
+const ALL: Extent = Extent {
+    entries: 202,
+    kept: 202,
 };
 
 /// Each sets a service that the other doesn't, and checks it each time.

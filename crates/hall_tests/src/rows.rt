@@ -50,6 +50,10 @@ pub(crate) enum Found {
     Opened(Serving),
     Next(Result<Option<Serving>, Behind>),
     Extent(Extent),
+    /// An extent with so many entries in memory; this is only what is wanted.
+    Kept(usize),
+    /// Whatever comes; this is only what is wanted.
+    Any,
     Made(u64),
     Drops([u64; 4]),
     Nothing,
@@ -65,7 +69,8 @@ pub(crate) const DONE: Found = Found::Change(Ok(Reply::Done));
 
 pub(crate) fn is_as(found: &Found, wanted: &Found) -> bool {
     match (wanted, found) {
-        (Found::Reply, Found::Change(Ok(_))) => true,
+        (Found::Any, _) | (Found::Reply, Found::Change(Ok(_))) => true,
+        (Found::Kept(kept), Found::Extent(extent)) => extent.kept == *kept,
         _ => found == wanted,
     }
 }

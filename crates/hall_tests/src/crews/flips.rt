@@ -1,10 +1,10 @@
-//! Lists of orders beside one another and beside Watches: each waits, but not for ever, until the other has begun.
+//! Watches beside a list of orders: each side waits, but not for ever, until the other has begun.
 
-use crate::crews::letters::{Letter, Note};
-use crate::crews::plans::{Found, Wish, orders_of, pair, plan_of, serve};
+use crate::crews::letters::Letter;
+use crate::crews::paced::{Heard, PAUSE, Paced};
+use crate::crews::plans::{Found, Wish, orders_of, plan_of, serve};
 use crew::{CallEnd, OpenTurnstile};
 use desk_core::Setting;
-use probe_core::{Event, Manual, Probe, Rule};
 use std::alloc::{AllocError, Global};
 use std::io::Write;
 use std::sync::Wait;
@@ -17,85 +17,12 @@ use test_support::requests::WATCH_OF_A;
 use test_support::same;
 use web_call::Outcome;
 
-/// For how many milliseconds each event waits while the other side has not begun.
-const PAUSE: u64 = 100;
-
-/// How many events were heard on this side, and on how many of them the other side had not begun.
-#[derive(Drop)]
-struct Heard {
-    events: AtomicU32,
-    alone: AtomicU32,
-}
-
-impl Heard {
-    fn new() -> Heard {
-        Heard {
-            events: AtomicU32::new(0),
-            alone: AtomicU32::new(0),
-        }
-    }
-
-    fn events(&self) -> u32 {
-        self.events.load(Ordering::SeqCst)
-    }
-}
-
-/// A `Manual` that counts what it hears, and hears it slowly until the other side has begun.
-#[derive(Drop)]
-struct Paced<'a, C> {
-    manual: Manual,
-    clock: &'a C,
-    heard: &'a Heard,
-    other: &'a AtomicU32,
-    awaited: u32,
-}
-
-impl<'a, C> Paced<'a, C> {
-    /// The other side has begun once it counts so many.
-    fn new(clock: &'a C, heard: &'a Heard, other: &'a AtomicU32, awaited: u32) -> Paced<'a, C> {
-        Paced {
-            manual: Manual::new(),
-            clock,
-            heard,
-            other,
-            awaited,
-        }
-    }
-}
-
-impl<C: Clock> Probe for Paced<'_, C> {
-    ghost rule = { λ probe. ⟦<probe_core::Manual as probe_core::Probe>⟧.rule probe.manual };
-
-    ghost memory = { λ probe. ⟦<probe_core::Manual as probe_core::Probe>⟧.memory probe.manual };
-
-    fn rule(&self) -> Rule {
-        self.manual.rule()
-    }
-
-    fn is_up(&self) -> bool {
-        self.manual.is_up()
-    }
-
-    fn is_unknown(&self) -> bool {
-        self.manual.is_unknown()
-    }
-
-    fn note(&mut self, event: Event) -> bool {
-        self.heard.events.fetch_add(1, Ordering::SeqCst);
-        if self.other.load(Ordering::SeqCst) < self.awaited {
-            self.heard.alone.fetch_add(1, Ordering::SeqCst);
-            thread::sleep(self.clock, Duration::from_millis(PAUSE));
-        }
-        self.manual.note(event)
-    }
-
-    fn reset(&mut self) {
-        self.manual.reset()
-    }
-}
-
 /// So many orders, which set the service Down and Up in turn.
-fn flips(alloc: Global, name: &'static str, count: u32) -> Result<Vec<Wish>, AllocError> {
+pub(crate) fn flips(
+    alloc: Global,
+    name: &'static str,
+    count: u32,
+) -> Result<Vec<Wish>, AllocError> {
     let mut wishes = Vec::new(alloc);
     for number in 0..count {
         let setting = if number % 2 == 0 {
@@ -106,46 +33,6 @@ fn flips(alloc: Global, name: &'static str, count: u32) -> Result<Vec<Wish>, All
         wishes.push(Wish::Set(name, setting))?;
     }
     Ok(wishes)
-}
-
-/// How many orders a list has, which is more than are made before the other list begins.
-const ORDERS: u32 = 200;
-
-fn serve_two_lists<'a, R: Wait + Threads + Sync + Clock>(
-    rt: &'a R,
-    alloc: Global,
-    first: &'a Heard,
-    second: &'a Heard,
-) -> Result<Found, Fail> {
-    let mut orders = Vec::new(alloc);
-    orders.push(orders_of(alloc, &flips(alloc, "a", ORDERS)?)?)?;
-    orders.push(orders_of(alloc, &flips(alloc, "", ORDERS)?)?)?;
-    let mut plan = plan_of(1);
-    plan.most = 10_000;
-    plan.seats = 3;
-    let of_a = Paced::new(rt, first, &second.events, 1);
-    let of_all = Paced::new(rt, second, &first.events, 1);
-    let probes = pair(alloc, of_a, of_all)?;
-    let jobs: Vec<Note<'_>> = Vec::new(alloc);
-    let found = serve(rt, alloc, &plan, orders, probes, jobs, &OpenTurnstile)?;
-    Ok(found)
-}
-
-/// All orders of a list were made, and some of them once the other list had begun.
-fn expect_company(heard: &Heard) -> Result<(), Fail> {
-    same(&heard.events(), &ORDERS, &"heard")?;
-    let alone = heard.alone.load(Ordering::SeqCst);
-    same(&(alone < ORDERS), &true, &alone)
-}
-
-// A crew that makes all lists on one thread makes all orders of one before the other begins.
-#[test]
-fn two_lists_are_made_at_the_same_time(rt: HostRuntime) -> Result<(), Fail> {
-    let (first, second) = (Heard::new(), Heard::new());
-    let found = serve_two_lists(&rt, rt.alloc(), &first, &second)?;
-    same(&found.entries, &Some(402), &"entries")?;
-    expect_company(&first)?;
-    expect_company(&second)
 }
 
 /// How many Watches look beside the orders: so many that to wake them all takes longer than an order.
@@ -254,7 +141,8 @@ fn serve_watches<R: Wait + Threads + Sync + Clock>(
     plan.looks = looks;
     let mut probes = Vec::with_capacity(alloc, 1)?;
     let awaited = u32::from(WATCHES);
-    probes.push(Paced::new(rt, &scene.heard, &scene.open, awaited))?;
+    let open = &scene.open;
+    probes.push(Paced::new(rt, &scene.heard, open, open, awaited, PAUSE))?;
     let jobs = watches(alloc, rt, scene, &opened, pages)?;
     let found = serve(rt, alloc, &plan, orders, probes, jobs, &OpenTurnstile)?;
     Ok(found)

@@ -118,6 +118,15 @@ fn expect_entries(found: &Found, count: u16, has_begun: bool) -> Result<(), Fail
     same(&found.entries, &made, &"entries")
 }
 
+/// How many entries the journal has with the two registrations and all orders.
+fn entries_with(lists: &[&[Wish]]) -> usize {
+    let mut entries = 2usize;
+    for wishes in lists {
+        entries = entries.saturating_add(wishes.len());
+    }
+    entries
+}
+
 /// Tries a crew with so many bytes left, and looks at what it has made. With none left it can't begin, and a crew without jobs wants
 /// memory only to begin with.
 fn fare_with<R: Wait + Threads + Sync>(
@@ -141,6 +150,14 @@ fn fare_with<R: Wait + Threads + Sync>(
     let fare = fare_of(&found.calls, trial.requests, opened as usize)?;
     let has_begun = left > 0 && !trial.requests.is_empty();
     expect_entries(&found, plan.seats, has_begun)?;
+    if found.calls.is_err() && opened > 0 {
+        // The journal has room for them without new memory.
+        same(
+            &found.entries,
+            &Some(entries_with(trial.lists)),
+            &"orders of a crew without report",
+        )?;
+    }
     Ok(fare)
 }
 

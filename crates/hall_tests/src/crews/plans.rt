@@ -28,7 +28,7 @@ pub(crate) enum Wish {
     SetLong,
 }
 
-/// A crew over a hall of `a` and the empty name, both of which its last seat has registered by hand, if it has registered any.
+/// A crew over a hall of `a`, the empty name and `b`, of which its last seat has registered the first ones by hand, if any.
 #[derive(Clone, Copy)]
 pub(crate) struct Plan {
     /// The most entries of the journal.
@@ -73,7 +73,7 @@ pub(crate) struct Found {
 
 fn catalogue(alloc: Global) -> Result<Catalogue, AllocError> {
     let mut names = Vec::new(alloc);
-    for text in ["a", ""] {
+    for text in ["a", "", "b"] {
         names.push(String::from_str(alloc, text)?)?;
     }
     match Catalogue::new(alloc, names) {
@@ -263,6 +263,7 @@ where
     let mut probes = probes.into_iter();
     let seats = register(rt, &hall, seats, "a", probes.next());
     let seats = register(rt, &hall, seats, "", probes.next());
+    let seats = register(rt, &hall, seats, "b", probes.next());
     let taken = squeeze(alloc, plan);
     let served = serve_planned(rt, alloc, plan, &hall, seats, jobs, orders, turnstile);
     drop(taken);
