@@ -3,33 +3,13 @@
 
 ghost use Rattle.probe_core.specs.Made.{IsAsked};
 
-mod answer;
-mod ask;
-mod body;
-mod bounds;
-mod cause;
-mod command;
-mod deadline;
-mod expect;
-mod fault;
-mod input;
-mod replay;
-mod run;
-mod run_failure;
-mod run_options;
-mod serve;
-mod service;
-mod tell;
-mod tell_failure;
-#[cfg(test)]
-mod tests;
-
 use clap::ArgMatches;
 use clap::error::ErrorKind;
+use commands::fault::Fault;
+use commands::run_options::RunOptions;
+use commands::{ask, body, command, replay, run, serve, tell};
 use control_client::is_one_line;
-use fault::Fault;
 use probe_core::{Depends, FnMaker, Maker, Manual, Probe, ProbeFn, Rule, Threshold};
-use run_options::RunOptions;
 use std::alloc::AllocError;
 use std::fmt::Display;
 use std::net::{Net, TcpListener, TcpStream};

@@ -1,0 +1,165 @@
+use crate::texts::padded;
+use commands::answer::answer_body;
+use commands::fault::Fault;
+use commands::service::{parse_service, parse_services};
+use health_wire::Serving;
+use std::alloc::{AllocError, Global};
+use std::fmt::Debug;
+use std::test::Fail;
+use test_support::{Scarcity, same};
+
+const SERVING: &[u8] = b"\0\0\0\0\x02\x08\x01\x80\0\0\0\x0fgrpc-status:0\r\n";
+
+const NOT_SERVING: &[u8] = b"\0\0\0\0\x02\x08\x02\x80\0\0\0\x0fgrpc-status:0\r\n";
+
+/// A message without bytes, which says UNKNOWN.
+const UNKNOWN: &[u8] = b"\0\0\0\0\0\x80\0\0\0\x0fgrpc-status:0\r\n";
+
+const UNKNOWN_SERVICE: &[u8] = b"\x80\0\0\0\x2dgrpc-status:5\r\ngrpc-message:unknown service\r\n";
+
+const REQUEST_TOO_LARGE: &[u8] =
+    b"\x80\0\0\0\x2fgrpc-status:8\r\ngrpc-message:request too large\r\n";
+
+const MALFORMED_REQUEST: &[u8] =
+    b"\x80\0\0\0\x30grpc-status:13\r\ngrpc-message:malformed request\r\n";
+
+const COMPRESSED_MESSAGE: &[u8] =
+    b"\x80\0\0\0\x31grpc-status:12\r\ngrpc-message:compressed message\r\n";
+
+/// The service `a`, an unknown field 9 and the service `b`.
+const TWO_SERVICES: &[u8] = b"\0\0\0\0\x08\x0a\x01a\x48\x05\x0a\x01b";
+
+/// Bodies and their answers, where the empty name and `b` are serving, `a` is not, and `c` is unknown.
+const ANSWERS: [(&[u8], &[u8]); 15] = [
+    (b"\0\0\0\0\0", SERVING),
+    (b"\0\0\0\0\x03\x0a\x01a", NOT_SERVING),
+    (b"\0\0\0\0\x04\x0a\x02zz", UNKNOWN_SERVICE),
+    (b"\0\0\0\0\x03\x0a\x01c", UNKNOWN),
+    (TWO_SERVICES, SERVING),
+    // the length 1 spelled in two bytes
+    (b"\0\0\0\0\x04\x0a\x81\x00a", NOT_SERVING),
+    // a frame that is cut, none, two, and a field that is cut
+    (b"\0\0\0\0\x04\x0a\x01a", MALFORMED_REQUEST),
+    (b"", MALFORMED_REQUEST),
+    (b"\0\0\0\0\0\0\0\0\0\0", MALFORMED_REQUEST),
+    (b"\0\0\0\0\x03\x0a\x02a", MALFORMED_REQUEST),
+    // a name that is no text
+    (b"\0\0\0\0\x03\x0a\x01\xff", MALFORMED_REQUEST),
+    // a compressed message, which is also cut
+    (b"\x01", COMPRESSED_MESSAGE),
+    // trailers, and a flag that no frame has
+    (b"\x80\0\0\0\0", MALFORMED_REQUEST),
+    (b"\x02\0\0\0\0", MALFORMED_REQUEST),
+    // a message and then a byte
+    (b"\0\0\0\0\0\0", MALFORMED_REQUEST),
+];
+
+fn expect_answer<A: Debug>(
+    alloc: Global,
+    list: &[(String, Serving)],
+    body: &[u8],
+    expected: &[u8],
+    at: &A,
+) -> Result<(), Fail> {
+    let answer = answer_body(alloc, list, body)?;
+    same(&answer.as_slice(), &expected, at)
+}
+
+/// An answer of `NoMemory` in place of every other meets the contract of `answer_body`: `always_out_of_memory` is refused here.
+#[test]
+fn answers_each_body(rt: HostRuntime) -> Result<(), Fail> {
+    let alloc = rt.alloc();
+    let words = ["a=not_serving", "=serving", "b=serving", "c=unknown"];
+    let list = parse_services(alloc, words.as_slice())?;
+    for (body, expected) in &ANSWERS {
+        expect_answer(alloc, &list, *body, *expected, body)?;
+    }
+    Ok(())
+}
+
+#[test]
+fn refuses_each_cut_body(rt: HostRuntime) -> Result<(), Fail> {
+    let alloc = rt.alloc();
+    let list = parse_services(alloc, &["a=not_serving", "=serving", "b=serving"])?;
+    for len in 0..13usize {
+        let cut = TWO_SERVICES.get(..len).unwrap_or(TWO_SERVICES);
+        expect_answer(alloc, &list, cut, MALFORMED_REQUEST, &len)?;
+    }
+    Ok(())
+}
+
+#[test]
+fn refuses_a_body_of_over_8_192_bytes(rt: HostRuntime) -> Result<(), Fail> {
+    let alloc = rt.alloc();
+    let mut body = padded(alloc, b"\0\0\0\x1f\xfb", 8_192, 0x80)?;
+    expect_answer(alloc, &[], &body, MALFORMED_REQUEST, &8_192)?;
+    body.push(0)?;
+    expect_answer(alloc, &[], &body, REQUEST_TOO_LARGE, &8_193)
+}
+
+#[test]
+fn answers_that_nothing_is_known(rt: HostRuntime) -> Result<(), Fail> {
+    let alloc = rt.alloc();
+    let list = parse_services(alloc, &["=unknown"])?;
+    expect_answer(alloc, &list, b"\0\0\0\0\0", UNKNOWN, &"the empty name")
+}
+
+#[test]
+fn answers_from_the_first_pair_with_the_name(rt: HostRuntime) -> Result<(), Fail> {
+    let alloc = rt.alloc();
+    let list = parse_services(alloc, &["=not_serving", "=serving"])?;
+    expect_answer(alloc, &list, b"\0\0\0\0\0", NOT_SERVING, &"the first pair")
+}
+
+static SERVICE_WORDS: [(&str, Result<(&str, Serving), Fault>); 10] = [
+    ("a=serving", Ok(("a", Serving::Serving))),
+    ("a=not_serving", Ok(("a", Serving::NotServing))),
+    ("=serving", Ok(("", Serving::Serving))),
+    ("=unknown", Ok(("", Serving::Unknown))),
+    ("a=b=serving", Ok(("a=b", Serving::Serving))),
+    ("a", Err(Fault::BadService)),
+    ("serving", Err(Fault::BadService)),
+    ("a=SERVING", Err(Fault::BadService)),
+    ("a=service_unknown", Err(Fault::BadService)),
+    ("a=serving=", Err(Fault::BadService)),
+];
+
+fn expect_service(
+    alloc: Global,
+    word: &str,
+    expected: Result<(&str, Serving), Fault>,
+) -> Result<(), Fail> {
+    match parse_service(alloc, word) {
+        Ok((name, status)) => same(&Ok((name.as_str(), status)), &expected, &word),
+        Err(fault) => same(&Err(fault), &expected, &word),
+    }
+}
+
+#[test]
+fn cuts_a_service_word_at_its_last_equals_sign(rt: HostRuntime) -> Result<(), Fail> {
+    for (word, expected) in &SERVICE_WORDS {
+        expect_service(rt.alloc(), *word, *expected)?;
+    }
+    Ok(())
+}
+
+#[test]
+fn refuses_each_growth_of_an_answer(rt: HostRuntime) -> Result<(), Fail> {
+    let alloc = rt.alloc();
+    let list = parse_services(alloc, &["=serving"])?;
+    let scarcity = Scarcity::with_small_room(alloc)?;
+    let (mut refused, mut whole) = (0u32, 0u32);
+    for step in 0..512usize {
+        let filler = scarcity.leave_steps(step)?;
+        match answer_body(alloc, &list, b"\0\0\0\0\0") {
+            Ok(answer) => {
+                same(&answer.as_slice(), &SERVING, &step)?;
+                whole = whole.wrapping_add(1);
+            }
+            Err(AllocError) => refused = refused.wrapping_add(1),
+        }
+        drop(filler);
+    }
+    drop(scarcity);
+    same(&(refused > 1, whole > 0), &(true, true), &"refused, whole")
+}

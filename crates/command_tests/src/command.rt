@@ -1,0 +1,278 @@
+use clap::error::ErrorKind;
+use commands::command::{bad_host, bad_place, bad_words, command};
+use std::alloc::Global;
+use std::test::Fail;
+use test_support::same;
+
+/// The words behind the program's name, and why they are refused, if they are. `--help` and `--version` refuse to run anything.
+static ROWS: [(&[&str], Option<ErrorKind>); 56] = [
+    (&["body", "0000000000"], None),
+    (&["body"], Some(ErrorKind::MissingRequiredArgument)),
+    (&["replay"], None),
+    (&["replay", "a"], Some(ErrorKind::UnknownArgument)),
+    (&[], Some(ErrorKind::MissingSubcommand)),
+    (&["walk"], Some(ErrorKind::InvalidSubcommand)),
+    (&["--version"], Some(ErrorKind::DisplayVersion)),
+    (&["serve", "--help"], Some(ErrorKind::DisplayHelp)),
+    (
+        &["serve", "--port", "1", "--workers", "1", "--calls", "1"],
+        None,
+    ),
+    (
+        &[
+            "serve",
+            "--port",
+            "65535",
+            "--workers",
+            "64",
+            "--calls",
+            "1000",
+        ],
+        None,
+    ),
+    (
+        &["serve", "--port", "0", "--workers", "1", "--calls", "1"],
+        Some(ErrorKind::ValueValidation),
+    ),
+    (
+        &["serve", "--port", "65536", "--workers", "1", "--calls", "1"],
+        Some(ErrorKind::ValueValidation),
+    ),
+    (
+        &["serve", "--port", "1", "--workers", "0", "--calls", "1"],
+        Some(ErrorKind::ValueValidation),
+    ),
+    (
+        &["serve", "--port", "1", "--workers", "65", "--calls", "1"],
+        Some(ErrorKind::ValueValidation),
+    ),
+    (
+        &["serve", "--port", "1", "--workers", "1", "--calls", "0"],
+        Some(ErrorKind::ValueValidation),
+    ),
+    (
+        &["serve", "--port", "1", "--workers", "1", "--calls", "1001"],
+        Some(ErrorKind::ValueValidation),
+    ),
+    (
+        &["serve", "--workers", "1", "--calls", "1"],
+        Some(ErrorKind::MissingRequiredArgument),
+    ),
+    (
+        &["serve", "--port", "1", "--calls", "1"],
+        Some(ErrorKind::MissingRequiredArgument),
+    ),
+    (
+        &["serve", "--port", "1", "--workers", "1"],
+        Some(ErrorKind::MissingRequiredArgument),
+    ),
+    (&["run"], None),
+    (&["run", "--help"], Some(ErrorKind::DisplayHelp)),
+    (&["run", "FILE"], Some(ErrorKind::UnknownArgument)),
+    (&["run", "--listen"], Some(ErrorKind::InvalidValue)),
+    (&["run", "--script"], Some(ErrorKind::InvalidValue)),
+    (&["run", "--listen", "[::1]:8080", "--script", "s"], None),
+    (&["run", "--threads", "64"], None),
+    (&["run", "--threads", "0"], Some(ErrorKind::ValueValidation)),
+    (
+        &["run", "--threads", "65"],
+        Some(ErrorKind::ValueValidation),
+    ),
+    (&["run", "--connections", "1", "--watches", "1"], None),
+    (&["run", "--connections", "1000000"], None),
+    (
+        &["run", "--connections", "0"],
+        Some(ErrorKind::ValueValidation),
+    ),
+    (
+        &["run", "--connections", "1000001"],
+        Some(ErrorKind::ValueValidation),
+    ),
+    (&["run", "--watches", "0"], None),
+    (
+        &["run", "--watches", "-1"],
+        Some(ErrorKind::UnknownArgument),
+    ),
+    (
+        &["run", "--watches", "1000001"],
+        Some(ErrorKind::ValueValidation),
+    ),
+    (&["ask", "--port", "1"], None),
+    (
+        &["ask", "--port", "1", "--name", "-", "--watch", "1000"],
+        None,
+    ),
+    (
+        &["ask", "--port", "1", "--watch", "0"],
+        Some(ErrorKind::ValueValidation),
+    ),
+    (
+        &["ask", "--port", "1", "--watch", "1001"],
+        Some(ErrorKind::ValueValidation),
+    ),
+    (&["ask", "--port", "0"], Some(ErrorKind::ValueValidation)),
+    (&["ask", "--port", "x"], Some(ErrorKind::ValueValidation)),
+    (&["ask"], Some(ErrorKind::MissingRequiredArgument)),
+    (
+        &[
+            "ask",
+            "--port",
+            "1",
+            "--host",
+            "::1",
+            "--timeout",
+            "3600",
+            "--expect",
+            "SERVING",
+        ],
+        None,
+    ),
+    (&["ask", "--port", "1", "--timeout", "1"], None),
+    (
+        &["ask", "--port", "1", "--timeout", "0"],
+        Some(ErrorKind::ValueValidation),
+    ),
+    (
+        &["ask", "--port", "1", "--timeout", "3601"],
+        Some(ErrorKind::ValueValidation),
+    ),
+    (&["ask", "--port", "1", "--expect", "SERVICE_UNKNOWN"], None),
+    (
+        &["ask", "--port", "1", "--expect", "serving"],
+        Some(ErrorKind::InvalidValue),
+    ),
+    (
+        &["ask", "--port", "1", "--expect"],
+        Some(ErrorKind::InvalidValue),
+    ),
+    (&["ask", "--help"], Some(ErrorKind::DisplayHelp)),
+    (&["tell", "--control", "/run/healthd"], None),
+    (&["tell", "--control", "127.0.0.1:8081", "check", "-"], None),
+    (&["tell"], Some(ErrorKind::MissingRequiredArgument)),
+    (
+        &["tell", "check", "-"],
+        Some(ErrorKind::MissingRequiredArgument),
+    ),
+    (&["tell", "--control"], Some(ErrorKind::InvalidValue)),
+    (&["tell", "--help"], Some(ErrorKind::DisplayHelp)),
+];
+
+fn expect_kind(alloc: Global, words: &[&str], expected: Option<ErrorKind>) -> Result<(), Fail> {
+    let mut all = Vec::new(alloc);
+    all.push("healthd")?;
+    all.extend_from_slice(words)?;
+    let found = match command(alloc)?.try_get_matches_from(all.as_slice()) {
+        Ok(_) => None,
+        Err(error) => Some(error.kind()),
+    };
+    same(&found, &expected, &words)
+}
+
+#[test]
+fn takes_and_refuses_command_lines(rt: HostRuntime) -> Result<(), Fail> {
+    for (words, expected) in &ROWS {
+        expect_kind(rt.alloc(), words, *expected)?;
+    }
+    Ok(())
+}
+
+/// What the help of `run` has to say: each option with its example, and each line of a script.
+const RUN_HELP: [&str; 22] = [
+    "--listen <ADDR>",
+    "e.g. 0.0.0.0:8080 or [::1]:8080",
+    "--script <FILE>",
+    "e.g. /etc/healthd",
+    "--threads <T>",
+    "1 to 64, e.g. 4",
+    "no more than connections",
+    "--connections <C>",
+    "1 to 1000000, e.g. 500",
+    "--watches <W>",
+    "0 to C, e.g. 400",
+    "told its status and ended",
+    "register NAME threshold F [R [unknown]]",
+    "register NAME manual",
+    "register NAME depends NAME..",
+    "retire NAME",
+    "pass NAME, fail NAME",
+    "up NAME, down NAME",
+    "shutdown",
+    "resume",
+    "begins with # is a comment",
+    "not answered done or replaced",
+];
+
+/// What the help of `ask` has to say: each option with its example.
+const ASK_HELP: [&str; 13] = [
+    "--port <P>",
+    "e.g. 8080",
+    "--host <ADDR>",
+    "e.g. 192.0.2.7 or ::1",
+    "--name <NAME>",
+    "e.g. my.package.Service",
+    "--watch <N>",
+    "1 to 1000, e.g. 3",
+    "--timeout <S>",
+    "1 to 3600, e.g. 5",
+    "--expect <STATUS>",
+    "exit status 3",
+    "UNKNOWN, SERVING, NOT_SERVING, SERVICE_UNKNOWN",
+];
+
+/// What the help of `tell` has to say: where it sends, what, and the exit status.
+const TELL_HELP_PARTS: [&str; 7] = [
+    "--control <PLACE>",
+    "e.g. 127.0.0.1:8081",
+    "e.g. /run/healthd",
+    "e.g. fail db",
+    "standard input",
+    "exit status is 3",
+    "refused .., missing, wrong kind",
+];
+
+fn expect_help(alloc: Global, name: &str, parts: &[&str]) -> Result<(), Fail> {
+    let words = ["healthd", name, "--help"];
+    let Err(help) = command(alloc)?.try_get_matches_from(words.as_slice()) else {
+        return same(&"matches", &"help", &name);
+    };
+    let text = format!(in alloc; "{help}")?;
+    for part in parts {
+        same(&text.contains(*part), &true, part)?;
+    }
+    Ok(())
+}
+
+#[test]
+fn tells_the_options_of_each_command(rt: HostRuntime) -> Result<(), Fail> {
+    expect_help(rt.alloc(), "run", &RUN_HELP)?;
+    expect_help(rt.alloc(), "ask", &ASK_HELP)?;
+    expect_help(rt.alloc(), "tell", &TELL_HELP_PARTS)
+}
+
+fn expect_refusal(alloc: Global, error: &clap::Error, begin: &str) -> Result<(), Fail> {
+    let text = format!(in alloc; "{error}")?;
+    same(&text.starts_with(begin), &true, &text)
+}
+
+#[test]
+fn refuses_values_in_the_words_of_clap(rt: HostRuntime) -> Result<(), Fail> {
+    let alloc = rt.alloc();
+    let host = bad_host(alloc, "localhost")?;
+    expect_refusal(
+        alloc,
+        &host,
+        "error: invalid value 'localhost' for '--host <ADDR>'",
+    )?;
+    let place = bad_place(alloc, "192.0.2.7:80")?;
+    expect_refusal(
+        alloc,
+        &place,
+        "error: invalid value '192.0.2.7:80' for '--control <PLACE>'",
+    )?;
+    let words = bad_words(alloc)?;
+    expect_refusal(
+        alloc,
+        &words,
+        "error: invalid value for '[WORD]...': a line feed",
+    )
+}

@@ -1,0 +1,58 @@
+use client::{Ended, Told};
+use commands::expect::{STATUS_NAMES, exit_status, status_name};
+use std::alloc::Global;
+use std::test::Fail;
+use test_support::same;
+use web_call::Method;
+
+/// The method, the statuses and the code of the end, and the exit status where SERVING is expected.
+type Row = (Method, &'static [u64], Option<u32>, u8);
+
+const ROWS: [Row; 12] = [
+    (Method::Check, &[1], Some(0), 0),
+    (Method::Check, &[2], Some(0), 3),
+    (Method::Check, &[0], Some(0), 3),
+    (Method::Check, &[1], Some(14), 3),
+    (Method::Check, &[1], None, 3),
+    (Method::Check, &[], Some(5), 3),
+    // the last status counts, and how the call ended does not
+    (Method::Watch, &[2, 1], None, 0),
+    (Method::Watch, &[1, 2], None, 3),
+    (Method::Watch, &[1], Some(14), 0),
+    (Method::Watch, &[3], Some(14), 3),
+    (Method::Watch, &[], None, 3),
+    // a number that has no name
+    (Method::Watch, &[4], None, 3),
+];
+
+fn expect_status(alloc: Global, row: &Row) -> Result<(), Fail> {
+    let end = row.2.map(|code| Ended {
+        code,
+        text: Vec::new(alloc),
+    });
+    let statuses = Vec::from_slice(alloc, row.1)?;
+    let told = Told { statuses, end };
+    same(&exit_status(row.0, Some("SERVING"), &told), &row.3, row)?;
+    same(&exit_status(row.0, None, &told), &0, row)
+}
+
+#[test]
+fn tells_what_is_expected_by_the_exit_status(rt: HostRuntime) -> Result<(), Fail> {
+    for row in &ROWS {
+        expect_status(rt.alloc(), row)?;
+    }
+    Ok(())
+}
+
+#[test]
+fn names_each_status_that_has_a_name(_rt: HostRuntime) -> Result<(), Fail> {
+    for number in 0..4u64 {
+        let index = usize::try_from(number).unwrap_or(4);
+        same(
+            &status_name(number),
+            &STATUS_NAMES.get(index).copied(),
+            &number,
+        )?;
+    }
+    same(&status_name(4), &None, &4)
+}

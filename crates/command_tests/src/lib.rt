@@ -1,0 +1,37 @@
+//! Tests of the commands of healthd. They see public calls alone.
+#![tactic(auto)]
+
+#[cfg(test)]
+mod ask;
+#[cfg(test)]
+mod asking;
+#[cfg(test)]
+mod bodies;
+#[cfg(test)]
+mod bounds;
+#[cfg(test)]
+mod cause;
+#[cfg(test)]
+mod command;
+#[cfg(test)]
+mod deadline;
+#[cfg(test)]
+mod expect;
+#[cfg(test)]
+mod fault;
+#[cfg(test)]
+mod replay;
+#[cfg(test)]
+mod run;
+#[cfg(test)]
+mod run_failure;
+#[cfg(test)]
+mod run_options;
+#[cfg(test)]
+mod serve;
+#[cfg(test)]
+mod tell;
+#[cfg(test)]
+mod tell_failure;
+#[cfg(test)]
+mod texts;

@@ -1,0 +1,389 @@
+//! Runs beside a client.
+
+ghost use Rattle.std.specs.Prelude.{◌≡◌, ◌≤◌, ◌<◌, List, Option, IfOk, vec_len};
+ghost use Rattle.desk_core.specs.declared.call.Call.{Call};
+ghost use Rattle.probe_core.specs.Made.{IsAsked};
+ghost use Rattle.commands.specs.Run.{IsWhollySetUp};
+
+use crate::asking::ask_at;
+use crate::run::ready::Ready;
+use client::Told;
+use commands::fault::Fault;
+use commands::run::{Begun, control_at, control_loop, event_loops, listen, remove_socket, set_up};
+use commands::run_failure::RunFailure;
+use control_place::{ControlClient, Place, connect};
+use control_server::MAX_SESSIONS;
+use desk_core::KeepMany;
+use live_run::Ran;
+use live_server::{Limits, News};
+use probe_core::{Depends, FnMaker, Maker, Manual, Probe, ProbeFn, Rule, Threshold};
+use server::SetUpHall;
+use std::alloc::{AllocError, Global};
+use std::io::{Read, Write};
+use std::net::{Net, SocketAddr, TcpListener, TcpStream};
+use std::rt::Files;
+use std::sync::Wait;
+use std::test::Fail;
+use std::thread::Threads;
+use std::time::Clock;
+use std::{env, fs, io, process, thread};
+use test_support::requests::WATCH_OF_EMPTY;
+use test_support::same;
+use web_call::Method;
+
+/// The whole depends on `a`.
+const DEPENDING: &[u8] = b"catalogue a -
+max 100
+register a manual
+register - depends a
+";
+
+/// `b` is down.
+const PARTED: &[u8] = b"catalogue a b -
+max 10
+register a manual
+register b manual
+register - manual
+down b
+";
+
+const LIMITS: [Limits; 2] = [
+    Limits {
+        connections: 2,
+        watches: 1,
+    },
+    Limits {
+        connections: 1,
+        watches: 1,
+    },
+];
+
+/// What is answered to a Watch at once, where its service is serving.
+const FIRST: &[u8] = b"HTTP/1.1 200 OK\r\n\
+    connection: close\r\n\
+    content-type: application/grpc-web+proto\r\n\
+    transfer-encoding: chunked\r\n\
+    \r\n\
+    7\r\n\0\0\0\0\x02\x08\x01\r\n";
+
+/// What it is told then: not serving, serving, and that it is ended.
+const OTHERS: &[u8] = b"7\r\n\0\0\0\0\x02\x08\x02\r\n\
+    7\r\n\0\0\0\0\x02\x08\x01\r\n\
+    2f\r\n\x80\0\0\0\x2agrpc-status:14\r\ngrpc-message:watch ended\r\n\r\n\
+    0\r\n\r\n";
+
+/// Lines of a session, and their answers.
+const LINES: &[u8] = b"down a\nup a\nlist\nstop\n";
+
+const ANSWERS: &[u8] = b"done\ndone\na=serving -=serving\nstopping\n";
+
+/// What a client reads of a Watch and of a session beside it, which begins where the Watch has had its first message.
+#[derive(Drop)]
+struct Heard {
+    watched: Vec<u8>,
+    answered: Vec<u8>,
+}
+
+fn hear<R: Net<Stream = TcpStream>>(
+    rt: &R,
+    alloc: Global,
+    port: u16,
+    path: &str,
+) -> io::Result<Heard> {
+    let mut watch = TcpStream::connect(rt, ("127.0.0.1", port))?;
+    watch.write_all(WATCH_OF_EMPTY)?;
+    let mut watched = vec![in alloc; 0u8; FIRST.len()]?;
+    watch.read_exact(&mut watched)?;
+    let answered = say_lines(rt, alloc, path)?;
+    watch.read_to_end(&mut watched)?;
+    Ok(Heard { watched, answered })
+}
+
+/// What a session that says the lines is answered.
+fn say_lines<R: Net<Stream = TcpStream>>(rt: &R, alloc: Global, path: &str) -> io::Result<Vec<u8>> {
+    let client = connect(rt, Place::Path(path))?;
+    let mut session: &ControlClient = &client;
+    session.write_all(LINES)?;
+    let mut answered = Vec::new(alloc);
+    session.read_to_end(&mut answered)?;
+    Ok(answered)
+}
+
+/// A client of a session that says `stop` and leaves.
+fn stop_and_leave<R: Net<Stream = TcpStream>>(rt: &R, path: &str) -> io::Result<()> {
+    let client = connect(rt, Place::Path(path))?;
+    let mut session: &ControlClient = &client;
+    session.write_all(b"stop\n")
+}
+
+/// What two Checks and a Watch are told.
+#[derive(Drop)]
+struct Answers {
+    of_a: Result<Told, Fault>,
+    of_all: Result<Told, Fault>,
+    of_b: Result<Told, Fault>,
+}
+
+fn ask_all<R: Net<Stream = TcpStream>>(rt: &R, alloc: Global, port: u16) -> Answers {
+    Answers {
+        of_a: ask_at(rt, alloc, port, Method::Check, "a", 1),
+        of_all: ask_at(rt, alloc, port, Method::Check, "", 1),
+        of_b: ask_at(rt, alloc, port, Method::Watch, "b", 1),
+    }
+}
+
+/// What a client comes to beside a run.
+#[derive(Drop)]
+enum Beside {
+    Asked(Answers),
+    Heard(Heard),
+    Left,
+    Failed(io::Error),
+}
+
+#[derive(Clone, Copy)]
+enum Client<'a> {
+    /// There is no control place.
+    Asks,
+    /// The control place is at this path.
+    Hears(&'a str),
+    Leaves(&'a str),
+}
+
+impl<'a> Client<'a> {
+    fn path(self) -> Option<&'a str> {
+        match self {
+            Client::Asks => None,
+            Client::Hears(path) | Client::Leaves(path) => Some(path),
+        }
+    }
+
+    fn go<R: Net<Stream = TcpStream>>(self, rt: &R, alloc: Global, port: u16) -> Beside {
+        match self {
+            Client::Asks => Beside::Asked(ask_all(rt, alloc, port)),
+            Client::Hears(path) => match hear(rt, alloc, port, path) {
+                Ok(heard) => Beside::Heard(heard),
+                Err(error) => Beside::Failed(error),
+            },
+            Client::Leaves(path) => match stop_and_leave(rt, path) {
+                Ok(()) => Beside::Left,
+                Err(error) => Beside::Failed(error),
+            },
+        }
+    }
+}
+
+/// A client that waits to go. It ends the run, where no session does.
+#[derive(Drop)]
+struct Visitor<'a, R> {
+    rt: &'a R,
+    client: Client<'a>,
+    port: u16,
+    news: &'a News,
+}
+
+impl<R: AllocGlobal + Net<Stream = TcpStream>> Visitor<'_, R> {
+    fn go(self) -> Beside {
+        let beside = self.client.go(self.rt, self.rt.alloc(), self.port);
+        match &beside {
+            Beside::Asked(_) | Beside::Failed(_) => self.news.end(),
+            Beside::Heard(_) | Beside::Left => {}
+        }
+        beside
+    }
+}
+
+/// Serves while a client is there.
+fn serve_beside<R, P: Probe + Send, M>(
+    ready: Ready<'_, R, P, M>,
+    client: Client<'_>,
+    port: u16,
+) -> (Option<Ran<P, KeepMany>>, Beside)
+where
+    R: AllocGlobal + Clock + Wait + Threads + Sync + Net<Stream = TcpStream>,
+    M: Maker<P> + Sync,
+    requires set_up { (calls : List (Option Call)) × IsWhollySetUp calls ready.made }
+    requires some { 1 ≤ vec_len ready.servers }
+    requires enough { vec_len ready.servers < ready.made.hall.seats }
+{
+    let rt = ready.rt;
+    let visitor = Visitor {
+        rt,
+        client,
+        port,
+        news: ready.news,
+    };
+    thread::join(
+        rt,
+        move || -> Option<Ran<P, KeepMany>>
+            requires set_up { (calls : List (Option Call)) × IsWhollySetUp calls ready.made }
+            requires some { 1 ≤ vec_len ready.servers }
+            requires enough { vec_len ready.servers < ready.made.hall.seats }
+        { ready.serve() },
+        move || visitor.go(),
+    )
+}
+
+/// What listens at both places.
+fn begun<'a, R, P: Probe>(
+    rt: &R,
+    listener: &TcpListener,
+    made: &SetUpHall<P, KeepMany>,
+    place: Option<Place<'a>>,
+) -> Result<Begun, RunFailure<'a>>
+where
+    R: AllocGlobal + Clock + Files + Net<Listener = TcpListener, Stream = TcpStream>,
+    requires set_up { (calls : List (Option Call)) × IsWhollySetUp calls made.now }
+    ensures two { IfOk result (λ begun. vec_len begun.servers ≡ 2) }
+{
+    let alloc = rt.alloc();
+    let control = control_at(rt, alloc, made, place)?;
+    let (servers, news) = event_loops(rt, alloc, listener, LIMITS.as_slice())?;
+    let control = control_loop(rt, alloc, control, &servers)?;
+    Ok(Begun {
+        servers,
+        news,
+        control,
+    })
+}
+
+/// Takes the file of a run's control place away, which is gone then.
+fn expect_removed<R: Files, P: Probe>(
+    rt: &R,
+    ran: &Ran<P, KeepMany>,
+    path: Option<&str>,
+) -> Result<(), Fail> {
+    remove_socket(rt, ran);
+    match path {
+        Some(path) => same(&fs::exists(rt, path)?, &false, &path),
+        None => Ok(()),
+    }
+}
+
+/// How many entries the history of a run has that is set up by the script, and what the client came to beside it.
+fn run_with<'a, R, P: Probe + Send, F>(
+    rt: &R,
+    script: &[u8],
+    client: Client<'a>,
+    make: F,
+) -> Result<(Option<u32>, Beside), Fail>
+where
+    R: AllocGlobal
+        + Clock
+        + Files
+        + Wait
+        + Threads
+        + Sync
+        + Net<Listener = TcpListener, Stream = TcpStream>,
+    F: ProbeFn<Made = P> + Sync + Drop,
+    requires { F.makes_asked make }
+{
+    let maker = FnMaker::new(make);
+    let made = set_up(rt, rt.alloc(), &maker, script, 3 + MAX_SESSIONS)?;
+    let listener = listen(rt, &made, SocketAddr::from(([127, 0, 0, 1], 0)))?;
+    let port = listener.local_addr()?.port();
+    let Begun {
+        servers,
+        news,
+        control,
+    } = begun(rt, &listener, &made, client.path().map(Place::Path))?;
+    let ready = Ready {
+        rt,
+        made,
+        servers,
+        control,
+        maker: &maker,
+        news: &news,
+    };
+    let (ran, beside) = serve_beside(ready, client, port);
+    let Some(ran) = ran else {
+        return Ok((None, beside));
+    };
+    expect_removed(rt, &ran, client.path())?;
+    Ok((Some(ran.entries()), beside))
+}
+
+/// The same with probes of the three kinds.
+fn run_beside<'a, R>(
+    rt: &R,
+    script: &[u8],
+    client: Client<'a>,
+) -> Result<(Option<u32>, Beside), Fail>
+where
+    R: AllocGlobal
+        + Clock
+        + Files
+        + Wait
+        + Threads
+        + Sync
+        + Net<Listener = TcpListener, Stream = TcpStream>,
+{
+    let alloc = rt.alloc();
+    let make = |rule: Rule| -> Result<Box<dyn Probe + Send>, AllocError>
+        ensures { IsAsked (λ probe. (Probe-box probe).rule probe.value) (λ probe. (Probe-box probe).memory probe.value) rule result }
+    {
+        let probe: Box<dyn Probe + Send> = match rule {
+            Rule::Threshold(fall, rise, start) => Box::new(
+                alloc,
+                Threshold::new(fall, rise, start),
+            )?,
+            Rule::Manual => Box::new(alloc, Manual::new())?,
+            Rule::Depends(mask) => Box::new(alloc, Depends::new(mask))?,
+        };
+        Ok(probe)
+    };
+    run_with(rt, script, client, make)
+}
+
+fn expect_status(told: &Result<Told, Fault>, expected: u64) -> Result<(), Fail> {
+    let statuses = told.as_ref().ok().map(|told| told.statuses.as_slice());
+    same(&statuses, &Some([expected].as_slice()), &"statuses")
+}
+
+#[test]
+fn serves_until_it_is_told_to_end(rt: HostRuntime) -> Result<(), Fail> {
+    let (entries, beside) = run_beside(&rt, PARTED, Client::Asks)?;
+    same(&entries, &Some(4), &"entries")?;
+    let Beside::Asked(answers) = beside else {
+        return Err(Fail::new("another client"));
+    };
+    expect_status(&answers.of_a, 1)?;
+    expect_status(&answers.of_all, 1)?;
+    expect_status(&answers.of_b, 2)
+}
+
+/// A path of this test's own in the folder for temporary files, where nothing stands.
+fn path_named(rt: &HostRuntime, name: &str) -> io::Result<String> {
+    let alloc = rt.alloc();
+    let file = format!(in alloc; "healthd-{}-{name}", process::id(rt.process()))?;
+    let path = env::temp_dir(rt)?.join(alloc, file.as_str())?;
+    let text = String::from_str(alloc, path.as_path().to_string_lossy())?;
+    Ok(text)
+}
+
+fn expect_heard(heard: &Heard) -> Result<(), Fail> {
+    same(&heard.answered.as_slice(), &ANSWERS, &"answers")?;
+    let first = heard.watched.get(..FIRST.len());
+    same(&first, &Some(FIRST), &"the first message")?;
+    let others = heard.watched.get(FIRST.len()..);
+    same(&others, &Some(OTHERS), &"the others")
+}
+
+#[test]
+fn a_watch_is_told_what_a_session_changes(rt: HostRuntime) -> Result<(), Fail> {
+    let path = path_named(&rt, "told")?;
+    let (entries, beside) = run_beside(&rt, DEPENDING, Client::Hears(&path))?;
+    same(&entries, &Some(4), &"entries")?;
+    match &beside {
+        Beside::Heard(heard) => expect_heard(heard),
+        _ => Err(Fail::new("a client failed")),
+    }
+}
+
+#[test]
+fn a_session_that_leaves_behind_stop_ends_the_run(rt: HostRuntime) -> Result<(), Fail> {
+    let path = path_named(&rt, "left")?;
+    let (entries, beside) = run_beside(&rt, DEPENDING, Client::Leaves(&path))?;
+    same(&entries, &Some(2), &"entries")?;
+    same(&matches!(beside, Beside::Left), &true, &"the client left")
+}

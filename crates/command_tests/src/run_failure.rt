@@ -1,0 +1,71 @@
+use commands::cause::Cause;
+use commands::run_failure::RunFailure;
+use commands::run_options::Source;
+use control_place::Place;
+use desk_core::{Refusal, Reply};
+use live_run::RefusedLine;
+use script::ScriptFault;
+use std::alloc::Global;
+use std::io;
+use std::net::SocketAddr;
+use std::test::Fail;
+use test_support::same;
+
+fn expect_text(alloc: Global, fault: &RunFailure<'_>, expected: &str) -> Result<(), Fail> {
+    let text = format!(in alloc; "{fault}")?;
+    same(&text.as_str(), &expected, fault)
+}
+
+fn cause(code: i32) -> Cause {
+    Cause::from(io::Error::from_raw_os_error(code))
+}
+
+#[test]
+fn tells_each_fault_with_its_cause(rt: HostRuntime) -> Result<(), Fail> {
+    let rows = [
+        (
+            RunFailure::Read(Source::File("/etc/healthd"), cause(13)),
+            "read /etc/healthd: permission denied",
+        ),
+        (
+            RunFailure::Read(Source::StandardInput, cause(21)),
+            "read standard input: is a directory",
+        ),
+        (RunFailure::Script(ScriptFault::BadLine(3)), "script line 3"),
+        (
+            RunFailure::Refused(RefusedLine {
+                number: 4,
+                answer: Err(Refusal::Full),
+            }),
+            "script line 4: refused full",
+        ),
+        (
+            RunFailure::Refused(RefusedLine {
+                number: 5,
+                answer: Ok(Reply::Missing),
+            }),
+            "script line 5: missing",
+        ),
+        (
+            RunFailure::Bind(
+                Place::Address(SocketAddr::from(([0, 0, 0, 0], 80))),
+                cause(13),
+            ),
+            "bind 0.0.0.0:80: permission denied",
+        ),
+        (
+            RunFailure::Bind(Place::Path("/run/healthd"), cause(98)),
+            "bind /run/healthd: address in use",
+        ),
+        (
+            RunFailure::EventLoop(cause(24)),
+            "event loop: Too many open files (os error 24)",
+        ),
+        (RunFailure::Write(cause(32)), "write: broken pipe"),
+        (RunFailure::OutOfMemory, "out of memory"),
+    ];
+    for (fault, expected) in &rows {
+        expect_text(rt.alloc(), fault, *expected)?;
+    }
+    Ok(())
+}

@@ -1,0 +1,111 @@
+-- What a setup leaves behind whose changes were all made.
+use Rattle.std.proofs.Common.{◌≡◌, IfNone, ℕ, suc, ◌<◌, ◌≤◌, Option, None, List, [], ◌∷◌, length, Result, refl, sym, ap, subst, ◌∙◌, arith}
+use Rattle.std.specs.List.{All}
+use Rattle.std.proofs.lemmas.Bool.Decides.{nat_tests}
+use Rattle.std.proofs.lemmas.List.{length-set}
+use Rattle.std.proofs.lemmas.List.FromFn.{length-map-range_with_len}
+use Rattle.std.proofs.lemmas.List.Elements.{All-head, All-tail}
+use Rattle.desk_core.specs.declared.call.Call.{Call}
+use Rattle.desk_core.specs.declared.entry.Entry.{Entry}
+use Rattle.desk_core.specs.declared.refusal.Refusal.{Refusal}
+use Rattle.desk_core.specs.declared.reply.Reply.{Reply}
+use Rattle.desk_core.specs.Mutation.{AreAnswered, Ends, Then, IsAnswered, Taken, NotListed, BadRule, Full, NoMemory}
+use Rattle.hall.specs.Seats.{HallState, SeatState, IsCarriedOut, new_seats}
+use Rattle.crew.specs.CarriedOut.{replied}
+use Rattle.server.specs.Setup.{SetUpState, AreSetUp}
+use Rattle.live_run.specs.declared.run_fault.RunFault.{RunFault}
+use Rattle.live_run.specs.declared.run_fault.RunFault.TheVariants as faults
+use Rattle.live_run.specs.declared.refused_line.RefusedLine.{RefusedLine}
+use Rattle.live_run.specs.RefusedLine.{IsFirstRefused, IsMade}
+use Rattle.script.specs.Change.{line_changes}
+use Rattle.script.specs.declared.script.Mode.TheVariants.{Run}
+use Rattle.script.specs.Script.{ScriptParts, IsScript}
+use Rattle.live_run.specs.WholeRun.{IsLaterFault, run_fault}
+use Rattle.live_run.specs.WholeRun.IsLaterFault.{NoMemory as NoMemoryLater, SeatsMissing as SeatsMissingLater}
+use Rattle.commands.specs.declared.run_failure.RunFailure.{RunFailure}
+use Rattle.commands.specs.declared.run_failure.RunFailure.TheVariants.{Refused}
+use Rattle.commands.specs.Run.{AreMadeAlone, EndsSetUp, IsWhollySetUp}
+
+-- a change that was made has one entry
+one_made : (n most seat : ℕ) (before after : List Entry) (call : Option Call) (result : Result Reply Refusal) (calls : List (Option Call)) (results : List (Result Reply Refusal))
+    → IsAnswered most seat before after call result → IsMade result → length (replied n (call ∷ calls) (result ∷ results)) ≡ suc (length (replied n calls results))
+one_made n most seat before after _ _ calls results (Taken call reply lawful room reply_is is) made = refl
+one_made n most seat before after _ _ calls results (NotListed same) made = let no : ⊥ = cc in absurd no
+one_made n most seat before after _ _ calls results (BadRule call unlawful same) made = let no : ⊥ = cc in absurd no
+one_made n most seat before after _ _ calls results (Full call lawful full same) made = let no : ⊥ = cc in absurd no
+one_made n most seat before after _ _ calls results (NoMemory call lawful room same) made = let no : ⊥ = cc in absurd no
+
+-- so there are as many entries as results
+pub all_made : (n : ℕ) (old new : SeatState) (calls : List (Option Call)) (results : List (Result Reply Refusal)) → AreAnswered IsCarriedOut old new calls results
+    → All IsMade results → length (replied n calls results) ≡ length results
+all_made n old new calls results (Ends seat) made = refl
+all_made n old new calls results (Then old' between new' call result calls' results' met rest) made =
+    one_made n old.most old.number met.before between.seen call result calls' results' met.answer (All-head IsMade result results' made)
+    ∙ ap suc (all_made n between new calls' results' rest (All-tail IsMade result results' made))
+
+-- all seats are there that were dealt out
+pub seats_dealt : (hall : HallState) (most count : ℕ) (calls : List (Option Call)) (results : List (Result Reply Refusal)) (seats : List SeatState)
+    → AreSetUp calls results (new_seats hall.table most count) seats → length seats ≡ count
+seats_dealt hall most count calls results seats set =
+    ap length set.others
+    ∙ (length-set (new_seats hall.table most count) 0 set.first
+    ∙ length-map-range_with_len (λ number. record { table = hall.table; most = most; number = number; seen = [] }) 0 count)
+
+-- a hall that was set up with so many entries and seats
+set_up_with : (calls : List (Option Call)) (made : SetUpState) (most count : ℕ) → made.hall.most ≡ most → made.hall.seats ≡ count
+    → AreSetUp calls made.results (new_seats made.hall.table most count) made.seats
+    → AreSetUp calls made.results (new_seats made.hall.table made.hall.most made.hall.seats) made.seats
+set_up_with calls made most count most_is seats_are set =
+    subst (λ n. AreSetUp calls made.results (new_seats made.hall.table made.hall.most n) made.seats) (sym seats_are)
+    (subst (λ n. AreSetUp calls made.results (new_seats made.hall.table n count) made.seats) (sym most_is) set)
+
+-- the failure of a script whose line was refused
+pub refused_line : (bytes : List ℕ) (script : ScriptParts) (made : SetUpState) (count : ℕ) (line : RefusedLine) (failure : RunFailure) → IsScript Run bytes script
+    → made.hall.most ≡ script.max → made.hall.seats ≡ count
+    → AreSetUp (line_changes script.names script.lines) made.results (new_seats made.hall.table script.max count) made.seats
+    → ((calls : List (Option Call)) → AreSetUp calls made.results (new_seats made.hall.table made.hall.most made.hall.seats) made.seats → AreMadeAlone made.hall.most calls made.results)
+    → IsFirstRefused script.numbers made.results line → failure ≡ Refused line → EndsSetUp bytes failure
+refused_line bytes script made count line failure is most_is seats_are set alone first failure_is =
+    let calls : List (Option Call) = line_changes script.names script.lines in
+    subst (EndsSetUp bytes) (sym failure_is) (record {
+      script = script;
+      is = is;
+      results = made.results;
+      alone = subst (λ n. AreMadeAlone n calls made.results) most_is (alone calls (set_up_with calls made script.max count most_is seats_are set));
+      first = first;
+    })
+
+-- a hall that a script has set up, where each change was made
+pub wholly_set_up : (calls : List (Option Call)) (made : SetUpState) (most count : ℕ) → made.hall.most ≡ most → made.hall.seats ≡ count
+    → AreSetUp calls made.results (new_seats made.hall.table most count) made.seats → All IsMade made.results → IsWhollySetUp calls made
+wholly_set_up calls made most count most_is seats_are set changes = record {
+  set_up = set_up_with calls made most count most_is seats_are set;
+  changes = changes;
+  all = seats_dealt made.hall most count calls made.results made.seats set ∙ sym seats_are;
+}
+
+-- the journal of such a hall has an entry for each change
+pub all_entries : (calls : List (Option Call)) (made : SetUpState) (journal : List Entry) → IsWhollySetUp calls made → journal ≡ replied 0 calls made.results
+    → length journal ≡ length made.results
+all_entries calls made journal whole is =
+    let met = whole.set_up.met whole.set_up.first in
+    ap length is ∙ all_made 0 _ whole.set_up.first calls made.results met.done whole.changes
+
+-- loops that have a seat each behind the first are not refused
+no_fault : (loops seats : ℕ) → 1 ≤ loops → loops < seats → run_fault loops seats ≡ None
+no_fault loops seats some enough = grind (arith, nat_tests, some, enough)
+
+-- so that only an allocation can have failed
+only_memory : (calls : List (Option Call)) (made : SetUpState) (fault : RunFault) → IsWhollySetUp calls made → IsLaterFault made fault → fault ≡ faults.NoMemory
+only_memory calls made _ whole NoMemoryLater = refl
+only_memory calls made _ whole (SeatsMissingLater missing) = absurd (missing whole.all)
+
+-- so what holds where there is no such fault holds
+no_such_fault : (X : Type 0) (loops seats : ℕ) → 1 ≤ loops → loops < seats → IfNone (run_fault loops seats) X → X
+no_such_fault X loops seats some enough holds = subst (λ (fault : Option RunFault). IfNone fault X) (no_fault loops seats some enough) holds
+
+-- so that an allocation failed where loops that have seats each were not run
+pub out_of_memory : (calls : List (Option Call)) (made : SetUpState) (loops : ℕ) (fault : RunFault) → IsWhollySetUp calls made → 1 ≤ loops → loops < made.hall.seats
+    → IfNone (run_fault loops (length made.seats)) (IsLaterFault made fault) → fault ≡ faults.NoMemory
+out_of_memory calls made loops fault whole some enough failed =
+    only_memory calls made fault whole (no_such_fault _ loops (length made.seats) some (omega (arith, enough, whole.all)) failed)

@@ -1,0 +1,56 @@
+-- How the command `run` sets its hall up.
+use Rattle.std.specs.Prelude.{ℕ, ◌≡◌, List, [], length, Option, Result}
+use Rattle.std.specs.List.{All}
+use Rattle.desk_core.specs.declared.call.Call.{Call}
+use Rattle.desk_core.specs.declared.entry.Entry.{Entry}
+use Rattle.desk_core.specs.declared.refusal.Refusal.{Refusal}
+use Rattle.desk_core.specs.declared.reply.Reply.{Reply}
+use Rattle.desk_core.specs.Mutation.{AreAnswered, IsAnswered}
+use Rattle.hall.specs.Seats.{new_seats}
+use Rattle.script.specs.Change.{line_changes}
+use Rattle.script.specs.declared.script.Mode.TheVariants.{Run}
+use Rattle.script.specs.Script.{ScriptParts, IsScript, IsScriptFault}
+use Rattle.server.specs.Setup.{SetUpState, AreSetUp}
+use Rattle.live_run.specs.declared.refused_line.RefusedLine.{RefusedLine}
+use Rattle.live_run.specs.RefusedLine.{IsFirstRefused, IsMade}
+use Rattle.commands.specs.declared.run_failure.RunFailure.{RunFailure}
+use Rattle.commands.specs.declared.run_failure.RunFailure.TheVariants.{Read, Script, Refused, Bind, EventLoop, Write, OutOfMemory}
+
+-- a hall whose first seat alone has made changes: these, and each as it was asked for
+pub record IsWhollySetUp (calls : List (Option Call)) (made : SetUpState) : Type 0 where
+  pub set_up : AreSetUp calls made.results (new_seats made.hall.table made.hall.most made.hall.seats) made.seats
+  pub changes : All IsMade made.results
+  pub all : length made.seats ≡ made.hall.seats
+
+-- the bytes are a script to run, and the hall has its names, may have its most entries, has so many seats, and is set up by its lines
+pub record IsSetUpBy (bytes : List ℕ) (seats : ℕ) (made : SetUpState) : Type 0 where
+  pub script : ScriptParts
+  pub is : IsScript Run bytes script
+  pub names : made.hall.names ≡ script.names
+  pub most : made.hall.most ≡ script.max
+  pub seats_are : made.hall.seats ≡ seats
+  pub whole : IsWhollySetUp (line_changes script.names script.lines) made
+
+-- a registry whose history may have so many entries comes to these results where one thread makes these changes, one after the other,
+-- from the empty history on
+pub record AreMadeAlone (most : ℕ) (calls : List (Option Call)) (results : List (Result Reply Refusal)) : Type 0 where
+  pub history : List Entry
+  pub made : AreAnswered (IsAnswered most 0) [] history calls results
+
+-- the bytes are a script to run, and in a registry of its own this is its first line whose change is not made
+pub record IsRefusedLine (bytes : List ℕ) (line : RefusedLine) : Type 0 where
+  pub script : ScriptParts
+  pub is : IsScript Run bytes script
+  pub results : List (Result Reply Refusal)
+  pub alone : AreMadeAlone script.max (line_changes script.names script.lines) results
+  pub first : IsFirstRefused script.numbers results line
+
+-- a failure of the setup: the first fault of the bytes as a script, the first line that is refused, or out of memory
+abbrev pub EndsSetUp : List ℕ → RunFailure → Type 0
+EndsSetUp bytes (Read source cause) = ⊥
+EndsSetUp bytes (Script fault) = IsScriptFault Run bytes fault
+EndsSetUp bytes (Refused line) = IsRefusedLine bytes line
+EndsSetUp bytes (Bind addr cause) = ⊥
+EndsSetUp bytes (EventLoop cause) = ⊥
+EndsSetUp bytes (Write cause) = ⊥
+EndsSetUp bytes OutOfMemory = Unit {0}

@@ -1,0 +1,77 @@
+-- Which option of the command line is read where.
+use Rattle.std.specs.Prelude.{◌≡◌, ◌<◌, ◌⊎◌, ℕ, List, Option, None, Some, Result, codes, unwrap_or, []}
+use Rattle.clap.specs.Words.{first_value, one_text, ReadsOne}
+use Rattle.clap.specs.declared.parser.matches.Found.{Found}
+use Rattle.control_place.specs.declared.place.Place.{Place}
+use Rattle.control_place.specs.Place.{IsPlaceText}
+use Rattle.commands.specs.Bounds.{watches_of}
+use Rattle.commands.specs.declared.bounds.Bounds.{Bounds}
+use Rattle.commands.specs.declared.run_options.BadOption.{BadOption}
+use Rattle.commands.specs.declared.run_options.BadOption.TheVariants.{Listen, Control, Watches}
+use Rattle.commands.specs.declared.run_options.Source.{Source}
+use Rattle.commands.specs.declared.run_options.Source.TheVariants.{StandardInput, File}
+
+-- the path of a script, where it is read from a file
+abbrev pub path_of : Source → Option (List ℕ)
+path_of StandardInput = None
+path_of (File path) = Some path.now
+
+-- the option of this name is read as this value, as its type reads a text: none where there is no such option, or its text is none
+pub record IsReadAs {T E : Type 0} (gives : List ℕ → Result T E → Type 0) (found : Found) (name : List ℕ) (value : Option T) : Type 0 where
+  pub none : one_text found name ≡ None → value ≡ None
+  pub some : (text : List ℕ) → one_text found name ≡ Some text → ReadsOne gives text value
+
+-- the bounds are those of the options `connections` and `watches`, each read as a number
+pub record AreBoundsIn {E : Type 0} (gives : List ℕ → Result ℕ E → Type 0) (found : Found) (bounds : Bounds) : Type 0 where
+  pub connections : Option ℕ
+  pub watches : Option ℕ
+  pub connections_read : IsReadAs gives found (codes "connections") connections
+  pub watches_read : IsReadAs gives found (codes "watches") watches
+  pub connections_are : bounds.connections ≡ unwrap_or connections 1
+  pub watches_are : bounds.watches ≡ watches_of bounds.connections watches
+
+-- the control place is what the option's text says, and there is none exactly where there is no such option
+abbrev pub IsControlIn : Option (List ℕ) → Option Place → Type 0
+IsControlIn None None = Unit {0}
+IsControlIn None (Some place) = ⊥
+IsControlIn (Some text) None = ⊥
+IsControlIn (Some text) (Some place) = IsPlaceText text place
+
+-- the numbers of the options `connections` and `watches` are no bounds: there are no connections, or more Watches than those
+pub record AreTooMany {E : Type 0} (gives : List ℕ → Result ℕ E → Type 0) (found : Found) (watches connections : ℕ) : Type 0 where
+  pub connections_asked : Option ℕ
+  pub watches_asked : Option ℕ
+  pub connections_read : IsReadAs gives found (codes "connections") connections_asked
+  pub watches_read : IsReadAs gives found (codes "watches") watches_asked
+  pub connections_are : connections ≡ unwrap_or connections_asked 1
+  pub watches_are : watches ≡ unwrap_or watches_asked 0
+  pub many : (connections ≡ 0) ⊎ (connections < watches_of connections watches_asked)
+
+-- the option `control` has this text, which names no place
+pub record IsNoControl (found : Found) (text : List ℕ) : Type 0 where
+  pub has : first_value found (codes "control") ≡ Some text
+  pub none : (place : Place) → ¬ IsPlaceText text place
+
+module _ {T A E : Type 0} (addr_gives : List ℕ → Result T A → Type 0) (number_gives : List ℕ → Result ℕ E → Type 0) (found : Found) where
+  -- there is an address to listen at
+  abbrev pub HasListen : Type 0
+  HasListen = (addr : T) × IsReadAs addr_gives found (codes "listen") (Some addr)
+
+  -- the first that is wrong of these: the address to listen at, the place of changes, the bounds
+  abbrev pub IsBadIn : BadOption → Type 0
+  IsBadIn (Listen text) = IsReadAs addr_gives found (codes "listen") None × (text.now ≡ unwrap_or (first_value found (codes "listen")) [])
+  IsBadIn (Control text) = HasListen × IsNoControl found text.now
+  IsBadIn (Watches watches connections) = HasListen × ((place : Option Place) × IsControlIn (first_value found (codes "control")) place)
+      × AreTooMany number_gives found watches connections
+
+-- the bounds alone are wrong
+abbrev pub IsBadBounds : {E : Type 0} → (List ℕ → Result ℕ E → Type 0) → Found → BadOption → Type 0
+IsBadBounds gives found (Listen text) = ⊥
+IsBadBounds gives found (Control text) = ⊥
+IsBadBounds gives found (Watches watches connections) = AreTooMany gives found watches connections
+
+-- the place of changes alone is wrong
+abbrev pub IsBadControl : Found → BadOption → Type 0
+IsBadControl found (Listen text) = ⊥
+IsBadControl found (Control text) = IsNoControl found text.now
+IsBadControl found (Watches watches connections) = ⊥

@@ -1,0 +1,165 @@
+ghost use Rattle.std.specs.Prelude.{◌≡◌, ◌≤◌, length};
+
+use crate::command::port_in;
+use crate::deadline::{Deadline, TimedStream};
+use crate::expect::{exit_status, status_name};
+use crate::fault::Fault;
+use clap::ArgMatches;
+use client::{Ended, Told, ask};
+use std::alloc::{AllocError, Global};
+use std::fmt::Write as _;
+use std::io;
+use std::io::{BufReader, ErrorKind, Write};
+use std::net::{IpAddr, Net, SocketAddr, TcpStream};
+use std::time::{Clock, Duration};
+use web_call::Method;
+
+/// The longest name that is asked for, in bytes.
+const MAX_NAME_LEN: usize = 1_048_576;
+
+/// The command `ask`, which asks the server that listens there. It tells the exit status.
+pub fn run<R>(rt: &R, matches: &ArgMatches<'_>, addr: SocketAddr) -> Result<u8, Fault>
+where
+    R: Print + Clock + AllocGlobal + Net<Stream = TcpStream>,
+{
+    let alloc = rt.alloc();
+    let name = name_in(matches);
+    if name.len() > MAX_NAME_LEN {
+        return Err(Fault::NameTooLong);
+    }
+    let (method, most) = call_in(matches);
+    let told = match timeout_in(matches) {
+        Some(timeout) => ask_within(rt, alloc, addr, timeout, method, name, most)?,
+        None => ask_for_good(rt, alloc, addr, method, name, most)?,
+    };
+    let output = output_of(alloc, &told)?;
+    match io::writer(rt).write_all(&output) {
+        Ok(()) => Ok(exit_status(method, matches.get_str("expect"), &told)),
+        Err(_) => Err(Fault::Write),
+    }
+}
+
+/// Where the server listens, unless the host is no IP address.
+pub fn addr_in(matches: &ArgMatches<'_>) -> Option<SocketAddr> {
+    let host = matches.get_one::<IpAddr>("host")?;
+    Some(SocketAddr::new(host, port_in(matches)))
+}
+
+/// The service that is asked for: the server as a whole where none is named.
+pub fn name_in<'a>(matches: &ArgMatches<'a>) -> &'a str {
+    matches.get_str("name").unwrap_or("")
+}
+
+/// A Watch and the most statuses of it, or a Check.
+pub fn call_in(matches: &ArgMatches<'_>) -> (Method, u32)
+    ensures { 1 ≤ result.1 }
+{
+    match matches.get_one::<u32>("watch") {
+        Some(most) => (Method::Watch, most.max(1)),
+        None => (Method::Check, 1),
+    }
+}
+
+/// How long the whole call may take, if there is a limit.
+pub fn timeout_in(matches: &ArgMatches<'_>) -> Option<Duration> {
+    let seconds = matches.get_one::<u16>("timeout")?;
+    Some(Duration::from_secs(u64::from(seconds)))
+}
+
+/// Asks the server that listens there, and waits without limit.
+pub fn ask_for_good<R: Net<Stream = TcpStream>>(
+    rt: &R,
+    alloc: Global,
+    addr: SocketAddr,
+    method: Method,
+    name: &str,
+    most: u32,
+) -> Result<Told, Fault>
+    requires name { length name.now ≤ 1048576 }
+    requires most { 1 ≤ most }
+{
+    let Ok(stream) = TcpStream::connect(rt, addr) else {
+        return Err(Fault::Connect);
+    };
+    let Ok(mut reader) = BufReader::new(alloc, &stream) else {
+        return Err(Fault::OutOfMemory);
+    };
+    let mut writer = &stream;
+    Ok(ask(alloc, &mut reader, &mut writer, method, name, most)?)
+}
+
+/// Asks the server that listens there, and gives up where the whole call takes longer.
+pub fn ask_within<R: Clock + Net<Stream = TcpStream>>(
+    rt: &R,
+    alloc: Global,
+    addr: SocketAddr,
+    timeout: Duration,
+    method: Method,
+    name: &str,
+    most: u32,
+) -> Result<Told, Fault>
+    requires name { length name.now ≤ 1048576 }
+    requires most { 1 ≤ most }
+{
+    let Ok(deadline) = Deadline::after(rt, timeout) else {
+        return Err(Fault::TimedOut);
+    };
+    let stream = connect_by(rt, addr, deadline)?;
+    let Ok(mut reader) = BufReader::new(alloc, TimedStream::new(rt, &stream, deadline)) else {
+        return Err(Fault::OutOfMemory);
+    };
+    let mut writer = TimedStream::new(rt, &stream, deadline);
+    match ask(alloc, &mut reader, &mut writer, method, name, most) {
+        Ok(told) => Ok(told),
+        Err(_) if reader.get_ref().is_late() || writer.is_late() => Err(Fault::TimedOut),
+        Err(fault) => Err(Fault::Ask(fault)),
+    }
+}
+
+fn connect_by<R: Clock + Net<Stream = TcpStream>>(
+    rt: &R,
+    addr: SocketAddr,
+    deadline: Deadline,
+) -> Result<TcpStream, Fault> {
+    let Ok(left) = deadline.left(rt) else {
+        return Err(Fault::TimedOut);
+    };
+    match TcpStream::connect_timeout(rt, &addr, left) {
+        Ok(stream) => Ok(stream),
+        Err(error) if error.kind() == ErrorKind::TimedOut => Err(Fault::TimedOut),
+        Err(_) => Err(Fault::Connect),
+    }
+}
+
+/// A line for each status, and one for the end of the call if it has one.
+pub fn output_of(alloc: Global, told: &Told) -> Result<Vec<u8>, AllocError> {
+    let mut output = String::new(alloc);
+    for status in &told.statuses {
+        put_status(&mut output, *status)?;
+    }
+    match &told.end {
+        Some(ended) => with_end(output, ended),
+        None => Ok(output.into_bytes()),
+    }
+}
+
+/// A status by its name, or by its number where it has none.
+fn put_status(output: &mut String, status: u64) -> Result<(), AllocError> {
+    match status_name(status) {
+        Some(name) => writeln!(output, "{name}"),
+        None => writeln!(output, "status {status}"),
+    }
+}
+
+fn with_end(mut output: String, ended: &Ended) -> Result<Vec<u8>, AllocError> {
+    let code = ended.code;
+    if code == 0 {
+        output.push_str("grpc-status 0\n")?;
+        return Ok(output.into_bytes());
+    }
+    write!(output, "grpc-status {code} ")?;
+    let mut bytes = output.into_bytes();
+    bytes.extend_from_slice(&ended.text)?;
+    bytes.push(b'\n')?;
+    Ok(bytes)
+}

@@ -1,0 +1,312 @@
+use crate::bounds::MAX_LOOPS;
+use crate::expect::STATUS_NAMES;
+use crate::run_options::BadOption;
+use clap::error::ErrorKind;
+use clap::{Arg, ArgAction, ArgMatches, Command, value_parser};
+use std::alloc::{AllocError, Global};
+
+/// Where servers listen, and clients ask where they are told no other host.
+pub const HOST: &str = "127.0.0.1";
+
+/// The most workers of a server.
+pub const MAX_WORKERS: u16 = 64;
+
+/// The most connections of a server.
+const MAX_CONNECTIONS: i64 = 1_000_000;
+
+const VERSION: &str = "0.1.0";
+
+const SCRIPT_HELP: &str = "\
+A script names the services, says how many changes there may be, and registers them:
+
+  # The whole server, -, is up where the database and the interface are.
+  catalogue db api -
+  max 1000000
+  register db threshold 2
+  register api manual
+  register - depends db api
+
+The word - is the empty name, which is the whole server's. A line that begins with # is a comment. \
+After max there may be these lines, in any order:
+
+  register NAME threshold F [R [unknown]]
+      down from F failures in a row until R passes in a row (R is 1 if omitted);
+      with unknown, its status is UNKNOWN until its first pass or fail
+  register NAME manual
+  register NAME depends NAME..
+      up where all of these services are
+  retire NAME
+  pass NAME, fail NAME
+      for a service with a threshold
+  up NAME, down NAME
+      for a manual service
+  shutdown
+      every service is NOT_SERVING, and pass, fail, up and down are ignored,
+      until resume
+  resume
+      each service begins anew
+
+A change that is not answered done or replaced ends the run before anything listens.";
+
+const TELL_HELP: &str = "\
+Each line has one answer, which is printed before the next line is sent; a line without a byte has none. \
+The exit status is 3 if an answer is one of
+
+  refused .., missing, wrong kind
+      no service was changed
+  bad line, line too long
+      the line was not understood
+
+and 0 if there is no such answer.";
+
+/// The command line. A command that is not listed here is refused with clap's text.
+pub fn command<'a>(alloc: Global) -> Result<Command<'a>, AllocError> {
+    with_scripts(alloc)?
+        .subcommand(run(alloc)?)?
+        .subcommand(ask(alloc)?)?
+        .subcommand(tell(alloc)?)
+}
+
+/// The program, with the commands that read all that they are told from their words and from standard input.
+fn with_scripts<'a>(alloc: Global) -> Result<Command<'a>, AllocError> {
+    let replay = Command::new(alloc, "replay").about(
+        "Run the script on standard input, and print what each of its lines comes to",
+    );
+    Command::new(alloc, "healthd")
+        .about("gRPC's health checking service over gRPC-Web")
+        .version(VERSION)
+        .subcommand_required(true)
+        .subcommand(body(alloc)?)?
+        .subcommand(replay)?
+        .subcommand(serve(alloc)?)
+}
+
+fn body<'a>(alloc: Global) -> Result<Command<'a>, AllocError> {
+    let hex = Arg::new(alloc, "HEX")
+        .help("The body of a Check's request, in hexadecimal, e.g. 0000000000")
+        .required(true);
+    let services = Arg::new(alloc, "SERVICE")
+        .help(
+            "A service and its status, e.g. api=serving, api=not_serving or api=unknown; of two with one name the first counts",
+        )
+        .action(ArgAction::Append)
+        .num_args(0..)
+        .allow_hyphen_values(true);
+    Command::new(alloc, "body")
+        .about("Answer the body of a Check's request with the body of its response")
+        .arg(hex)?
+        .arg(services)
+}
+
+fn serve<'a>(alloc: Global) -> Result<Command<'a>, AllocError> {
+    let workers = Arg::new(alloc, "workers")
+        .long("workers")
+        .value_name("W")
+        .help("How many calls are served at once, 1 to 64, e.g. 4; an open Watch counts")
+        .required(true)
+        .value_parser(value_parser!(u16).range(1..=i64::from(MAX_WORKERS)));
+    let calls = Arg::new(alloc, "calls")
+        .long("calls")
+        .value_name("N")
+        .help("How many connections are served before the server ends, 1 to 1000, e.g. 10")
+        .required(true)
+        .value_parser(value_parser!(u16).range(1..=1_000));
+    Command::new(alloc, "serve")
+        .about("Serve calls on 127.0.0.1 by the script on standard input, and print how each ended")
+        .arg(port(alloc))?
+        .arg(workers)?
+        .arg(calls)
+}
+
+fn run<'a>(alloc: Global) -> Result<Command<'a>, AllocError> {
+    let script = Arg::new(alloc, "script")
+        .long("script")
+        .value_name("FILE")
+        .help("The script of the setup, e.g. /etc/healthd; without it standard input to its end");
+    let threads = Arg::new(alloc, "threads")
+        .long("threads")
+        .value_name("T")
+        .help(
+            "How many event loops serve, 1 to 64, e.g. 4; without it as many as there are processors, 64 at most; there are no more than connections",
+        )
+        .value_parser(value_parser!(u16).range(1..=i64::from(MAX_LOOPS)));
+    Command::new(alloc, "run")
+        .about("Set services up by a script, and serve calls until it is told to stop")
+        .after_help(SCRIPT_HELP)
+        .arg(listen(alloc))?
+        .arg(control(alloc))?
+        .arg(script)?
+        .arg(threads)?
+        .arg(connections(alloc))?
+        .arg(watches(alloc))
+}
+
+fn listen<'a>(alloc: Global) -> Arg<'a> {
+    Arg::new(alloc, "listen")
+        .long("listen")
+        .value_name("ADDR")
+        .help("Where calls are answered: an address and a port, e.g. 0.0.0.0:8080 or [::1]:8080")
+        .default_value("127.0.0.1:8080")
+}
+
+fn control<'a>(alloc: Global) -> Arg<'a> {
+    Arg::new(alloc, "control")
+        .long("control")
+        .value_name("PLACE")
+        .help(
+            "Where changes are asked for, as by healthd tell: a loopback address and a port, e.g. 127.0.0.1:8081, or a path of a Unix socket that only its owner may open, e.g. /run/healthd.sock; without it there are no changes after the script's",
+        )
+}
+
+fn connections<'a>(alloc: Global) -> Arg<'a> {
+    Arg::new(alloc, "connections")
+        .long("connections")
+        .value_name("C")
+        .help("How many connections are open at once, 1 to 1000000, e.g. 500; later ones wait")
+        .default_value("10000")
+        .value_parser(value_parser!(u32).range(1..=MAX_CONNECTIONS))
+}
+
+fn watches<'a>(alloc: Global) -> Arg<'a> {
+    Arg::new(alloc, "watches")
+        .long("watches")
+        .value_name("W")
+        .help(
+            "How many of them may be open Watches, 0 to C, e.g. 400; without it nine tenths of C. One that is opened beyond them is told its status and ended",
+        )
+        .value_parser(value_parser!(u32).range(0..=MAX_CONNECTIONS))
+}
+
+/// The command line of a run that is refused, with the text that clap has for such.
+pub fn bad_option(alloc: Global, bad: BadOption<'_>) -> Result<clap::Error, AllocError> {
+    let message = format!(in alloc; "{bad}")?;
+    run(alloc)?
+        .bin_name("healthd run")?
+        .error(ErrorKind::ValueValidation, &message)
+}
+
+fn ask<'a>(alloc: Global) -> Result<Command<'a>, AllocError> {
+    Command::new(alloc, "ask")
+        .about("Ask a server for the status of a service, and print what it tells")
+        .arg(port(alloc))?
+        .arg(host(alloc))?
+        .arg(name(alloc))?
+        .arg(watch(alloc))?
+        .arg(timeout(alloc))?
+        .arg(expect(alloc))
+}
+
+fn host<'a>(alloc: Global) -> Arg<'a> {
+    Arg::new(alloc, "host")
+        .long("host")
+        .value_name("ADDR")
+        .help("The IP address of the server, e.g. 192.0.2.7 or ::1")
+        .default_value(HOST)
+}
+
+fn name<'a>(alloc: Global) -> Arg<'a> {
+    Arg::new(alloc, "name")
+        .long("name")
+        .value_name("NAME")
+        .help(
+            "The service to ask for, e.g. my.package.Service; without it the empty name, which is the whole server",
+        )
+        .allow_hyphen_values(true)
+}
+
+fn watch<'a>(alloc: Global) -> Arg<'a> {
+    Arg::new(alloc, "watch")
+        .long("watch")
+        .value_name("N")
+        .help(
+            "Watch the service for at most so many statuses, 1 to 1000, e.g. 3; without it one Check",
+        )
+        .value_parser(value_parser!(u32).range(1..=1_000))
+}
+
+fn timeout<'a>(alloc: Global) -> Arg<'a> {
+    Arg::new(alloc, "timeout")
+        .long("timeout")
+        .value_name("S")
+        .help(
+            "How many seconds the whole call may take, 1 to 3600, e.g. 5; without it there is no limit",
+        )
+        .value_parser(value_parser!(u16).range(1..=3_600))
+}
+
+fn expect<'a>(alloc: Global) -> Arg<'a> {
+    Arg::new(alloc, "expect")
+        .long("expect")
+        .value_name("STATUS")
+        .help(
+            "End with exit status 3 unless the last status is this one, e.g. SERVING, and a Check ended with grpc-status 0",
+        )
+        .value_parser(STATUS_NAMES.as_slice())
+}
+
+/// The command line of an `ask` whose host is refused, with the text that clap has for such.
+pub fn bad_host(alloc: Global, host: &str) -> Result<clap::Error, AllocError> {
+    let message = format!(in alloc;
+        "invalid value '{host}' for '--host <ADDR>': not an IP address"
+    )?;
+    ask(alloc)?
+        .bin_name("healthd ask")?
+        .error(ErrorKind::ValueValidation, &message)
+}
+
+fn tell<'a>(alloc: Global) -> Result<Command<'a>, AllocError> {
+    let control = Arg::new(alloc, "control")
+        .long("control")
+        .value_name("PLACE")
+        .help(
+            "Where the server takes changes: a loopback address and a port, e.g. 127.0.0.1:8081, or the path of a Unix socket, e.g. /run/healthd",
+        )
+        .required(true);
+    let words = Arg::new(alloc, "WORD")
+        .help("The words of one line, e.g. fail db; without them the lines of standard input")
+        .action(ArgAction::Append)
+        .num_args(0..)
+        .allow_hyphen_values(true);
+    Command::new(alloc, "tell")
+        .about("Send lines to a server that takes changes while it runs, and print its answers")
+        .after_help(TELL_HELP)
+        .arg(control)?
+        .arg(words)
+}
+
+/// The command line of a `tell` that is refused for this reason, with the text that clap has for such.
+fn bad_tell(alloc: Global, message: &str) -> Result<clap::Error, AllocError> {
+    tell(alloc)?
+        .bin_name("healthd tell")?
+        .error(ErrorKind::ValueValidation, message)
+}
+
+/// The text is no place of a server that takes changes.
+pub fn bad_place(alloc: Global, text: &str) -> Result<clap::Error, AllocError> {
+    let message = format!(in alloc;
+        "invalid value '{text}' for '--control <PLACE>': not a loopback address and a port, nor the path of a socket"
+    )?;
+    bad_tell(alloc, &message)
+}
+
+/// The words are more than one line.
+pub fn bad_words(alloc: Global) -> Result<clap::Error, AllocError> {
+    bad_tell(
+        alloc,
+        "invalid value for '[WORD]...': a line feed within a word",
+    )
+}
+
+fn port<'a>(alloc: Global) -> Arg<'a> {
+    Arg::new(alloc, "port")
+        .long("port")
+        .value_name("P")
+        .help("The port of the server, 1 to 65535, e.g. 8080")
+        .required(true)
+        .value_parser(value_parser!(u16).range(1..))
+}
+
+/// The port that a command is given, which it has to be.
+pub fn port_in(matches: &ArgMatches<'_>) -> u16 {
+    matches.get_one::<u16>("port").unwrap_or(0)
+}

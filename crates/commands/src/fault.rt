@@ -1,0 +1,89 @@
+ghost use Rattle.std.specs.Prelude.{◌≡◌};
+ghost use Rattle.commands.specs.declared.fault.Fault.TheVariants.{OutOfMemory, Script, Ask};
+ghost use Rattle.commands.specs.Fault.{fault_of};
+
+use client::AskFault;
+use crew::CrewWhy;
+use script::ScriptFault;
+use server::ServeFault;
+use std::alloc::{AllocError, AllocFailed};
+use thiserror::Error;
+
+/// What ends a command with status 1. Its text follows `healthd: ` on standard error.
+#[derive(Clone, Copy, Debug, PartialEq, Eq, Error)]
+pub enum Fault {
+    #[error("bad hex")]
+    BadHex,
+    #[error("bad service")]
+    BadService,
+    #[error("{0}")]
+    Script(ScriptFault),
+    #[error("read")]
+    Read,
+    #[error("write")]
+    Write,
+    /// The port can't be listened to, say because another program does.
+    #[error("bind")]
+    Bind,
+    #[error("crew fault {}", .0.number())]
+    Crew(CrewWhy),
+    /// Seats of the hall didn't come back.
+    #[error("seats missing")]
+    SeatsMissing,
+    #[error("name too long")]
+    NameTooLong,
+    /// No program listens to the port.
+    #[error("connect")]
+    Connect,
+    /// The time that a call may take is up.
+    #[error("timed out")]
+    TimedOut,
+    #[error("{0}")]
+    Ask(AskFault),
+    #[error("out of memory")]
+    OutOfMemory,
+}
+
+impl From<AllocError> for Fault {
+    ghost from_gives = { λ _ fault. fault ≡ OutOfMemory };
+
+    fn from(_error: AllocError) -> Fault {
+        Fault::OutOfMemory
+    }
+}
+
+impl<T: Drop> From<AllocFailed<T>> for Fault {
+    ghost from_gives = { λ _ fault. fault ≡ OutOfMemory };
+
+    fn from(_error: AllocFailed<T>) -> Fault {
+        Fault::OutOfMemory
+    }
+}
+
+impl From<ScriptFault> for Fault {
+    ghost from_gives = { λ script fault. fault ≡ Script script };
+
+    fn from(fault: ScriptFault) -> Fault {
+        Fault::Script(fault)
+    }
+}
+
+impl From<AskFault> for Fault {
+    ghost from_gives = { λ asked fault. fault ≡ Ask asked };
+
+    fn from(fault: AskFault) -> Fault {
+        Fault::Ask(fault)
+    }
+}
+
+impl From<ServeFault> for Fault {
+    ghost from_gives = { λ served fault. fault ≡ fault_of served };
+
+    fn from(fault: ServeFault) -> Fault {
+        match fault {
+            ServeFault::Crew(why) => Fault::Crew(why),
+            ServeFault::SeatsMissing => Fault::SeatsMissing,
+            ServeFault::NoMemory => Fault::OutOfMemory,
+        }
+    }
+}

@@ -1,0 +1,42 @@
+//! The commands of healthd: what each reads of its words, what it does, and what it prints.
+//!
+//! # A caller
+//!
+//! ```rust
+//! #![tactic(auto)]
+//!
+//! ghost use Rattle.std.specs.Prelude.{IfOk};
+//! ghost use Rattle.commands.specs.Replay.{Replays};
+//!
+//! use commands::fault::Fault;
+//! use commands::replay::replay;
+//! use probe_core::{Maker, Probe};
+//! use std::alloc::Global;
+//!
+//! /// What a script of one service comes to.
+//! pub fn replay_one<P: Probe, M: Maker<P>>(alloc: Global, maker: &M, script: &[u8]) -> Result<Vec<u8>, Fault>
+//!     ensures { IfOk result (λ output. Replays script.now output.items) }
+//! {
+//!     replay(alloc, maker, script)
+//! }
+//! ```
+#![tactic(auto)]
+
+pub mod answer;
+pub mod ask;
+pub mod body;
+pub mod bounds;
+pub mod cause;
+pub mod command;
+pub mod deadline;
+pub mod expect;
+pub mod fault;
+pub mod input;
+pub mod replay;
+pub mod run;
+pub mod run_failure;
+pub mod run_options;
+pub mod serve;
+pub mod service;
+pub mod tell;
+pub mod tell_failure;

@@ -1,0 +1,386 @@
+ghost use Rattle.std.specs.Net.Text.{socket_text};
+ghost use Rattle.std.specs.Prelude.{◌≡◌, ◌↔◌, ◌≤◌, ◌<◌, ◌++◌, List, Option, IfOk, IfErr, IsNone, IsSome, codes, decimal, length, string_bytes, vec_len};
+ghost use Rattle.desk_core.specs.declared.call.Call.{Call};
+ghost use Rattle.desk_core.specs.Past.{past};
+ghost use Rattle.hall.specs.Seats.{new_seats};
+ghost use Rattle.server.specs.Setup.{AreSetUp};
+ghost use Rattle.live_run.specs.Loops.{HaveServedAll};
+ghost use Rattle.control_place.specs.Place.{place_text};
+ghost use Rattle.live_run.specs.WholeRun.{HasRun, HasRunLoops};
+ghost use Rattle.live_run.specs.declared.run_fault.RunFault.TheVariants.{NoMemory};
+ghost use Rattle.commands.specs.declared.run_failure.RunFailure.TheVariants.{OutOfMemory, Refused};
+ghost use Rattle.commands.specs.Run.{AreMadeAlone, EndsSetUp, IsSetUpBy, IsWhollySetUp};
+
+use crate::bounds::MAX_LOOPS;
+use crate::input::read_script_bytes;
+use crate::run_failure::{RunFailure, failure_by};
+use crate::run_options::{RunOptions, Source};
+use control_place::{ControlListener, Place};
+use control_server::{ControlServer, MAX_SESSIONS};
+use desk_core::KeepMany;
+use live_run::{Ran, RefusedLine, RunFault, first_refused, run_live};
+use live_server::{EventServer, Limits, News, Tally};
+use probe_core::{Maker, Probe};
+use script::{Mode, read_script};
+use server::{SetUpHall, hall_of};
+use std::alloc::{AllocError, Global};
+use std::net::{Net, SocketAddr, TcpListener, TcpStream};
+use std::rt::Files;
+use std::sync::{Arc, Wait};
+use std::thread::Threads;
+use std::time::Clock;
+use std::{fs, io, thread};
+
+/// The command `run`, with the probes that `maker` gives. It ends where a session asks for it, or a signal ends the process.
+pub fn run<'a, R, P: Probe + Send, M: Maker<P> + Sync>(
+    rt: &R,
+    maker: &M,
+    options: RunOptions<'a>,
+) -> Result<(), RunFailure<'a>>
+where
+    R: Input
+        + Print
+        + AllocGlobal
+        + Files
+        + Clock
+        + Wait
+        + Threads
+        + Sync
+        + Net<Listener = TcpListener, Stream = TcpStream>,
+{
+    let alloc = rt.alloc();
+    let bytes = script_bytes(rt, alloc, options.script)?;
+    let threads = options.threads.unwrap_or_else(|| processors(rt));
+    let loops = options.bounds.loops(threads);
+    let made = set_up(rt, alloc, maker, &bytes, loops + 1 + MAX_SESSIONS)?;
+    let Begun {
+        servers,
+        news,
+        control,
+    } = begin(rt, alloc, &made, options, loops)?;
+    let ran = serve_to_end(rt, alloc, made, servers, control, maker, &news)?;
+    remove_socket(rt, &ran);
+    print_line(rt, &journal_line(alloc, &ran)?)
+}
+
+/// What listens, and has told where.
+#[derive(Drop)]
+pub struct Begun {
+    pub servers: Vec<EventServer>,
+    pub news: News,
+    pub control: Option<ControlServer>,
+}
+
+/// Listens at both places with so many loops, for a hall that is set up, and prints the lines that tell so.
+pub fn begin<'a, R, P: Probe>(
+    rt: &R,
+    alloc: Global,
+    made: &SetUpHall<P, KeepMany>,
+    options: RunOptions<'a>,
+    loops: u16,
+) -> Result<Begun, RunFailure<'a>>
+where
+    R: Print + Files + Clock + Net<Listener = TcpListener, Stream = TcpStream>,
+    requires set_up { (calls : List (Option Call)) × IsWhollySetUp calls made.now }
+    requires some { 1 ≤ loops }
+    requires served { loops ≤ options.bounds.connections }
+    ensures each { IfOk result (λ begun. vec_len begun.servers ≡ loops) }
+    ensures controlled { IfOk result (λ begun. IsSome begun.control ↔ IsSome options.entry.control) }
+{
+    let shares = options.bounds.shares(alloc, loops)?;
+    let listener = listen(rt, made, options.listen)?;
+    let place = control_at(rt, alloc, made, options.control)?;
+    // Each loop has the socket too, and closes it at the end, so that clients which come late are refused.
+    let (servers, news) = event_loops(rt, alloc, &listener, &shares)?;
+    let place_line = place_line(alloc, &place)?;
+    let control = control_loop(rt, alloc, place, &servers)?;
+    tell_places(rt, alloc, &listener, options.listen, place_line)?;
+    Ok(Begun {
+        servers,
+        news,
+        control,
+    })
+}
+
+/// As many as the system lets this process use, and no more than a server has loops.
+fn processors<R: Threads>(rt: &R) -> u16
+    ensures range { (1 ≤ result) × (result ≤ 64) }
+{
+    match thread::available_parallelism(rt) {
+        Ok(count) => u16::try_from(count.get())
+            .unwrap_or(MAX_LOOPS)
+            .min(MAX_LOOPS),
+        Err(_) => 1,
+    }
+}
+
+pub fn script_bytes<'a, R: Input + Files>(
+    rt: &R,
+    alloc: Global,
+    source: Source<'a>,
+) -> Result<Vec<u8>, RunFailure<'a>> {
+    let read = match source {
+        Source::StandardInput => read_script_bytes(alloc, rt.reader()),
+        Source::File(path) => match fs::open(rt, path) {
+            Ok(file) => read_script_bytes(alloc, file),
+            Err(error) => Err(error),
+        },
+    };
+    match read {
+        Ok(bytes) => Ok(bytes),
+        Err(error) => Err(failure_by(error, |cause| RunFailure::Read(source, cause))),
+    }
+}
+
+/// A hall that the script has set up, with so many seats. It keeps the newest of its entries and status changes.
+pub fn set_up<'a, R: Wait, P: Probe, M: Maker<P>>(
+    rt: &R,
+    alloc: Global,
+    maker: &M,
+    bytes: &[u8],
+    seats: u16,
+) -> Result<SetUpHall<P, KeepMany>, RunFailure<'a>>
+    requires some { 1 ≤ seats }
+    requires not_too_many { seats ≤ 1024 }
+    ensures ok { IfOk result (IsSetUpBy bytes.now seats) }
+    ensures failure { IfErr result (EndsSetUp bytes.now) }
+{
+    let script = read_script(alloc, bytes, Mode::Run)?;
+    let numbers = Vec::from_slice(alloc, script.numbers())?;
+    let made = hall_of(rt, alloc, script, maker, seats)?;
+    match first_refused(&numbers, made.results()) {
+        Some(line) => Err(refused(made, line)),
+        None => Ok(made),
+    }
+}
+
+/// The failure of a setup of which a change was not made. The hall is closed, which shows that nobody else has changed it.
+fn refused<'a, P: Probe>(made: SetUpHall<P, KeepMany>, line: RefusedLine) -> RunFailure<'a>
+    requires whole { length made.seats ≡ made.hall.seats }
+    requires some { 1 ≤ made.hall.seats }
+    ensures value { result ≡ Refused line }
+    ensures alone { (calls : List (Option Call)) → AreSetUp calls made.results (new_seats made.hall.table made.hall.most made.hall.seats) made.seats
+        → AreMadeAlone made.hall.most calls made.results }
+{
+    let (hall, seats) = made.into_hall();
+    match hall.close(seats) {
+        Ok(_) => RunFailure::Refused(line),
+        Err(_) => unreachable!(),
+    }
+}
+
+/// A socket that listens and does not wait, for a hall that is set up.
+pub fn listen<'a, R, P: Probe>(
+    rt: &R,
+    _made: &SetUpHall<P, KeepMany>,
+    addr: SocketAddr,
+) -> Result<TcpListener, RunFailure<'a>>
+where
+    R: Net<Listener = TcpListener, Stream = TcpStream>,
+    // nothing is bound before
+    requires set_up { (calls : List (Option Call)) × IsWhollySetUp calls _made.now }
+{
+    match mio::net::TcpListener::bind(rt, addr) {
+        Ok(listener) => Ok(TcpListener::from(listener)),
+        Err(error) => Err(bind_failure(error, Place::Address(addr))),
+    }
+}
+
+fn bind_failure<'a>(error: io::Error, place: Place<'a>) -> RunFailure<'a> {
+    failure_by(error, |cause| RunFailure::Bind(place, cause))
+}
+
+/// A socket that listens at the control place, if there is one, for a hall that is set up.
+pub fn control_at<'a, R: Files + Net, P: Probe>(
+    rt: &R,
+    alloc: Global,
+    _made: &SetUpHall<P, KeepMany>,
+    place: Option<Place<'a>>,
+) -> Result<Option<ControlListener>, RunFailure<'a>>
+    // nothing is bound before
+    requires set_up { (calls : List (Option Call)) × IsWhollySetUp calls _made.now }
+    ensures some { IfOk result (λ listener. IsSome listener ↔ IsSome place.entry) }
+{
+    let Some(place) = place else {
+        return Ok(None);
+    };
+    match ControlListener::bind(rt, alloc, place) {
+        Ok(listener) => Ok(Some(listener)),
+        Err(error) => Err(bind_failure(error, place)),
+    }
+}
+
+/// Prints where the socket listens, which tells the port that the system picked for port 0, and the line of the control place, if there
+/// is one.
+fn tell_places<'a, R: Print>(
+    rt: &R,
+    alloc: Global,
+    listener: &TcpListener,
+    asked: SocketAddr,
+    place_line: Option<String>,
+) -> Result<(), RunFailure<'a>> {
+    match listener.local_addr() {
+        Ok(addr) => print_line(rt, &listening_line(alloc, addr)?)?,
+        Err(error) => return Err(bind_failure(error, Place::Address(asked))),
+    }
+    match place_line {
+        Some(line) => print_line(rt, &line),
+        None => Ok(()),
+    }
+}
+
+/// The line that tells where calls are answered.
+pub fn listening_line(alloc: Global, addr: SocketAddr) -> Result<String, AllocError>
+    ensures { IfOk result (λ line. string_bytes line ≡ codes "listening " ++ socket_text addr) }
+{
+    format!(in alloc; "listening {addr}")
+}
+
+/// The line that tells where changes are asked for, if they are.
+fn place_line<'a>(
+    alloc: Global,
+    listener: &Option<ControlListener>,
+) -> Result<Option<String>, RunFailure<'a>> {
+    let Some(listener) = listener else {
+        return Ok(None);
+    };
+    match listener.place() {
+        Ok(place) => Ok(Some(control_line(alloc, place)?)),
+        Err(error) => Err(failure_by(error, RunFailure::EventLoop)),
+    }
+}
+
+/// The line that tells where changes are asked for.
+fn control_line(alloc: Global, place: Place<'_>) -> Result<String, AllocError>
+    ensures { IfOk result (λ line. string_bytes line ≡ codes "control " ++ place_text place.entry) }
+{
+    format!(in alloc; "control {place}")
+}
+
+/// The line that tells how many entries the history has.
+fn journal_line<P: Probe>(alloc: Global, ran: &Ran<P, KeepMany>) -> Result<String, AllocError>
+    ensures { IfOk result (λ line. string_bytes line ≡ codes "journal " ++ decimal (length ran.now.desk.journal)) }
+{
+    let entries = ran.entries();
+    format!(in alloc; "journal {entries}")
+}
+
+fn print_line<'a, R: Print>(rt: &R, line: &str) -> Result<(), RunFailure<'a>> {
+    match println!(rt; "{line}") {
+        Ok(()) => Ok(()),
+        Err(error) => Err(failure_by(error, RunFailure::Write)),
+    }
+}
+
+/// A loop for each share, and what tells them news.
+pub fn event_loops<'a, R>(
+    rt: &R,
+    alloc: Global,
+    listener: &TcpListener,
+    shares: &[Limits],
+) -> Result<(Vec<EventServer>, News), RunFailure<'a>>
+where
+    R: Clock + Net<Listener = TcpListener, Stream = TcpStream>,
+    ensures each { IfOk result (λ made. vec_len made.0 ≡ length shares.now) }
+{
+    match loops_with(rt, alloc, listener, shares) {
+        Ok(made) => Ok(made),
+        Err(error) => Err(failure_by(error, RunFailure::EventLoop)),
+    }
+}
+
+fn loops_with<R>(
+    rt: &R,
+    alloc: Global,
+    listener: &TcpListener,
+    shares: &[Limits],
+) -> io::Result<(Vec<EventServer>, News)>
+where
+    R: Clock + Net<Listener = TcpListener, Stream = TcpStream>,
+    ensures each { IfOk result (λ made. vec_len made.0 ≡ length shares.now) }
+{
+    let mut servers = Vec::new(alloc);
+    let mut wakers = Vec::new(alloc);
+    for limits in shares {
+        let listener = mio::net::TcpListener::from_std(listener.try_clone()?);
+        let server = EventServer::new(rt, alloc, listener, *limits)?;
+        wakers.push(server.waker()?)?;
+        servers.push(server)?;
+    }
+    Ok((servers, News::new(wakers)))
+}
+
+/// A loop over the sessions of a control place, if there is one.
+pub fn control_loop<'a, R: Clock + Net>(
+    rt: &R,
+    alloc: Global,
+    listener: Option<ControlListener>,
+    servers: &[EventServer],
+) -> Result<Option<ControlServer>, RunFailure<'a>>
+    ensures some { IfOk result (λ control. IsSome control ↔ IsSome listener) }
+{
+    let Some(listener) = listener else {
+        return Ok(None);
+    };
+    let tallies = tallies_of(alloc, servers)?;
+    match ControlServer::new(rt, alloc, listener, tallies) {
+        Ok(control) => Ok(Some(control)),
+        Err(error) => Err(failure_by(error, RunFailure::EventLoop)),
+    }
+}
+
+/// What the loops count while they serve.
+fn tallies_of(alloc: Global, servers: &[EventServer]) -> Result<Vec<Arc<Tally>>, AllocError> {
+    let mut tallies = Vec::with_capacity(alloc, servers.len())?;
+    for server in servers {
+        tallies.push(server.tally()?)?;
+    }
+    Ok(tallies)
+}
+
+/// Serves until `news` tells that all is to end, and gives back what is left of the hall then.
+pub fn serve_to_end<'a, R, P: Probe + Send, M: Maker<P> + Sync>(
+    rt: &R,
+    alloc: Global,
+    made: SetUpHall<P, KeepMany>,
+    servers: Vec<EventServer>,
+    control: Option<ControlServer>,
+    maker: &M,
+    news: &News,
+) -> Result<Ran<P, KeepMany>, RunFailure<'a>>
+where
+    R: Clock + Wait + Threads + Sync,
+    requires set_up { (calls : List (Option Call)) × IsWhollySetUp calls made }
+    requires some { 1 ≤ vec_len servers }
+    requires enough { vec_len servers < made.hall.seats }
+    ensures servers { IfOk result (λ ran. HaveServedAll servers.items ran.servers.items) }
+    // nothing but the setup and the lines of sessions makes changes
+    ensures ran { IfOk result (λ ran. HasRun made.hall (vec_len servers) made.seats (past ran.desk.journal)) }
+    ensures alone { IsNone control → IfOk result (λ ran. HasRunLoops made.hall (vec_len servers) made.seats (past ran.desk.journal)) }
+    ensures entries { IsNone control → IfOk result (λ ran. length ran.desk.journal ≡ length made.results) }
+    ensures sessions { IfOk result (λ ran. IsSome ran.sessions ↔ IsSome control) }
+    ensures failure { IfErr result (λ failure. failure ≡ OutOfMemory) }
+{
+    match run_live(rt, alloc, made, servers, control, maker, news) {
+        Ok(ran) => Ok(ran),
+        Err(fault) => Err(failure_to_run(fault)),
+    }
+}
+
+/// Takes the file of the control place's socket away, if it has one. Where it stays, the next server takes it over.
+pub fn remove_socket<R: Files, P: Probe>(rt: &R, ran: &Ran<P, KeepMany>) {
+    if let Some(sessions) = &ran.sessions {
+        let _ = sessions.remove_file(rt);
+    }
+}
+
+/// The one failure of loops that have seats, all of which come back.
+fn failure_to_run<'a>(fault: RunFault) -> RunFailure<'a>
+    requires { fault ≡ NoMemory }
+    ensures { result ≡ OutOfMemory }
+{
+    match fault {
+        RunFault::NoMemory => RunFailure::OutOfMemory,
+        RunFault::NoLoops | RunFault::NoSeats | RunFault::SeatsMissing => unreachable!(),
+    }
+}

@@ -1,0 +1,135 @@
+ghost use Rattle.std.specs.Prelude.{◌≡◌, Some, IfOk, IfErr, codes};
+ghost use Rattle.clap.specs.Words.{found_of, first_value};
+ghost use Rattle.commands.specs.RunOptions.{AreBoundsIn, IsBadBounds, IsBadControl, IsBadIn, IsControlIn, IsReadAs, path_of};
+
+use crate::bounds::{Bounds, bounds_of};
+use clap::ArgMatches;
+use control_place::Place;
+use std::fmt;
+use std::net::SocketAddr;
+use std::str::FromStr;
+
+/// Where the script of a run is read from.
+#[derive(Clone, Copy, Debug, PartialEq, Eq)]
+pub enum Source<'a> {
+    StandardInput,
+    File(&'a str),
+}
+
+impl fmt::Display for Source<'_> {
+    fn fmt<W: fmt::Write>(&self, f: &mut fmt::Formatter<W>) -> fmt::Result {
+        match *self {
+            Source::StandardInput => f.write_str("standard input"),
+            Source::File(path) => f.write_str(path),
+        }
+    }
+}
+
+/// What the command `run` is told.
+#[derive(Clone, Copy, Debug, PartialEq, Eq)]
+pub struct RunOptions<'a> {
+    pub listen: SocketAddr,
+    /// Where changes are asked for, if they are.
+    pub control: Option<Place<'a>>,
+    pub script: Source<'a>,
+    /// How many event loops. Without it there are as many as processors.
+    pub threads: Option<u16>,
+    pub bounds: Bounds,
+}
+
+/// Why the options of a run are refused, where each by itself is one.
+#[derive(Clone, Copy, Debug, PartialEq, Eq)]
+pub enum BadOption<'a> {
+    /// The text is no address with a port.
+    Listen(&'a str),
+    /// The text is no loopback address with a port, and no path of a socket.
+    Control(&'a str),
+    /// More Watches than connections.
+    Watches { watches: u32, connections: u32 },
+}
+
+impl fmt::Display for BadOption<'_> {
+    fn fmt<W: fmt::Write>(&self, f: &mut fmt::Formatter<W>) -> fmt::Result {
+        match *self {
+            BadOption::Listen(text) => write!(
+                f,
+                "invalid value '{text}' for '--listen <ADDR>': not an address and a port"
+            ),
+            BadOption::Control(text) => write!(
+                f,
+                "invalid value '{text}' for '--control <PLACE>': not a loopback address and a port, and no path of a socket that begins with '/'"
+            ),
+            BadOption::Watches {
+                watches,
+                connections,
+            } => write!(
+                f,
+                "invalid value '{watches}' for '--watches <W>': more than the {connections} connections"
+            ),
+        }
+    }
+}
+
+impl<'a> RunOptions<'a> {
+    /// Reads what the command line has, where each number is in its range.
+    pub fn read(matches: &ArgMatches<'a>) -> Result<RunOptions<'a>, BadOption<'a>>
+        ensures listen { IfOk result (λ options. IsReadAs ⟦<SocketAddr as FromStr>⟧.from_str_gives (found_of matches.now) (codes "listen") (Some options.listen)) }
+        ensures control { IfOk result (λ options. IsControlIn (first_value (found_of matches.now) (codes "control")) options.control) }
+        ensures script { IfOk result (λ options. path_of options.script ≡ first_value (found_of matches.now) (codes "script")) }
+        ensures threads { IfOk result (λ options. IsReadAs ⟦<u16 as FromStr>⟧.from_str_gives (found_of matches.now) (codes "threads") options.threads) }
+        ensures bounds { IfOk result (λ options. AreBoundsIn ⟦<u32 as FromStr>⟧.from_str_gives (found_of matches.now) options.bounds) }
+        ensures bad { IfErr result (IsBadIn ⟦<SocketAddr as FromStr>⟧.from_str_gives ⟦<u32 as FromStr>⟧.from_str_gives (found_of matches.now)) }
+    {
+        let Some(listen) = matches.get_one::<SocketAddr>("listen") else {
+            return Err(BadOption::Listen(matches.get_str("listen").unwrap_or("")));
+        };
+        let control = control_in(matches)?;
+        let bounds = bounds_in(matches)?;
+        Ok(RunOptions {
+            listen,
+            control,
+            script: source_in(matches),
+            threads: matches.get_one::<u16>("threads"),
+            bounds,
+        })
+    }
+}
+
+fn source_in<'a>(matches: &ArgMatches<'a>) -> Source<'a>
+    ensures { path_of result ≡ first_value (found_of matches.now) (codes "script") }
+{
+    match matches.get_str("script") {
+        Some(path) => Source::File(path),
+        None => Source::StandardInput,
+    }
+}
+
+/// The place that a command line names, if it names one.
+pub fn control_in<'a>(matches: &ArgMatches<'a>) -> Result<Option<Place<'a>>, BadOption<'a>>
+    ensures control { IfOk result (IsControlIn (first_value (found_of matches.now) (codes "control"))) }
+    ensures bad { IfErr result (IsBadControl (found_of matches.now)) }
+{
+    let Some(text) = matches.get_str("control") else {
+        return Ok(None);
+    };
+    match Place::read(text) {
+        Some(place) => Ok(Some(place)),
+        None => Err(BadOption::Control(text)),
+    }
+}
+
+/// A number that clap has read is in its range, so that only Watches can be too many.
+fn bounds_in<'a>(matches: &ArgMatches<'_>) -> Result<Bounds, BadOption<'a>>
+    ensures bounds { IfOk result (AreBoundsIn ⟦<u32 as FromStr>⟧.from_str_gives (found_of matches.now)) }
+    ensures bad { IfErr result (IsBadBounds ⟦<u32 as FromStr>⟧.from_str_gives (found_of matches.now)) }
+{
+    let connections = matches.get_one::<u32>("connections").unwrap_or(1);
+    let watches = matches.get_one::<u32>("watches");
+    match bounds_of(connections, watches) {
+        Some(bounds) => Ok(bounds),
+        None => Err(BadOption::Watches {
+            watches: watches.unwrap_or(0),
+            connections,
+        }),
+    }
+}

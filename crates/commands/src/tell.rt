@@ -1,0 +1,178 @@
+ghost use Rattle.std.specs.Prelude.{◌≡◌, ◌↔◌, ◌⊎◌, IfOk, OnOk};
+ghost use Rattle.std.specs.Io.KnownBytes.{Appends};
+ghost use Rattle.control_client.specs.Answer.{IsRefused};
+ghost use Rattle.control_client.specs.Line.{IsPartOfLine, ended};
+
+use crate::cause::Cause;
+use crate::expect::{DONE, UNMET};
+use crate::tell_failure::{TellFailure, failure_at};
+use clap::ArgMatches;
+use control_client::{LINE_ROOM, LineEnd, TellFault, is_refused, is_turned_away, read_line, tell};
+use control_place::{ControlClient, Place, connect};
+use std::alloc::{AllocError, Global};
+use std::io;
+use std::io::{BufReader, ErrorKind, Read, Write};
+use std::net::{Net, TcpStream};
+
+/// The place that is told, unless the text is none.
+pub fn place_in<'a>(matches: &ArgMatches<'a>) -> Option<Place<'a>> {
+    Place::read(matches.get_str("control")?)
+}
+
+/// The words of the line that is told, parted by a space. Without words, lines are read.
+pub fn line_in(alloc: Global, matches: &ArgMatches<'_>) -> Result<Option<String>, AllocError> {
+    let Some((first, others)) = matches.get_strs("WORD").unwrap_or(&[]).split_first() else {
+        return Ok(None);
+    };
+    let mut line = String::from_str(alloc, first)?;
+    for word in others {
+        line.push(' ')?;
+        line.push_str(word)?;
+    }
+    Ok(Some(line))
+}
+
+/// The command `tell` with words, which come to this line. It tells the exit status.
+pub fn run_line<'a, R>(rt: &R, place: Place<'a>, line: &[u8]) -> Result<u8, TellFailure<'a>>
+where
+    R: Print + AllocGlobal + Net<Stream = TcpStream>,
+    requires one_line { IsPartOfLine line.now }
+{
+    let alloc = rt.alloc();
+    let client = connect_to(rt, place)?;
+    let Ok(mut reader) = BufReader::new(alloc, &client) else {
+        return Err(TellFailure::OutOfMemory);
+    };
+    let mut writer = &client;
+    let mut output = io::writer(rt);
+    tell_line(alloc, place, &mut reader, &mut writer, &mut output, line)
+}
+
+/// The command `tell` without words. It tells the exit status.
+pub fn run_input<'a, R>(rt: &R, place: Place<'a>) -> Result<u8, TellFailure<'a>>
+where
+    R: Input + Print + AllocGlobal + Net<Stream = TcpStream>,
+{
+    let alloc = rt.alloc();
+    let client = connect_to(rt, place)?;
+    let Ok(mut reader) = BufReader::new(alloc, &client) else {
+        return Err(TellFailure::OutOfMemory);
+    };
+    let Ok(mut input) = BufReader::new(alloc, rt.reader()) else {
+        return Err(TellFailure::OutOfMemory);
+    };
+    let mut writer = &client;
+    let mut output = io::writer(rt);
+    tell_lines(
+        alloc,
+        place,
+        &mut input,
+        &mut reader,
+        &mut writer,
+        &mut output,
+    )
+}
+
+fn connect_to<'a, R: Net<Stream = TcpStream>>(
+    rt: &R,
+    place: Place<'a>,
+) -> Result<ControlClient, TellFailure<'a>> {
+    match connect(rt, place) {
+        Ok(client) => Ok(client),
+        Err(error) => Err(TellFailure::Connect(place, Cause::from(error))),
+    }
+}
+
+/// Tells each line of an input, one after the other. It tells the greatest exit status of their answers.
+pub fn tell_lines<'a, I: Read, R: Read, W: Write, O: Write>(
+    alloc: Global,
+    place: Place<'a>,
+    input: &mut I,
+    reader: &mut R,
+    writer: &mut W,
+    output: &mut O,
+) -> Result<u8, TellFailure<'a>> {
+    let mut line = Vec::with_capacity(alloc, LINE_ROOM)?;
+    let mut status = DONE;
+    for _ in 0..u64::MAX {
+        line.clear();
+        let end = match read_line(input, &mut line) {
+            Ok(end) => end,
+            Err(error) => return Err(TellFailure::Input(Cause::from(error))),
+        };
+        if end == LineEnd::TooLong {
+            return Err(TellFailure::InputTooLong);
+        }
+        if end == LineEnd::Input && line.is_empty() {
+            return Ok(status);
+        }
+        status = status.max(tell_line(alloc, place, reader, writer, output, &line)?);
+    }
+    Ok(status)
+}
+
+/// Tells a line, and prints its answer. It tells the exit status.
+pub fn tell_line<'a, R: Read, W: Write, O: Write>(
+    alloc: Global,
+    place: Place<'a>,
+    reader: &mut R,
+    writer: &mut W,
+    output: &mut O,
+    line: &[u8],
+) -> Result<u8, TellFailure<'a>>
+    requires one_line { IsPartOfLine line.now }
+{
+    match tell(alloc, reader, writer, line) {
+        Ok(Some(answer)) => print_answer(output, answer),
+        Ok(None) => Ok(DONE),
+        Err(TellFault::Write(error)) => match last_answer(alloc, reader, error.kind()) {
+            Some(answer) => print_answer(output, answer),
+            None => Err(TellFailure::Send(place, Cause::from(error))),
+        },
+        Err(fault) => Err(failure_at(place, fault)),
+    }
+}
+
+/// What a server that has closed the session had said before.
+fn last_answer<R: Read>(alloc: Global, reader: &mut R, kind: ErrorKind) -> Option<Vec<u8>> {
+    match kind {
+        ErrorKind::BrokenPipe | ErrorKind::ConnectionReset => {}
+        _ => return None,
+    }
+    let mut line = Vec::with_capacity(alloc, LINE_ROOM).ok()?;
+    match read_line(reader, &mut line) {
+        Ok(LineEnd::LineFeed) => Some(line),
+        _ => None,
+    }
+}
+
+/// Prints an answer, and tells the exit status.
+fn print_answer<'a, O: Write>(output: &mut O, answer: Vec<u8>) -> Result<u8, TellFailure<'a>>
+    ensures status { IfOk result (λ status. (status ≡ 3) ↔ IsRefused answer.items) }
+    ensures one_of_two { IfOk result (λ status. (status ≡ 0) ⊎ (status ≡ 3)) }
+    ensures printed { OnOk result (Appends (O.contents output.old) (O.contents output.new) (ended answer.items)) }
+{
+    if is_turned_away(&answer) {
+        return Err(TellFailure::TurnedAway);
+    }
+    let status = status_of(&answer);
+    match print_line(output, answer) {
+        Ok(()) => Ok(status),
+        Err(error) => Err(TellFailure::Write(Cause::from(error))),
+    }
+}
+
+fn status_of(answer: &[u8]) -> u8
+    ensures refused { (result ≡ 3) ↔ IsRefused answer.now }
+    ensures one_of_two { (result ≡ 0) ⊎ (result ≡ 3) }
+{
+    if is_refused(answer) { UNMET } else { DONE }
+}
+
+fn print_line<O: Write>(output: &mut O, mut line: Vec<u8>) -> io::Result<()>
+    ensures { OnOk result (Appends (O.contents output.old) (O.contents output.new) (ended line.items)) }
+{
+    line.push(b'\n')?;
+    output.write_all(&line)?;
+    output.flush()
+}

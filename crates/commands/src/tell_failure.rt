@@ -1,0 +1,62 @@
+ghost use Rattle.std.specs.Prelude.{◌≡◌};
+ghost use Rattle.commands.specs.declared.tell_failure.TellFailure.TheVariants.{OutOfMemory};
+
+use crate::cause::Cause;
+use control_client::TellFault;
+use control_place::Place;
+use std::alloc::{AllocError, AllocFailed};
+use thiserror::Error;
+
+/// What ends the command `tell` with status 1. Its text follows `healthd: ` on standard error.
+#[derive(Clone, Copy, Debug, PartialEq, Eq, Error)]
+pub enum TellFailure<'a> {
+    #[error("connect {0}: {1}")]
+    Connect(Place<'a>, Cause),
+    #[error("write {0}: {1}")]
+    Send(Place<'a>, Cause),
+    #[error("read {0}: {1}")]
+    Receive(Place<'a>, Cause),
+    /// The server ended the session before it answered.
+    #[error("no answer")]
+    NoAnswer,
+    #[error("answer too long")]
+    AnswerTooLong,
+    /// The server has as many sessions as it may.
+    #[error("too many sessions")]
+    TurnedAway,
+    #[error("read standard input: {0}")]
+    Input(Cause),
+    #[error("input line too long")]
+    InputTooLong,
+    #[error("write: {0}")]
+    Write(Cause),
+    #[error("out of memory")]
+    OutOfMemory,
+}
+
+impl From<AllocError> for TellFailure<'_> {
+    ghost from_gives = { λ _ failure. failure ≡ OutOfMemory };
+
+    fn from(_error: AllocError) -> Self {
+        TellFailure::OutOfMemory
+    }
+}
+
+impl<T: Drop> From<AllocFailed<T>> for TellFailure<'_> {
+    ghost from_gives = { λ _ failure. failure ≡ OutOfMemory };
+
+    fn from(_error: AllocFailed<T>) -> Self {
+        TellFailure::OutOfMemory
+    }
+}
+
+/// The failure of a line that has no answer of the server there.
+pub fn failure_at<'a>(place: Place<'a>, fault: TellFault) -> TellFailure<'a> {
+    match fault {
+        TellFault::Write(error) => TellFailure::Send(place, Cause::from(error)),
+        TellFault::Read(error) => TellFailure::Receive(place, Cause::from(error)),
+        TellFault::NoAnswer => TellFailure::NoAnswer,
+        TellFault::TooLong => TellFailure::AnswerTooLong,
+        TellFault::OutOfMemory => TellFailure::OutOfMemory,
+    }
+}

@@ -1,6 +1,0 @@
-use Rattle.std.proofs.Common.{take}
-use Rattle.healthd.specs.Service.{AreServiceWords}
-use Rattle.healthd.proofs.service.parse_services.Given as goal
-
-abbrev pub invariant-loop-word : goal.invariant-loop-word
-invariant-loop-word l = AreServiceWords (take l.word-index l.words) l.list.items
