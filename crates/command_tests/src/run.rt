@@ -7,7 +7,7 @@ use commands::cause::Cause;
 use commands::run::{listen, listening_line, script_bytes, set_up};
 use commands::run_failure::RunFailure;
 use commands::run_options::Source;
-use control_place::Place;
+use control::Place;
 use desk_core::{CatalogueFault, KeepMany, Refusal, Reply};
 use live_run::RefusedLine;
 use probe_core::{Depends, FnMaker, Maker, Manual, Probe, ProbeFn, Rule, Threshold};

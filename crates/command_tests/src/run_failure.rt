@@ -1,7 +1,7 @@
 use commands::cause::Cause;
 use commands::run_failure::RunFailure;
 use commands::run_options::Source;
-use control_place::Place;
+use control::Place;
 use desk_core::{Refusal, Reply};
 use live_run::RefusedLine;
 use script::ScriptFault;

@@ -1,7 +1,7 @@
 use commands::bounds::Bounds;
 use commands::command::{bad_option, command};
 use commands::run_options::{RunOptions, Source};
-use control_place::Place;
+use control::Place;
 use std::alloc::Global;
 use std::net::SocketAddr;
 use std::test::Fail;

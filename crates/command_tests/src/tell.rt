@@ -1,7 +1,6 @@
 use commands::command::command;
 use commands::tell::{line_in, place_in, tell_line, tell_lines};
-use control_client::is_one_line;
-use control_place::{Place, connect};
+use control::{Place, connect, is_one_line};
 use std::alloc::Global;
 use std::io::{BufReader, ErrorKind, Read, Write};
 use std::net::TcpListener;

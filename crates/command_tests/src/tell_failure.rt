@@ -1,7 +1,6 @@
 use commands::cause::Cause;
 use commands::tell_failure::{TellFailure, failure_at};
-use control_client::TellFault;
-use control_place::Place;
+use control::{Place, TellFault};
 use std::alloc::Global;
 use std::io;
 use std::io::ErrorKind;

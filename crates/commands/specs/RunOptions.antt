@@ -2,8 +2,8 @@
 use Rattle.std.specs.Prelude.{◌≡◌, ◌<◌, ◌⊎◌, ℕ, List, Option, None, Some, Result, codes, unwrap_or, []}
 use Rattle.clap.specs.Words.{first_value, one_text, ReadsOne}
 use Rattle.clap.specs.declared.parser.matches.Found.{Found}
-use Rattle.control_place.specs.declared.place.Place.{Place}
-use Rattle.control_place.specs.Place.{IsPlaceText}
+use Rattle.control.specs.declared.place.Place.{Place}
+use Rattle.control.specs.Place.{IsPlaceText}
 use Rattle.commands.specs.Bounds.{watches_of}
 use Rattle.commands.specs.declared.bounds.Bounds.{Bounds}
 use Rattle.commands.specs.declared.run_options.BadOption.{BadOption}

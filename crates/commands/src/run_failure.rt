@@ -6,7 +6,7 @@ ghost use Rattle.commands.specs.RunFailure.{failure_of};
 
 use crate::cause::Cause;
 use crate::run_options::Source;
-use control_place::Place;
+use control::Place;
 use live_run::RefusedLine;
 use script::{ScriptFault, changed_text};
 use std::alloc::{AllocError, AllocFailed};

@@ -4,7 +4,7 @@ ghost use Rattle.commands.specs.RunOptions.{AreBoundsIn, IsBadBounds, IsBadContr
 
 use crate::bounds::{Bounds, bounds_of};
 use clap::ArgMatches;
-use control_place::Place;
+use control::Place;
 use std::fmt;
 use std::net::SocketAddr;
 use std::str::FromStr;

@@ -1,14 +1,16 @@
 ghost use Rattle.std.specs.Prelude.{◌≡◌, ◌↔◌, ◌⊎◌, IfOk, OnOk};
 ghost use Rattle.std.specs.Io.KnownBytes.{Appends};
-ghost use Rattle.control_client.specs.Answer.{IsRefused};
-ghost use Rattle.control_client.specs.Line.{IsPartOfLine, ended};
+ghost use Rattle.control.specs.Answer.{IsRefused};
+ghost use Rattle.control.specs.Line.{IsPartOfLine, ended};
 
 use crate::cause::Cause;
 use crate::expect::{DONE, UNMET};
 use crate::tell_failure::{TellFailure, failure_at};
 use clap::ArgMatches;
-use control_client::{LINE_ROOM, LineEnd, TellFault, is_refused, is_turned_away, read_line, tell};
-use control_place::{ControlClient, Place, connect};
+use control::{
+    ControlClient, LINE_ROOM, LineEnd, Place, TellFault, connect, is_refused, is_turned_away,
+    read_line, tell,
+};
 use std::alloc::{AllocError, Global};
 use std::io;
 use std::io::{BufReader, ErrorKind, Read, Write};

@@ -2,8 +2,7 @@ ghost use Rattle.std.specs.Prelude.{◌≡◌};
 ghost use Rattle.commands.specs.declared.tell_failure.TellFailure.TheVariants.{OutOfMemory};
 
 use crate::cause::Cause;
-use control_client::TellFault;
-use control_place::Place;
+use control::{Place, TellFault};
 use std::alloc::{AllocError, AllocFailed};
 use thiserror::Error;
 

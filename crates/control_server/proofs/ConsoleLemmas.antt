@@ -4,16 +4,16 @@ use Rattle.std.specs.Prelude.{[], ◌∷◌}
 use Rattle.desk_core.specs.declared.entry.Entry.{Entry}
 use Rattle.hall.specs.Seats.{SeatState, IsCarriedOut}
 use Rattle.crew.specs.Looking.{HasLooked}
-use Rattle.session.proofs.TalkLemmas.{met_then}
-use Rattle.session.specs.declared.answer.Answer.{Answer}
-use Rattle.session.specs.declared.request.Request.{Request}
+use Rattle.control.proofs.TalkLemmas.{met_then}
+use Rattle.control.specs.declared.answer.Answer.{Answer}
+use Rattle.control.specs.declared.request.Request.{Request}
 use Rattle.script.specs.TextLines.{without_cr}
-use Rattle.session.specs.Request.{IsRequest}
-use Rattle.session.specs.Meeting.{IsMet, IsLineMet, IsSaid}
-use Rattle.session.specs.Meeting.IsMet.{Changes, Checks, Packs, Lists, Tells, Stops, Starves, StarvesTold}
-use Rattle.session.specs.Meeting.IsLineMet.{IsTooLong, IsSkipped, IsNoText, IsNoRequest, IsUnread, IsAsked}
-use Rattle.session.specs.Talk.{AreMet, nobody}
-use Rattle.session.specs.Talk.AreMet.{Ends, Then, Moves}
+use Rattle.control.specs.Request.{IsRequest}
+use Rattle.control.specs.Meeting.{IsMet, IsLineMet, IsSaid}
+use Rattle.control.specs.Meeting.IsMet.{Changes, Checks, Packs, Lists, Tells, Stops, Starves, StarvesTold}
+use Rattle.control.specs.Meeting.IsLineMet.{IsTooLong, IsSkipped, IsNoText, IsNoRequest, IsUnread, IsAsked}
+use Rattle.control.specs.Talk.{AreMet, nobody}
+use Rattle.control.specs.Talk.AreMet.{Ends, Then, Moves}
 use Rattle.control_server.specs.declared.hall_console.HallConsole.{HallConsole}
 use Rattle.control_server.specs.HallConsole.{CarriesOut, LooksOn, console_hall, console_seat}
 use Rattle.control_server.specs.SeatLines.{HasMet}

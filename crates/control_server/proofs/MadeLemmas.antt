@@ -13,14 +13,14 @@ use Rattle.crew.specs.CarriedOut.{replied}
 use Rattle.crew.specs.Looking.{HasLooked}
 use Rattle.crew.proofs.CarryingOut.{has_met}
 use Rattle.crew.proofs.LookingLemmas.{older_on}
-use Rattle.session.specs.declared.answer.Answer.{Answer}
+use Rattle.control.specs.declared.answer.Answer.{Answer}
 use Rattle.script.specs.TextLines.{without_cr}
-use Rattle.session.specs.declared.request.Request.{Request}
-use Rattle.session.specs.Meeting.{IsMet, IsLineMet}
-use Rattle.session.specs.Meeting.IsMet.{Changes, Checks, Packs, Lists, Tells, Stops, Starves, StarvesTold}
-use Rattle.session.specs.Meeting.IsLineMet.{IsTooLong, IsSkipped, IsNoText, IsNoRequest, IsUnread, IsAsked}
-use Rattle.session.specs.Request.{IsRequest}
-use Rattle.session.specs.Talk.AreMet.{Ends, Then, Moves}
+use Rattle.control.specs.declared.request.Request.{Request}
+use Rattle.control.specs.Meeting.{IsMet, IsLineMet}
+use Rattle.control.specs.Meeting.IsMet.{Changes, Checks, Packs, Lists, Tells, Stops, Starves, StarvesTold}
+use Rattle.control.specs.Meeting.IsLineMet.{IsTooLong, IsSkipped, IsNoText, IsNoRequest, IsUnread, IsAsked}
+use Rattle.control.specs.Request.{IsRequest}
+use Rattle.control.specs.Talk.AreMet.{Ends, Then, Moves}
 use Rattle.control_server.specs.SeatLines.{AreAskedBy, HasMade, HasMet, results_of}
 use Rattle.control_server.specs.SeatLines.AreAskedBy.{NoLines, Change, NoChange}
 

@@ -6,8 +6,8 @@ use Rattle.std.proofs.lemmas.Bool.{cases_eq}
 use Rattle.std.proofs.lemmas.List.{get_or-set_other, get_or-set_same, length-set}
 use Rattle.std.proofs.lemmas.List.Elements.{All-get_or}
 use Rattle.hall.specs.Seats.{HallState, SeatState, IsOf}
-use Rattle.session.specs.Talk.AreMet.{Ends}
-use Rattle.session.proofs.TalkLemmas.{met_then}
+use Rattle.control.specs.Talk.AreMet.{Ends}
+use Rattle.control.proofs.TalkLemmas.{met_then}
 use Rattle.control_server.specs.Seats.{MetLines, SeatsHaveMet}
 use Rattle.control_server.proofs.MadeLemmas.{met_ours}
 

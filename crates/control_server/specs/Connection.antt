@@ -7,8 +7,8 @@ use Rattle.desk_core.specs.declared.entry.Entry.{Entry}
 use Rattle.desk_core.specs.declared.refusal.Refusal.{Refusal}
 use Rattle.desk_core.specs.declared.reply.Reply.{Reply}
 use Rattle.connection_table.specs.Table.{TableState, connection_at, with_connection}
-use Rattle.session.specs.Session.{SessionState}
-use Rattle.session.specs.Talk.{AreMet, nobody}
+use Rattle.control.specs.Session.{SessionState}
+use Rattle.control.specs.Talk.{AreMet, nobody}
 use Rattle.session_loop.specs.Turn.{HasTalked, Moved}
 use Rattle.hall.specs.Seats.{SeatState}
 use Rattle.control_server.specs.declared.connection.Connection.{Connection}

@@ -11,11 +11,11 @@ use Rattle.crew.specs.Looking.{HasLooked}
 use Rattle.script.specs.declared.line.Line.{Line}
 use Rattle.script.specs.Change.{line_change}
 use Rattle.script.specs.TextLines.{without_cr}
-use Rattle.session.specs.declared.answer.Answer.{Answer}
-use Rattle.session.specs.declared.answer.Answer.TheVariants.{Changed, Checked, Board, Listed, Told, Stopping, BadLine, TooLong, OutOfMemory, Skipped}
-use Rattle.session.specs.declared.request.Request.TheVariants as requests
-use Rattle.session.specs.Request.{IsRequest}
-use Rattle.session.specs.Talk.{AreMet}
+use Rattle.control.specs.declared.answer.Answer.{Answer}
+use Rattle.control.specs.declared.answer.Answer.TheVariants.{Changed, Checked, Board, Listed, Told, Stopping, BadLine, TooLong, OutOfMemory, Skipped}
+use Rattle.control.specs.declared.request.Request.TheVariants as requests
+use Rattle.control.specs.Request.{IsRequest}
+use Rattle.control.specs.Talk.{AreMet}
 
 -- By this seat these lines were met, one after the other, each with its answer at its point of the history: a change by a change of the
 -- seat, anything else by what the seat has seen. In between it has at most looked

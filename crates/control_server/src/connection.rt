@@ -1,9 +1,8 @@
-use control_place::ControlStream;
+use control::{Console, ControlStream, Session};
 use event_loop::Link;
 use mio::event::Source;
 use mio::{Interest, Registry, Token};
 use probe_core::{Maker, Probe};
-use session::{Console, Session};
 use session_loop::{Fate, turn};
 use std::alloc::{AllocError, Global};
 use std::io;
@@ -21,7 +20,7 @@ pub(crate) struct Connection {
 
 impl Connection {
     ghost use Rattle.std.specs.Prelude.{◌≡◌, ◌<◌, length, IfOk};
-    ghost use Rattle.session.specs.Session.{begun};
+    ghost use Rattle.control.specs.Session.{begun};
     ghost use Rattle.event_loop.specs.declared.link.Last.{Last};
     ghost use Rattle.session_loop.specs.Turn.{Leaves, Moved};
     ghost use Rattle.control_server.specs.Connection.{HasSpoken, session_of};

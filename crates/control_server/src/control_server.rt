@@ -5,7 +5,7 @@ ghost use Rattle.control_server.specs.Seats.{SeatsHaveMet};
 
 use crate::context::Context;
 use crate::sessions::{FIRST_TOKEN, Sessions};
-use control_place::{ControlListener, UnixPlace};
+use control::{ControlListener, UnixPlace};
 use desk_core::Keep;
 use hall::Seat;
 use live_server::{Queue, Tally};

@@ -6,11 +6,11 @@ ghost use Rattle.desk_core.specs.Order.{IsListed};
 ghost use Rattle.hall.specs.Seats.{IsOf, IsCarriedOut};
 
 use crate::overview::{Overview, counts_of};
+use control::{Console, Stats};
 use desk_core::{Call, Catalogue, Keep, KeepAll, Refusal, Reply, Slot, board_status};
 use hall::{Extent, Hall, Seat};
 use health_wire::Serving;
 use probe_core::Probe;
-use session::{Console, Stats};
 use std::sync::Wait;
 use std::sync::atomic::Ordering;
 

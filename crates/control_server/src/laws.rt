@@ -1,9 +1,9 @@
 ghost use Rattle.std.specs.Prelude.{◌≡◌, ◌⊎◌, ◌++◌, [], ℕ, List, Option, true};
 ghost use Rattle.desk_core.specs.declared.call.Call.{Call};
 ghost use Rattle.hall.specs.Seats.{SeatState};
-ghost use Rattle.session.specs.declared.answer.Answer.{Answer};
-ghost use Rattle.session.specs.Session.{SessionState, begun};
-ghost use Rattle.session.specs.Talk.{AreLines, answer_texts};
+ghost use Rattle.control.specs.declared.answer.Answer.{Answer};
+ghost use Rattle.control.specs.Session.{SessionState, begun};
+ghost use Rattle.control.specs.Talk.{AreLines, answer_texts};
 ghost use Rattle.session_loop.specs.Chain.{followed_by, nothing_moved};
 ghost use Rattle.session_loop.specs.Turn.{IsDone, Moved};
 ghost use Rattle.control_server.specs.Connection.{SpeaksBy};

@@ -1,4 +1,4 @@
-use control_place::ControlStream;
+use control::ControlStream;
 use std::io::{ErrorKind, Read};
 use std::net::Shutdown;
 use std::time::{Duration, Instant};

@@ -1,5 +1,5 @@
+use control::{Counts, Ended, OpenNow};
 use live_server::{News, Tally};
-use session::{Counts, Ended, OpenNow};
 use std::sync::Arc;
 use std::sync::atomic::AtomicU64;
 

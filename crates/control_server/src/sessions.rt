@@ -10,7 +10,7 @@ use crate::hall_console::HallConsole;
 use crate::leaving::Leaving;
 use crate::overview::Overview;
 use connection_table::Table;
-use control_place::ControlStream;
+use control::ControlStream;
 use desk_core::Keep;
 use hall::Seat;
 use live_server::Tally;

@@ -8,7 +8,7 @@ use clap::error::ErrorKind;
 use commands::fault::Fault;
 use commands::run_options::RunOptions;
 use commands::{ask, body, command, replay, run, serve, tell};
-use control_client::is_one_line;
+use control::is_one_line;
 use probe_core::{Depends, FnMaker, Maker, Manual, Probe, ProbeFn, Rule, Threshold};
 use std::alloc::AllocError;
 use std::fmt::Display;

@@ -8,10 +8,10 @@ use Rattle.desk_core.specs.declared.entry.Entry.{Entry}
 use Rattle.desk_core.specs.declared.refusal.Refusal.{Refusal}
 use Rattle.desk_core.specs.declared.reply.Reply.{Reply}
 use Rattle.event_loop.specs.declared.link.Last.{Last}
-use Rattle.session.specs.Session.{SessionState, begun, ends_open}
-use Rattle.session.specs.Talk.{AreLines, AreMet, answer_texts}
-use Rattle.session.specs.Talk.AreMet.{Ends, Moves}
-use Rattle.session.proofs.TalkLemmas.{met_beside, met_then}
+use Rattle.control.specs.Session.{SessionState, begun, ends_open}
+use Rattle.control.specs.Talk.{AreLines, AreMet, answer_texts}
+use Rattle.control.specs.Talk.AreMet.{Ends, Moves}
+use Rattle.control.proofs.TalkLemmas.{met_beside, met_then}
 use Rattle.session_loop.specs.declared.turning.Fate.{Fate}
 use Rattle.session_loop.specs.Chain.{HasGone, followed_by, nothing_moved}
 use Rattle.session_loop.specs.Turn.{HasTalked, HasTurned, IsDone, Moved}

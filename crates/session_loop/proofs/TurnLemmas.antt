@@ -9,12 +9,12 @@ use Rattle.std.specs.Prelude.{IfSome, codes, min, ◌-◌, nat_lt, ◌&&◌, if�
 use Rattle.event_loop.specs.declared.link.Last.{Last}
 use Rattle.event_loop.specs.declared.link.Last.TheVariants.{Went, Waits, Interrupted, Ended, Failed}
 use Rattle.event_loop.specs.Link.{has_stopped}
-use Rattle.session.specs.declared.answer.Answer.{Answer}
-use Rattle.session.specs.Session.{SessionState, at_end, behind_line, ended, ends_open, first_line, with_unread, with_waiting}
-use Rattle.session.specs.Talk.{AreLines, IsCut, answer_texts}
-use Rattle.session.specs.Talk.AreLines.{NoMore}
-use Rattle.session.specs.Text.{answer_text, ends_session}
-use Rattle.session.proofs.TalkLemmas.{lines_more, lines_then, one_line, over_then, texts_then, stays_closed}
+use Rattle.control.specs.declared.answer.Answer.{Answer}
+use Rattle.control.specs.Session.{SessionState, at_end, behind_line, ended, ends_open, first_line, with_unread, with_waiting}
+use Rattle.control.specs.Talk.{AreLines, IsCut, answer_texts}
+use Rattle.control.specs.Talk.AreLines.{NoMore}
+use Rattle.control.specs.Text.{answer_text, ends_session}
+use Rattle.control.proofs.TalkLemmas.{lines_more, lines_then, one_line, over_then, texts_then, stays_closed}
 use Rattle.session_loop.specs.declared.turning.Fate.{Fate}
 use Rattle.session_loop.specs.declared.turning.Fate.TheVariants.{Rests, GoesOn, Over, GivenUp}
 use Rattle.session_loop.specs.Chain.{followed_by, nothing_moved}

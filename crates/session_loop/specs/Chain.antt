@@ -4,8 +4,8 @@ use Rattle.desk_core.specs.declared.call.Call.{Call}
 use Rattle.desk_core.specs.declared.entry.Entry.{Entry}
 use Rattle.desk_core.specs.declared.refusal.Refusal.{Refusal}
 use Rattle.desk_core.specs.declared.reply.Reply.{Reply}
-use Rattle.session.specs.Session.{SessionState}
-use Rattle.session.specs.Talk.{AreMet}
+use Rattle.control.specs.Session.{SessionState}
+use Rattle.control.specs.Talk.{AreMet}
 use Rattle.session_loop.specs.Turn.{HasTalked, Moved}
 
 abbrev pub nothing_moved : Moved

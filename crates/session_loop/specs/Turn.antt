@@ -8,9 +8,9 @@ use Rattle.desk_core.specs.declared.refusal.Refusal.{Refusal}
 use Rattle.desk_core.specs.declared.reply.Reply.{Reply}
 use Rattle.event_loop.specs.declared.link.Last.{Last}
 use Rattle.event_loop.specs.declared.link.Last.TheVariants.{Went, Waits, Interrupted, Ended, Failed}
-use Rattle.session.specs.declared.answer.Answer.{Answer}
-use Rattle.session.specs.Session.{SessionState, HasLine, ends_open}
-use Rattle.session.specs.Talk.{AreLines, AreMet, IsOverAfter, answer_texts, nobody}
+use Rattle.control.specs.declared.answer.Answer.{Answer}
+use Rattle.control.specs.Session.{SessionState, HasLine, ends_open}
+use Rattle.control.specs.Talk.{AreLines, AreMet, IsOverAfter, answer_texts, nobody}
 use Rattle.session_loop.specs.declared.turning.Fate.{Fate}
 use Rattle.session_loop.specs.declared.turning.Fate.TheVariants.{Rests, GoesOn, Over, GivenUp}
 

@@ -1,13 +1,13 @@
 ghost use Rattle.std.specs.Prelude.{◌≡◌, ◌≢◌, ◌⊎◌, ◌++◌, [], ℕ, List, Option, true};
 ghost use Rattle.event_loop.specs.declared.link.Last.{Last};
-ghost use Rattle.session.specs.Session.{SessionState, begun};
-ghost use Rattle.session.specs.Talk.{AreLines, answer_texts};
+ghost use Rattle.control.specs.Session.{SessionState, begun};
+ghost use Rattle.control.specs.Talk.{AreLines, answer_texts};
 ghost use Rattle.session_loop.specs.declared.turning.Fate.{Fate};
 ghost use Rattle.session_loop.specs.Chain.{HasGone, followed_by, keeps_names, nothing_moved};
 ghost use Rattle.session_loop.specs.Turn.{Moved, HasTurned, IsDone};
 
+use control::Console;
 use probe_core::Probe;
-use session::Console;
 
 /// Turn upon turn of a session comes to one talk, whatever others made of the console in between, whose names stay: its lines are those of all bytes that
 /// it received, and what it sent are the lines of their answers, in their order. At its end all of them are sent, and no byte is left

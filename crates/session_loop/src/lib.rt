@@ -9,7 +9,7 @@
 //!
 //! use event_loop::Link;
 //! use probe_core::{Maker, Probe};
-//! use session::{Console, Session};
+//! use control::{Console, Session};
 //! use session_loop::{Fate, turn};
 //! use std::alloc::Global;
 //! use std::io::{Read, Write};

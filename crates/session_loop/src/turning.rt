@@ -2,14 +2,14 @@ ghost use Rattle.std.specs.Prelude.{◌≡◌, ◌≢◌, ◌≤◌, ◌<◌, �
 ghost use Rattle.std.specs.Bool.{OnTrue, OnFalse};
 ghost use Rattle.event_loop.specs.Link.{link_inner, link_last, has_stopped};
 ghost use Rattle.event_loop.specs.declared.link.Last.{Last};
-ghost use Rattle.session.specs.Session.{at_end};
-ghost use Rattle.session.specs.Talk.{nobody};
+ghost use Rattle.control.specs.Session.{at_end};
+ghost use Rattle.control.specs.Talk.{nobody};
 ghost use Rattle.session_loop.specs.Chain.{HasGone};
 ghost use Rattle.session_loop.specs.Turn.{Moved, HasStepped, HasTalked, HasTurned, IsIdle, fate_of, only_read, only_sent};
 
+use control::{Console, Session};
 use event_loop::{Last, Link};
 use probe_core::{Maker, Probe};
-use session::{Console, Session};
 use std::alloc::Global;
 use std::io::{Read, Write};
 

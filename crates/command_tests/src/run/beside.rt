@@ -11,7 +11,7 @@ use client::Told;
 use commands::fault::Fault;
 use commands::run::{Begun, control_at, control_loop, event_loops, listen, remove_socket, set_up};
 use commands::run_failure::RunFailure;
-use control_place::{ControlClient, Place, connect};
+use control::{ControlClient, Place, connect};
 use control_server::MAX_SESSIONS;
 use desk_core::KeepMany;
 use live_run::Ran;

@@ -7,7 +7,7 @@ use crate::tests::runs::set_up;
 use crate::tests::scenes::{Counts, Place};
 use crate::tests::talks::Talk;
 use crate::{Ran, RunFault};
-use control_place::ControlListener;
+use control::ControlListener;
 use control_server::{ControlServer, MAX_SESSIONS};
 use desk_core::{Call, Entry, KeepMany, Setting, Slot};
 use live_server::{EventServer, News};
@@ -46,8 +46,8 @@ fn control_of<R: Net + Files + Clock>(
     servers: &[EventServer],
 ) -> Result<(ControlServer, SocketAddr), Fail> {
     let any = SocketAddr::new(IpAddr::V4(Ipv4Addr::LOCALHOST), 0);
-    let listener = ControlListener::bind(rt, alloc, control_place::Place::Address(any))?;
-    let control_place::Place::Address(addr) = listener.place()? else {
+    let listener = ControlListener::bind(rt, alloc, control::Place::Address(any))?;
+    let control::Place::Address(addr) = listener.place()? else {
         return Err(Fail::new("no address"));
     };
     let mut tallies = Vec::new(alloc);

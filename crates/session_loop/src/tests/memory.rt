@@ -1,9 +1,9 @@
 use crate::tests::streams::{Basin, Manner, Trickle};
 use crate::{Fate, turn};
+use control::Session;
+use control::one_thread::{Manuals, OneThread};
 use event_loop::Link;
 use probe_core::Manual;
-use session::Session;
-use session::one_thread::{Manuals, OneThread};
 use std::alloc::{AllocError, Global};
 use std::test::Fail;
 use test_support::{Scarcity, same};

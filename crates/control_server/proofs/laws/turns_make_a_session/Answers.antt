@@ -1,7 +1,7 @@
 use Rattle.std.specs.Prelude.{None}
 use Rattle.std.proofs.KnownBytes.{Appends-nil, Consumes-nil}
-use Rattle.session.specs.Talk.AreMet.{Ends}
-use Rattle.session.proofs.TalkLemmas.{met_then}
+use Rattle.control.specs.Talk.AreMet.{Ends}
+use Rattle.control.proofs.TalkLemmas.{met_then}
 use Rattle.session_loop.proofs.ChainLemmas.{gone_done}
 use Rattle.session_loop.proofs.TurnLemmas.{talked_none, talked_then}
 use Rattle.control_server.proofs.laws.turns_make_a_session.Goals as goal

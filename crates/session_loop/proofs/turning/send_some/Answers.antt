@@ -3,7 +3,7 @@ use Rattle.std.proofs.KnownBytes.{Consumes-nil}
 use Rattle.std.proofs.lemmas.List.{length-take-le, take-append-drop}
 use Rattle.std.specs.Io.KnownBytes.{Appends}
 use Rattle.event_loop.specs.Link.{link_inner, link_last}
-use Rattle.session.specs.Session.{SessionState}
+use Rattle.control.specs.Session.{SessionState}
 use Rattle.session_loop.specs.Chain.{nothing_moved}
 use Rattle.session_loop.specs.Turn.{done_by, only_sent}
 use Rattle.session_loop.proofs.TurnLemmas.{owes, step_done, talked_none, talked_sent}

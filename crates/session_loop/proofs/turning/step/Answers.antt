@@ -1,7 +1,7 @@
 use Rattle.std.proofs.Common.{sym, ◌∙◌, true≢false, arith, []}
 use Rattle.event_loop.specs.Link.{link_inner, link_last}
-use Rattle.session.specs.Session.{first_line}
-use Rattle.session.specs.Talk.AreMet.{Ends, Then}
+use Rattle.control.specs.Session.{first_line}
+use Rattle.control.specs.Talk.AreMet.{Ends, Then}
 use Rattle.session_loop.specs.Chain.{nothing_moved}
 use Rattle.session_loop.specs.Turn.{only_met, only_read, only_sent}
 use Rattle.session_loop.proofs.ChainLemmas.{gone_none}

@@ -1,7 +1,7 @@
 use Rattle.std.proofs.Common.{◌≡◌, ◌≤◌, ◌<◌, ◌+◌, ◌-◌, length}
 use Rattle.std.specs.Int.{from_bool}
 use Rattle.event_loop.specs.Link.{link_inner}
-use Rattle.session.specs.Talk.{nobody}
+use Rattle.control.specs.Talk.{nobody}
 use Rattle.session_loop.specs.Chain.{HasGone}
 use Rattle.session_loop.specs.Turn.{Moved, done_by}
 use Rattle.session_loop.proofs.turning.turn.Given as goal

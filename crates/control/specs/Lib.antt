@@ -1,0 +1,10 @@
+pub mod Answer
+pub mod Line
+pub mod Listener
+pub mod Meeting
+pub mod Place
+pub mod Request
+pub mod Session
+pub mod Talk
+pub mod Tell
+pub mod Text

@@ -1,0 +1,55 @@
+use crate::stats::Stats;
+use desk_core::{Refusal, Reply};
+use health_wire::Serving;
+use script::{changed_text, checked_text};
+
+/// What a line of a session comes to.
+#[derive(Clone, Copy, Debug, PartialEq, Eq)]
+pub enum Answer {
+    Changed(Result<Reply, Refusal>),
+    Checked(Option<Serving>),
+    /// The board.
+    Board(u64),
+    /// The board whose statuses a list of all names tells.
+    Listed(u64),
+    Told(Stats),
+    /// The server is to end.
+    Stopping,
+    /// The line is no request.
+    BadLine,
+    /// The line has too many bytes.
+    TooLong,
+    /// Memory ran out, and nothing was changed.
+    OutOfMemory,
+    /// The line has no byte, and is not answered.
+    Skipped,
+}
+
+impl Answer {
+    ghost use Rattle.std.specs.Prelude.{◌≡◌, ◌≤◌, Some, IfSome, IfNone, None, length};
+    ghost use Rattle.control.specs.Text.{ends_session, short_text};
+
+    /// The text of an answer that has one of a few. All others are told where nothing was changed.
+    pub(crate) fn short_text(self) -> Option<&'static str>
+        ensures value { IfSome result (λ text. short_text self ≡ Some text.now) }
+        ensures none { IfNone result (short_text self ≡ None) }
+        ensures short { IfSome result (λ text. length text.now ≤ 20) }
+    {
+        match self {
+            Answer::Changed(result) => Some(changed_text(result)),
+            Answer::Checked(status) => Some(checked_text(status)),
+            Answer::Stopping => Some("stopping"),
+            Answer::BadLine => Some("bad line"),
+            Answer::TooLong => Some("line too long"),
+            Answer::OutOfMemory => Some("refused no memory"),
+            Answer::Board(_) | Answer::Listed(_) | Answer::Told(_) | Answer::Skipped => None,
+        }
+    }
+
+    /// Whether no line behind it is answered.
+    pub(crate) fn ends_session(self) -> bool
+        ensures { result ≡ ends_session self }
+    {
+        matches!(self, Answer::Stopping | Answer::TooLong)
+    }
+}

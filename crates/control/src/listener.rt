@@ -1,0 +1,113 @@
+ghost use Rattle.std.specs.IoError.{error_kind};
+ghost use Rattle.std.specs.Prelude.{◌≡◌, IfOk, IsErrAnd};
+ghost use Rattle.control.specs.Listener.{path_listened};
+ghost use Rattle.control.specs.Place.{IsLocal, path_of};
+
+use crate::place::Place;
+use crate::stream::ControlStream;
+use crate::unix_place::UnixPlace;
+use mio::event::Source;
+use mio::net::TcpListener;
+use mio::{Interest, Registry, Token};
+use std::alloc::Global;
+use std::fs::Files;
+use std::io;
+use std::io::ErrorKind;
+use std::net::Net;
+
+/// A socket that listens at a control place, and does not wait.
+#[derive(Debug, Drop)]
+pub enum ControlListener {
+    Tcp(TcpListener),
+    Unix(UnixPlace),
+}
+
+impl ControlListener {
+    /// Listens there and nowhere else. A place that is not local is `InvalidInput`.
+    pub fn bind<R: Files + Net>(
+        rt: &R,
+        alloc: Global,
+        place: Place<'_>,
+    ) -> io::Result<ControlListener>
+        ensures local { IfOk result (λ _. IsLocal place.entry) }
+        ensures path { IfOk result (λ listener. path_listened listener ≡ path_of place.entry) }
+        ensures elsewhere { ¬ (IsLocal place.entry) → IsErrAnd result (λ error. error_kind error ≡ ErrorKind.InvalidInput) }
+    {
+        if !place.is_local() {
+            return Err(io::Error::from(ErrorKind::InvalidInput));
+        }
+        match place {
+            Place::Address(addr) => Ok(ControlListener::Tcp(TcpListener::bind(rt, addr)?)),
+            Place::Path(path) => Ok(ControlListener::Unix(UnixPlace::bind(rt, alloc, path)?)),
+        }
+    }
+
+    /// Where it listens, with the port that the system picked for port 0.
+    pub fn place(&self) -> io::Result<Place<'_>>
+        ensures path { IfOk result (λ place. path_of place ≡ path_listened self.now) }
+    {
+        match self {
+            ControlListener::Tcp(listener) => Ok(Place::Address(listener.local_addr()?)),
+            ControlListener::Unix(place) => Ok(Place::Path(place.path())),
+        }
+    }
+
+    /// The next connection, or `WouldBlock` where none waits.
+    pub fn accept(&self) -> io::Result<ControlStream> {
+        match self {
+            ControlListener::Tcp(listener) => {
+                let (stream, _) = listener.accept()?;
+                Ok(ControlStream::Tcp(stream))
+            }
+            ControlListener::Unix(place) => {
+                let (stream, _) = place.listener().accept()?;
+                Ok(ControlStream::Unix(stream))
+            }
+        }
+    }
+
+    /// Takes the file of a Unix socket away, where it is still this one's. Clients that connect afterwards find nobody.
+    pub fn remove<R: Files>(&self, rt: &R) -> io::Result<()> {
+        match self {
+            ControlListener::Tcp(_) => Ok(()),
+            ControlListener::Unix(place) => place.remove(rt),
+        }
+    }
+}
+
+impl Source for ControlListener {
+    fn register(
+        &mut self,
+        registry: &Registry,
+        token: Token,
+        interests: Interest,
+    ) -> io::Result<()> {
+        match self {
+            ControlListener::Tcp(listener) => listener.register(registry, token, interests),
+            ControlListener::Unix(place) => {
+                place.listener_mut().register(registry, token, interests)
+            }
+        }
+    }
+
+    fn reregister(
+        &mut self,
+        registry: &Registry,
+        token: Token,
+        interests: Interest,
+    ) -> io::Result<()> {
+        match self {
+            ControlListener::Tcp(listener) => listener.reregister(registry, token, interests),
+            ControlListener::Unix(place) => {
+                place.listener_mut().reregister(registry, token, interests)
+            }
+        }
+    }
+
+    fn deregister(&mut self, registry: &Registry) -> io::Result<()> {
+        match self {
+            ControlListener::Tcp(listener) => listener.deregister(registry),
+            ControlListener::Unix(place) => place.listener_mut().deregister(registry),
+        }
+    }
+}

@@ -1,0 +1,102 @@
+use std::fmt;
+
+/// What of a server is open now.
+#[derive(Clone, Copy, Debug, PartialEq, Eq)]
+pub struct OpenNow {
+    /// Connections of calls.
+    pub connections: u64,
+    /// Watches among them.
+    pub watches: u64,
+    /// Sessions.
+    pub sessions: u64,
+}
+
+/// The calls that have ended.
+#[derive(Clone, Copy, Debug, PartialEq, Eq)]
+pub struct Ended {
+    pub calls: u64,
+    /// Those of them that were given up.
+    pub given_up: u64,
+    /// Those of them whose Watch was behind.
+    pub behind: u64,
+}
+
+/// What a server counts of connections and calls.
+#[derive(Clone, Copy, Debug, PartialEq, Eq)]
+pub struct Counts {
+    pub current: OpenNow,
+    pub ended: Ended,
+}
+
+/// What a server counts.
+#[derive(Clone, Copy, Debug, PartialEq, Eq)]
+pub struct Stats {
+    /// The entries of the history.
+    pub entries: u32,
+    /// Those that are still in memory.
+    pub kept: u32,
+    pub counts: Counts,
+}
+
+impl fmt::Display for OpenNow {
+    ghost use Rattle.std.specs.Prelude.{Some};
+    ghost use Rattle.control.specs.Text.{open_text};
+
+    ghost output = { λ current. Some (open_text current) };
+
+    fn fmt<W: fmt::Write>(&self, f: &mut fmt::Formatter<W>) -> fmt::Result {
+        let OpenNow {
+            connections,
+            watches,
+            sessions,
+        } = *self;
+        write!(
+            f,
+            "connections {connections} watches {watches} sessions {sessions}"
+        )
+    }
+}
+
+impl fmt::Display for Ended {
+    ghost use Rattle.std.specs.Prelude.{Some};
+    ghost use Rattle.control.specs.Text.{ended_text};
+
+    ghost output = { λ ended. Some (ended_text ended) };
+
+    fn fmt<W: fmt::Write>(&self, f: &mut fmt::Formatter<W>) -> fmt::Result {
+        let Ended {
+            calls,
+            given_up,
+            behind,
+        } = *self;
+        write!(f, "calls {calls} given_up {given_up} behind {behind}")
+    }
+}
+
+impl fmt::Display for Counts {
+    ghost use Rattle.std.specs.Prelude.{Some};
+    ghost use Rattle.control.specs.Text.{counts_text};
+
+    ghost output = { λ counts. Some (counts_text counts) };
+
+    fn fmt<W: fmt::Write>(&self, f: &mut fmt::Formatter<W>) -> fmt::Result {
+        let Counts { current, ended } = self;
+        write!(f, "{current} {ended}")
+    }
+}
+
+impl fmt::Display for Stats {
+    ghost use Rattle.std.specs.Prelude.{Some};
+    ghost use Rattle.control.specs.Text.{stats_text};
+
+    ghost output = { λ stats. Some (stats_text stats) };
+
+    fn fmt<W: fmt::Write>(&self, f: &mut fmt::Formatter<W>) -> fmt::Result {
+        let Stats {
+            entries,
+            kept,
+            counts,
+        } = self;
+        write!(f, "entries {entries} kept {kept} {counts}")
+    }
+}

@@ -1,0 +1,41 @@
+ghost use Rattle.std.specs.Prelude.{◌≡◌};
+ghost use Rattle.control.specs.declared.tell_fault.TellFault.TheVariants.{OutOfMemory};
+
+use std::alloc::{AllocError, AllocFailed};
+use std::io;
+use thiserror::Error;
+
+/// Why a line has no answer.
+#[derive(Clone, Copy, Debug, Error)]
+pub enum TellFault {
+    /// A write or a flush returned this error, or a write took no byte.
+    #[error("write: {0}")]
+    Write(io::Error),
+    /// A read returned this error.
+    #[error("read: {0}")]
+    Read(io::Error),
+    /// The input ended before the line feed of an answer.
+    #[error("no answer")]
+    NoAnswer,
+    /// The answer has more bytes than are read of a line.
+    #[error("answer too long")]
+    TooLong,
+    #[error("out of memory")]
+    OutOfMemory,
+}
+
+impl From<AllocError> for TellFault {
+    ghost from_gives = { λ _ fault. fault ≡ OutOfMemory };
+
+    fn from(_error: AllocError) -> TellFault {
+        TellFault::OutOfMemory
+    }
+}
+
+impl<T: Drop> From<AllocFailed<T>> for TellFault {
+    ghost from_gives = { λ _ fault. fault ≡ OutOfMemory };
+
+    fn from(_error: AllocFailed<T>) -> TellFault {
+        TellFault::OutOfMemory
+    }
+}

@@ -1,2 +1,0 @@
-pub mod Listener
-pub mod Place

@@ -1,0 +1,11 @@
+//! Tests of `control`. They see public calls alone.
+#![tactic(auto)]
+
+#[cfg(test)]
+mod lines;
+#[cfg(test)]
+mod places;
+#[cfg(test)]
+mod telling;
+#[cfg(test)]
+mod texts;

@@ -1,8 +1,0 @@
-use Rattle.session.specs.Request.IsRequest.{OfLine, OfWord}
-use Rattle.session.proofs.request.read_request.Goals as goal
-
-pub returns-in-Some : goal.returns-in-Some
-returns-in-Some c = OfWord _ _ (rw c.in-Some.is at c.read_word.ensures)
-
-pub returns-in-Some-2 : goal.returns-in-Some-2
-returns-in-Some-2 c = OfLine _ _ (rw c.in-Some-2.is at c.in_ok-line.ensures)

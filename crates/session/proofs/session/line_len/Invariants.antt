@@ -1,6 +1,0 @@
-use Rattle.std.proofs.Common.{◌≡◌, ◌+◌, drop, length}
-use Rattle.session.specs.Session.{first_line}
-use Rattle.session.proofs.session.line_len.Given as goal
-
-abbrev pub invariant-loop-place : goal.invariant-loop-place
-invariant-loop-place l = length (first_line l.bytes) ≡ l.place + length (first_line (drop l.place l.bytes))
