@@ -53,6 +53,3 @@ pub use refused_line::{RefusedLine, first_refused};
 pub use run_fault::RunFault;
 pub use seated_loop::{SeatedLoop, serve_loops};
 pub use whole_run::run_live;
-
-#[cfg(test)]
-mod tests;

@@ -125,6 +125,3 @@ fn work_of<'a>(
     lists.push(orders)?;
     Ok((jobs, lists))
 }
-
-#[cfg(test)]
-mod tests;

@@ -60,6 +60,3 @@ fn why_text(why: Why) -> &'static str {
         Why::NoMemory => "memory",
     }
 }
-
-#[cfg(test)]
-mod tests;

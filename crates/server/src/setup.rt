@@ -129,6 +129,3 @@ pub fn hall_of<R: Wait, P: Probe, K: Keep, M: Maker<P>>(
         orders,
     })
 }
-
-#[cfg(test)]
-mod tests;

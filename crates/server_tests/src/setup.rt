@@ -2,10 +2,13 @@ ghost use Rattle.std.specs.Prelude.{All, IfOk};
 ghost use Rattle.hall.specs.Seats.{IsOf};
 ghost use Rattle.probe_core.specs.Made.{IsAsked};
 
-use super::*;
-use desk_core::Catalogue;
-use probe_core::{Depends, FnMaker, Manual, ProbeFn, Rule, Threshold};
-use script::{Mode, read_script};
+use desk_core::{Catalogue, Refusal, Reply};
+use hall::{Hall, Seat};
+use probe_core::{Depends, FnMaker, Maker, Manual, Probe, ProbeFn, Rule, Threshold};
+use script::{Mode, Script, read_script};
+use server::{SetUpHall, hall_of, run_setup};
+use std::alloc::{AllocError, Global};
+use std::sync::Wait;
 use std::test::Fail;
 use test_support::{Scarcity, same};
 
@@ -70,7 +73,7 @@ fn expect_results(results: &[Result<Reply, Refusal>], lines: &[(&str, Taken)]) -
 
 /// How many changes each of the seats has made, and how many their hall's journal has.
 fn expect_seats<P: Probe>(made: SetUpHall<P>) -> Result<(), Fail> {
-    let SetUpHall { hall, seats, .. } = made;
+    let (hall, seats) = made.into_hall();
     let changes: [u64; 3] = [4, 0, 0];
     same(&seats.len(), &3, &"seats")?;
     for (seat, made) in seats.iter().zip(changes) {
@@ -103,7 +106,7 @@ fn expect_hall<R: Wait, P: Probe, M: Maker<P>>(
     maker: &M,
 ) -> Result<(), Fail> {
     let made = hall_of(rt, alloc, script, maker, 3)?;
-    expect_results(&made.results, &LINES)?;
+    expect_results(made.results(), &LINES)?;
     expect_seats(made)
 }
 
@@ -245,12 +248,13 @@ fn hall_in<R: Wait>(rt: &R, alloc: Global, steps: usize) -> Result<Option<u64>, 
     let Ok(made) = made else {
         return Ok(None);
     };
-    let SetUpHall { seats, results, .. } = &made;
+    let results = Vec::from_slice(alloc, made.results())?;
+    let (_hall, seats) = made.into_hall();
     let mut changes = seats.iter().map(|seat| seat.made());
     let first = changes.next().unwrap_or(0);
     same(&changes.next(), &Some(0), &"second seat")?;
     same(&changes.next(), &Some(0), &"third seat")?;
-    replies_of(Some(results), first)
+    replies_of(Some(&results), first)
 }
 
 #[test]

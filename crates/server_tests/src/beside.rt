@@ -3,13 +3,13 @@
 ghost use Rattle.std.specs.List.{All};
 ghost use Rattle.hall.specs.Seats.{IsOf};
 
-use crate::tests::changes::watch;
-use crate::tests::ends::{check_beside_silence, check_beside_slowness, end_under_load};
-use crate::tests::full::fill;
-use crate::tests::halls::{Maker, Teller, counts_of, hall_of_a, seat_loops};
-use crate::tests::scenes::{Counts, Place};
-use crate::{SeatedLoop, serve_loops};
+use crate::changes::watch;
+use crate::ends::{check_beside_silence, check_beside_slowness, end_under_load};
+use crate::full::fill;
+use crate::halls::{Maker, Teller, counts_of, hall_of_a, seat_loops};
+use crate::scenes::{Counts, Place};
 use hall::{Hall, Seat};
+use live_run::{SeatedLoop, serve_loops};
 use live_server::News;
 use probe_core::Manual;
 use std::alloc::Global;

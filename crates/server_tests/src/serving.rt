@@ -1,18 +1,20 @@
 ghost use Rattle.std.specs.Prelude.{◌≤◌, length};
 ghost use Rattle.probe_core.specs.Made.{IsAsked};
 
-use super::*;
-use crate::setup::{SetUpHall, hall_of};
 use client::{Told, ask};
 use crew::{CallEnd, CrewWhy};
+use desk_core::{Refusal, Reply};
 use grpc_frame::Code;
-use probe_core::{Depends, Event, FnMaker, Maker, Manual, ProbeFn, Rule, Threshold};
+use probe_core::{Depends, Event, FnMaker, Maker, Manual, Probe, ProbeFn, Rule, Threshold};
 use script::{Mode, read_script};
+use server::{Capacity, ServeFault, Served, SetUpHall, hall_of, serve};
+use std::alloc::{AllocError, Global};
 use std::io::{BufReader, Read, Write};
-use std::net::{Net, TcpStream};
-use std::sync::Arc;
+use std::net::{Net, TcpListener, TcpStream};
 use std::sync::atomic::{AtomicU32, Ordering};
+use std::sync::{Arc, Wait};
 use std::test::Fail;
+use std::thread::Threads;
 use std::time::{Clock, Duration};
 use std::{io, thread};
 use test_support::{Scarcity, same};

@@ -1,5 +1,5 @@
-use crate::tests::beside::{Scene, serve_clients};
-use crate::tests::scenes::{Counts, Watcher, client, expect_checked, expect_end};
+use crate::beside::{Scene, serve_clients};
+use crate::scenes::{Counts, Watcher, client, expect_checked, expect_end};
 use live_server::News;
 use std::alloc::Global;
 use std::io::{ErrorKind, Read, Write};

@@ -1,9 +1,9 @@
 //! What clients of a run say in sessions, and what they are answered.
 
-use crate::tests::many::many;
-use crate::tests::runs::ask;
-use crate::tests::scenes::{Watcher, expect_checked};
-use crate::tests::sessions::{Addresses, SCRIPT, run_beside};
+use crate::many::many;
+use crate::runs::ask;
+use crate::scenes::{Watcher, expect_checked};
+use crate::sessions::{Addresses, SCRIPT, run_beside};
 use desk_core::Slot;
 use live_server::News;
 use std::alloc::Global;

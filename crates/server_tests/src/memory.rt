@@ -1,7 +1,7 @@
-use crate::RunFault;
-use crate::tests::ready::Ready;
-use crate::tests::runs::{SCRIPT, set_up};
-use crate::tests::scenes::Place;
+use crate::ready::Ready;
+use crate::runs::{SCRIPT, set_up};
+use crate::scenes::Place;
+use live_run::RunFault;
 use std::alloc::Global;
 use std::net::{Net, TcpListener, TcpStream};
 use std::sync::Wait;

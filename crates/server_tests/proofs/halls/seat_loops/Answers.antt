@@ -2,7 +2,7 @@ use Rattle.std.proofs.Common.{rules, ◌≡◌, [], ◌∷◌, ◌++◌, subst, 
 use Rattle.std.proofs.lemmas.List.Elements.{All-push}
 use Rattle.std.specs.List.{All}
 use Rattle.hall.specs.Seats.{IsOf}
-use Rattle.live_run.proofs.tests.halls.seat_loops.Goals as goal
+use Rattle.server_tests.proofs.halls.seat_loops.Goals as goal
 
 pub loop-server-preserved : goal.loop-server-preserved
 loop-server-preserved c =

@@ -1,7 +1,7 @@
 ghost use Rattle.std.specs.Prelude.{◌≡◌, length};
 
-use crate::{RefusedLine, first_refused};
 use desk_core::{Refusal, Reply};
+use live_run::{RefusedLine, first_refused};
 use std::test::Fail;
 use test_support::same;
 

@@ -1,8 +1,8 @@
 //! As many Watches as all loops may hold together, which a session counts.
 
-use crate::tests::scenes::Watcher;
-use crate::tests::sessions::{Addresses, SCRIPT, run_beside};
-use crate::tests::talks::{Talk, Talker};
+use crate::scenes::Watcher;
+use crate::sessions::{Addresses, SCRIPT, run_beside};
+use crate::talks::{Talk, Talker};
 use std::alloc::Global;
 use std::net::{Net, TcpStream};
 use std::sync::Wait;

@@ -1,9 +1,9 @@
 //! What the tests of a run send to threads.
 
-use crate::tests::runs::Manuals;
-use crate::{Ran, RunFault, run_live};
+use crate::runs::Manuals;
 use control_server::ControlServer;
 use desk_core::KeepMany;
+use live_run::{Ran, RunFault, run_live};
 use live_server::{EventServer, News};
 use probe_core::Manual;
 use server::SetUpHall;

@@ -2,14 +2,14 @@
 
 ghost use Rattle.std.specs.Prelude.{◌≤◌};
 
-use crate::tests::ready::Ready;
-use crate::tests::runs::set_up;
-use crate::tests::scenes::{Counts, Place};
-use crate::tests::talks::Talk;
-use crate::{Ran, RunFault};
+use crate::ready::Ready;
+use crate::runs::set_up;
+use crate::scenes::{Counts, Place};
+use crate::talks::Talk;
 use control::ControlListener;
 use control_server::{ControlServer, MAX_SESSIONS};
 use desk_core::{Call, Entry, KeepMany, Setting, Slot};
+use live_run::{Ran, RunFault};
 use live_server::{EventServer, News};
 use probe_core::Manual;
 use std::alloc::Global;

@@ -4,11 +4,11 @@ ghost use Rattle.std.specs.Prelude.{IfOk};
 ghost use Rattle.std.specs.List.{All};
 ghost use Rattle.hall.specs.Seats.{IsOf};
 
-use crate::SeatedLoop;
-use crate::tests::scenes::Counts;
+use crate::scenes::Counts;
 use desk_core::{Catalogue, Refusal, Reply, Setting, Watch};
 use hall::{Hall, Seat};
 use health_wire::Serving;
+use live_run::SeatedLoop;
 use live_server::{EventServer, News};
 use probe_core::Manual;
 use std::alloc::Global;

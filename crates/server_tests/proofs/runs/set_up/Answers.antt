@@ -1,7 +1,7 @@
 use Rattle.std.proofs.Common.{◌≡◌, ap, arith, length}
 use Rattle.script.specs.declared.script.Mode.TheVariants.{Replay, Run}
 use Rattle.live_run.proofs.SetupLines.{results_in_place}
-use Rattle.live_run.proofs.tests.runs.set_up.Goals as goal
+use Rattle.server_tests.proofs.runs.set_up.Goals as goal
 
 pub first_refused-refused-requires : goal.first_refused-refused-requires
 first_refused-refused-requires g c = record {

@@ -1,9 +1,9 @@
 ghost use Rattle.std.specs.List.{All};
 ghost use Rattle.hall.specs.Seats.{IsOf};
 
-use crate::tests::beside::{Scene, serve_scene};
-use crate::tests::halls::{Maker, new_hall, register, seat_loops};
-use crate::tests::scenes::{Counts, Place, Watcher, client, expect_end};
+use crate::beside::{Scene, serve_scene};
+use crate::halls::{Maker, new_hall, register, seat_loops};
+use crate::scenes::{Counts, Place, Watcher, client, expect_end};
 use desk_core::{Refusal, Reply, Setting};
 use hall::{Hall, Seat};
 use live_server::News;

@@ -1,9 +1,9 @@
 ghost use Rattle.std.specs.List.{All};
 ghost use Rattle.hall.specs.Seats.{IsOf};
 
-use crate::tests::beside::{Scene, serve_scene};
-use crate::tests::halls::{Maker, Teller, hall_of_a, seat_loops};
-use crate::tests::scenes::{Counts, Place, Watcher};
+use crate::beside::{Scene, serve_scene};
+use crate::halls::{Maker, Teller, hall_of_a, seat_loops};
+use crate::scenes::{Counts, Place, Watcher};
 use hall::{Hall, Seat};
 use live_server::News;
 use probe_core::Manual;

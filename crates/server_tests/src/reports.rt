@@ -1,9 +1,11 @@
-use super::*;
+use crew::CallEnd;
+use desk_core::Desk;
 use grpc_frame::Code;
 use probe_core::Manual;
+use server::Served;
 use std::test::Fail;
 use test_support::same;
-use web_call::ExchangeFault;
+use web_call::{ExchangeFault, Outcome, Why};
 
 const ENDS: [CallEnd; 8] = [
     CallEnd::Done(Outcome::Status(Code::Ok)),

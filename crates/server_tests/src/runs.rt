@@ -1,10 +1,10 @@
 ghost use Rattle.std.specs.Prelude.{◌≤◌, IfOk};
 
-use crate::tests::scenes::{Counts, Watcher, expect_checked};
-use crate::tests::sessions::{Outcome, run_beside};
-use crate::tests::talks::Talk;
-use crate::{RefusedLine, first_refused};
+use crate::scenes::{Counts, Watcher, expect_checked};
+use crate::sessions::{Outcome, run_beside};
+use crate::talks::Talk;
 use desk_core::{KeepMany, Reply};
+use live_run::{RefusedLine, first_refused};
 use live_server::News;
 use probe_core::{Maker, Manual, Probe, Rule};
 use script::{Mode, read_script};

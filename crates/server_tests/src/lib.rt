@@ -1,0 +1,36 @@
+//! Tests of the servers, of the one that ends (`server`) and of the one that runs until it is told to end (`live_run`). They see public
+//! calls alone.
+#![tactic(auto)]
+
+#[cfg(test)]
+mod beside;
+#[cfg(test)]
+mod changes;
+#[cfg(test)]
+mod ends;
+#[cfg(test)]
+mod full;
+#[cfg(test)]
+mod halls;
+#[cfg(test)]
+mod many;
+#[cfg(test)]
+mod memory;
+#[cfg(test)]
+mod ready;
+#[cfg(test)]
+mod refused;
+#[cfg(test)]
+mod reports;
+#[cfg(test)]
+mod runs;
+#[cfg(test)]
+mod scenes;
+#[cfg(test)]
+mod serving;
+#[cfg(test)]
+mod sessions;
+#[cfg(test)]
+mod setup;
+#[cfg(test)]
+mod talks;
