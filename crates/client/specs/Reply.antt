@@ -98,7 +98,8 @@ pub data IsBadRest (method : Method) (next : Next) (more : ℕ) (rest : List ℕ
   CutFrame : next ≡ Last 0 → 0 < length rest → BeginsWithNoFrame rest → IsBadRest method next more rest
   NoTrailers : method ≡ Check → next ≡ Last 0 → rest ≡ [] → IsBadRest method next more rest
 
--- the bytes are no front of a response to the call: by the head, by the chunks, or by the content
+-- the bytes show that no response to the call begins so: by the head, by the chunks, or by the content. A fault shows at the end of its
+-- part: the head, the line of a chunk, the two bytes behind a chunk, the flag or the length of a frame, or the frame
 pub data IsBad (method : Method) (most : ℕ) (bytes : List ℕ) : Type 0 where
   ByHead : IsHead bytes → IsFramed bytes (Err BadResponse) → IsBad method most bytes
   ByBody : (head body : List ℕ) (framing : Framing) → bytes ≡ head ++ body → IsHead head → IsFramed head (Ok framing) → IsBadBody framing body

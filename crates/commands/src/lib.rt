@@ -13,8 +13,8 @@
 //! use probe_core::{Maker, Probe};
 //! use std::alloc::Global;
 //!
-//! /// What a script of one service comes to.
-//! pub fn replay_one<P: Probe, M: Maker<P>>(alloc: Global, maker: &M, script: &[u8]) -> Result<Vec<u8>, Fault>
+//! /// What a script comes to.
+//! pub fn output_of<P: Probe, M: Maker<P>>(alloc: Global, maker: &M, script: &[u8]) -> Result<Vec<u8>, Fault>
 //!     ensures { IfOk result (λ output. Replays script.now output.items) }
 //! {
 //!     replay(alloc, maker, script)

@@ -1,7 +1,7 @@
 use crate::rows::{Answer, Row, expect_change};
 use desk_core::{Desk, Finding, Refusal, Reply, Setting, Slot};
 use probe_core::tracked::Tracked;
-use probe_core::{Event, Manual, Probe, Rule, Start, Threshold};
+use probe_core::{Depends, Event, Manual, Probe, Rule, Start, Threshold};
 use std::alloc::Global;
 use std::sync::Arc;
 use std::sync::atomic::{AtomicU64, Ordering};
@@ -165,6 +165,22 @@ fn expect_heard<P: Probe>(alloc: Global, one: P, two: P, rows: &[Heard; 11]) -> 
         same(&notes, expected, &(rule, at))?;
     }
     Ok(())
+}
+
+/// Nothing is heard of a service that depends on others.
+#[test]
+fn no_event_reaches_a_probe_that_depends(rt: HostRuntime) -> Result<(), Fail> {
+    let alloc = rt.alloc();
+    let notes = counter(alloc)?;
+    let depends = Counted {
+        probe: Depends::new(1),
+        notes: notes.clone()?,
+    };
+    let mut desk = Desk::new(alloc, 3);
+    drop(desk.register(0, slot(1)?, depends));
+    expect_change(&mut desk, Row::Observe(1, Finding::Pass, WRONG_KIND), 0)?;
+    expect_change(&mut desk, Row::Set(1, Setting::Up, WRONG_KIND), 1)?;
+    same(&notes.load(Ordering::SeqCst), &0, &"notes")
 }
 
 #[test]

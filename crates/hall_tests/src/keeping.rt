@@ -2,14 +2,13 @@
 
 use crate::changes::{Story, Turn, Who, expect_story};
 use crate::guest::manuals;
-use crate::race::{Race, closed_after};
+use crate::race::{Race, expect_race};
 use crate::rows::{DONE, Found, Row, Step};
-use desk_core::{Behind, Capacity, Finding, Keep, Setting};
+use desk_core::{Behind, Finding, Keep, Setting};
 use hall::Extent;
 use health_wire::Serving;
 use probe_core::Manual;
 use std::test::Fail;
-use test_support::same;
 
 /// The last four.
 #[derive(Drop)]
@@ -108,9 +107,6 @@ const EACH_OF_B: &[Row] = &[
     (Step::Retire("b"), Found::Reply),
 ];
 
-/// For how many entries a hall that keeps four takes memory at most: sixteen more can come before it forgets.
-const MOST_HELD: usize = 20;
-
 static EACH_CALL: Race = Race {
     names: &["a", "b", ""],
     max_entries: 1_000,
@@ -132,10 +128,5 @@ static EACH_CALL: Race = Race {
 
 #[test]
 fn a_hall_that_forgets_takes_each_call_of_two_threads(rt: HostRuntime) -> Result<(), Fail> {
-    let alloc = rt.alloc();
-    let probes = manuals(alloc)?;
-    let closed = closed_after::<HostRuntime, Manual, KeepFour>(&rt, alloc, &EACH_CALL, probes)?;
-    let Capacity { entries, changes } = closed.desk.capacity();
-    let are_few = entries <= MOST_HELD && changes <= MOST_HELD;
-    same(&are_few, &true, &(entries, changes))
+    expect_race::<HostRuntime, KeepFour>(&rt, rt.alloc(), &EACH_CALL)
 }

@@ -154,6 +154,20 @@ fn refuses_a_bad_body(rt: HostRuntime) -> Result<(), Fail> {
     Ok(())
 }
 
+#[test]
+fn tells_a_thousand_messages(rt: HostRuntime) -> Result<(), Fail> {
+    let alloc = rt.alloc();
+    let (mut body, mut told) = (Vec::new(alloc), Vec::new(alloc));
+    for _ in 0..1_000u32 {
+        body.extend_from_slice(b"\0\0\0\0\x02\x08\x01")?;
+        told.push(1)?;
+    }
+    let watch = (Method::Watch, 1_000, Ok((told.as_slice(), None)), 0);
+    expect_of_body(alloc, &body, &watch)?;
+    body.extend_from_slice(b"\x80\0\0\0\x0fgrpc-status:0\r\n")?;
+    expect_of_body(alloc, &body, &(Method::Check, 1, Ok((&told, OK)), 0))
+}
+
 /// A message of 1,048,551 bytes, which has one unknown field, and trailers of 20: a body of 1,048,576 bytes. One more is too many.
 #[test]
 fn reads_a_body_of_1_048_576_bytes(rt: HostRuntime) -> Result<(), Fail> {

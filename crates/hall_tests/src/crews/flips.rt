@@ -125,6 +125,7 @@ fn flips_with_rest(alloc: Global) -> Result<Vec<Wish>, AllocError> {
     Ok(wishes)
 }
 
+/// Watches beside the flips, and beside two lists that are done at once, one before the flips and one behind them.
 fn serve_watches<R: Wait + Threads + Sync + Clock>(
     rt: &R,
     alloc: Global,
@@ -134,10 +135,12 @@ fn serve_watches<R: Wait + Threads + Sync + Clock>(
 ) -> Result<Found, Fail> {
     let opened = AtomicU32::new(0);
     let mut orders = Vec::new(alloc);
+    orders.push(Vec::new(alloc))?;
     orders.push(orders_of(alloc, &flips_with_rest(alloc)?)?)?;
+    orders.push(Vec::new(alloc))?;
     let mut plan = plan_of(WATCHES);
     plan.most = 10_000;
-    plan.seats = WATCHES + 1;
+    plan.seats = WATCHES + 3;
     plan.looks = looks;
     let mut probes = Vec::with_capacity(alloc, 1)?;
     let awaited = u32::from(WATCHES);
@@ -192,8 +195,9 @@ fn empty_pages(alloc: Global) -> Result<Vec<Vec<u8>>, AllocError> {
 }
 
 // A Watch is told all changes but those that were made before it was open, which are few: those who make them wait for it. A worker
-// that ends its Watches early fails here, and one whose bell is made too late; a crew that rings before its orders; and
-// `serve_all_always_lost`, a crew that tells that all calls were lost, or that they were answered, and opens no job.
+// that ends its Watches early fails here, and one whose bell is made too late; a crew that rings before its orders, that rings for its
+// first list alone, or that ends the Watches with the list that is done first; and `serve_all_always_lost`, a crew that tells that all
+// calls were lost, or that they were answered, and opens no job.
 #[test]
 fn a_watch_tells_each_change_up_to_the_last(rt: HostRuntime) -> Result<(), Fail> {
     let alloc = rt.alloc();
@@ -225,7 +229,10 @@ fn a_watch_takes_no_more_looks_than_its_limit(rt: HostRuntime) -> Result<(), Fai
     let alloc = rt.alloc();
     for looks in [0u32, 3] {
         let mut pages = empty_pages(alloc)?;
-        let found = serve_watches(&rt, alloc, &Scene::new(), looks, &mut pages)?;
+        let scene = Scene::new();
+        let found = serve_watches(&rt, alloc, &scene, looks, &mut pages)?;
+        let made = scene.made.load(Ordering::SeqCst);
+        same(&(made < FLIPS / 2), &true, &made)?;
         for end in found.calls?.iter() {
             let messages = messages_of(end)?;
             same(&(messages <= looks + 1), &true, &(messages, looks))?;

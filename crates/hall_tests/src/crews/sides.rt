@@ -56,7 +56,8 @@ fn serve_three_lists<'a, R: Wait + Threads + Sync + Clock>(
     Ok(serve(rt, alloc, &plan, orders, probes, jobs, &OpenTurnstile)?)
 }
 
-// A crew that makes all lists on one thread or on two makes all orders of some of them before the others begin.
+// A crew that makes one list behind another, or two side by side and then the third, makes all orders of some of them before the others
+// begin.
 #[test]
 fn three_lists_are_made_at_the_same_time(rt: HostRuntime) -> Result<(), Fail> {
     let heard = [Heard::new(), Heard::new(), Heard::new()];
