@@ -2,13 +2,14 @@ ghost use Rattle.std.specs.Prelude.{◌≡◌};
 ghost use Rattle.live_server.specs.Loop.{table_of};
 ghost use Rattle.live_server.specs.Settled.{KeepsAccount};
 
+use crate::acceptor::Acceptor;
 use crate::calls::{Calls, Counts, FIRST_TOKEN, Limits, Round};
 use crate::connection::Ready;
 use crate::news::News;
 use crate::queue::{Queue, RETRY_MILLIS};
 use crate::tally::{Tallied, Tally};
 use mio::net::TcpListener;
-use mio::{Events, Interest, Poll, Registry, Token, Waker};
+use mio::{Events, Poll, Registry, Token, Waker};
 use std::alloc::{AllocError, Global};
 use std::net::Net;
 use std::sync::{Arc, Wait};
@@ -37,8 +38,10 @@ pub struct EventServer {
     poll: Poll,
     events: Events,
     /// None once all is to end.
-    listener: Option<TcpListener>,
+    acceptor: Option<Acceptor>,
     queue: Queue,
+    /// How often connections were left to others by the last round.
+    left: u64,
     swept: Instant,
     calls: Calls,
     /// The most open Watches.
@@ -63,15 +66,12 @@ impl EventServer {
     ) -> io::Result<EventServer>
         ensures { IfOk result (λ server. held_by server ≡ empty_table limits) }
     {
-        let poll = Poll::new(rt)?;
-        let mut listener = listener;
-        poll.registry()
-            .register(&mut listener, LISTENER, Interest::READABLE)?;
         Ok(EventServer {
-            poll,
+            poll: Poll::new(rt)?,
             events: Events::with_capacity(alloc, MOST_EVENTS)?,
-            listener: Some(listener),
+            acceptor: Some(Acceptor::new(listener)),
             queue: Queue::Waiting,
+            left: 0,
             swept: Instant::now(rt)?,
             calls: Calls::new(alloc, limits),
             most_watches: limits.watches,
@@ -157,6 +157,7 @@ impl EventServer {
         ensures stays { D.stays door.old door.new }
     {
         self.tell_room(news);
+        self.arrange(news);
         let timeout = Duration::from_millis(self.timeout(news));
         let polled = self.poll.poll(&mut self.events, Some(timeout));
         let round = Round {
@@ -165,9 +166,11 @@ impl EventServer {
             ends: news.has_ended(),
         };
         let registry = self.poll.registry();
-        if take_events(&self.events, registry, &mut self.calls, door, round) {
+        let left = news.left();
+        if take_events(&self.events, registry, &mut self.calls, door, round) || left != self.left {
             self.queue = self.queue.reported();
         }
+        self.left = left;
         self.calls.look(registry, door, round);
         self.sweep(round.now);
         if round.ends {
@@ -182,7 +185,10 @@ impl EventServer {
     fn close(&mut self)
         ensures { held_by self.new ≡ held_by self.old }
     {
-        self.listener = None;
+        if let Some(acceptor) = &mut self.acceptor {
+            acceptor.silence(&self.poll, LISTENER);
+        }
+        self.acceptor = None;
         self.queue = Queue::Empty;
     }
 
@@ -206,11 +212,35 @@ impl EventServer {
         }
     }
 
-    /// Whether it accepts connections that wait. It leaves them to loops that have room, where it has none.
-    fn accepts(&self, news: &News) -> bool {
-        self.queue == Queue::Waiting
+    /// Whether it takes connections. It leaves them to loops that have room, where it has none.
+    fn takes(&self, news: &News) -> bool {
+        !matches!(self.queue, Queue::Failed(_))
             && !self.calls.table().is_full()
             && (self.has_room() || !news.is_room())
+    }
+
+    /// Whether it accepts connections that wait.
+    fn accepts(&self, news: &News) -> bool {
+        self.queue == Queue::Waiting && self.takes(news)
+    }
+
+    /// Has connections reported to this loop exactly while it takes them. Where it was woken for one that it does not take, it tells
+    /// the others, of which none was.
+    fn arrange(&mut self, news: &News)
+        ensures { held_by self.new ≡ held_by self.old }
+    {
+        let takes = self.takes(news);
+        let Some(acceptor) = &mut self.acceptor else {
+            return;
+        };
+        if !takes {
+            if acceptor.silence(&self.poll, LISTENER) && self.queue != Queue::Empty {
+                news.leave();
+            }
+        } else if acceptor.report(&self.poll, LISTENER).is_err() {
+            // Unreported, they are looked for in each round.
+            self.queue = self.queue.reported();
+        }
     }
 
     /// How many milliseconds the next round may wait.
@@ -253,11 +283,11 @@ impl EventServer {
         ensures names { D.names door.new ≡ D.names door.old }
         ensures stays { D.stays door.old door.new }
     {
-        let Some(listener) = &self.listener else {
+        let Some(acceptor) = &self.acceptor else {
             return;
         };
-        match listener.accept() {
-            Ok((stream, _)) => {
+        match acceptor.accept() {
+            Ok(stream) => {
                 let registry = self.poll.registry();
                 if !self.calls.take_in(registry, door, stream, round) {
                     self.queue = Queue::failed(round.now);

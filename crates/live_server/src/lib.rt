@@ -30,6 +30,7 @@
 //! ```
 #![tactic(auto)]
 
+mod acceptor;
 mod calls;
 mod connection;
 mod event_server;

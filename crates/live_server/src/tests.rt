@@ -6,4 +6,5 @@ mod queues;
 mod room;
 mod scenes;
 mod times;
+mod waking;
 mod watches;
