@@ -2,29 +2,31 @@ use commands::bounds::{Bounds, bounds_of};
 use std::test::Fail;
 use test_support::same;
 
-/// Connections, Watches and threads, and the shares of the loops.
-const ROWS: [(u32, u32, u16, &[(usize, usize)]); 6] = [
-    (10, 9, 1, &[(10, 9)]),
-    (10, 9, 3, &[(4, 3), (3, 3), (3, 3)]),
-    (10, 10, 4, &[(3, 3), (3, 3), (2, 2), (2, 2)]),
-    (7, 1, 2, &[(4, 1), (3, 0)]),
+/// Connections, Watches and threads, and how many loops share places for them.
+const ROWS: [(u32, u32, u16, u16); 6] = [
+    (10, 9, 0, 1),
+    (10, 9, 3, 3),
+    (10, 10, 64, 10),
+    (100, 1, 65, 64),
     // fewer connections than threads
-    (2, 1, 64, &[(1, 1), (1, 0)]),
-    (1, 0, 64, &[(1, 0)]),
+    (2, 1, 64, 2),
+    (1, 0, 64, 1),
 ];
 
 #[test]
-fn shares_out_all_that_a_server_holds(rt: HostRuntime) -> Result<(), Fail> {
-    for (connections, watches, threads, expected) in &ROWS {
+fn loops_share_places_for_all_that_a_server_holds(_rt: HostRuntime) -> Result<(), Fail> {
+    for (connections, watches, threads, loops) in &ROWS {
         let Some(bounds) = Bounds::new(*connections, *watches) else {
             return same(&"none", &"bounds", connections);
         };
-        let shares = bounds.shares(rt.alloc(), bounds.loops(*threads))?;
-        let mut found = Vec::new(rt.alloc());
-        for share in &shares {
-            found.push((share.connections, share.watches))?;
-        }
-        same(&found.as_slice(), expected, connections)?;
+        same(&bounds.loops(*threads), loops, connections)?;
+        let limits = bounds.limits();
+        let expected = (*connections as usize, *watches as usize);
+        same(
+            &(limits.connections, limits.watches),
+            &expected,
+            connections,
+        )?;
     }
     Ok(())
 }

@@ -22,6 +22,7 @@ use std::test::Fail;
 use test_support::same;
 
 mod beside;
+mod filled;
 mod ready;
 
 /// Why a script sets up no hall of one seat, if it sets up none.

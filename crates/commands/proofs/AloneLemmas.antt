@@ -14,7 +14,7 @@ use Rattle.desk_core.specs.Past.{past}
 use Rattle.desk_core.specs.Seats.{calls_by}
 use Rattle.desk_core.specs.Watch.{IsOlder}
 use Rattle.hall.specs.Seats.{SeatState, IsCarriedOut, IsSeenIn, own_calls, new_seats}
-use Rattle.crew.specs.CarriedOut.{HasCarriedOut, replied}
+use Rattle.hall.specs.CarriedOut.{HasCarriedOut, replied}
 use Rattle.server.specs.Setup.{AreSetUp, SetUpState}
 use Rattle.live_run.specs.WholeRun.{HasRunLoops}
 use Rattle.live_run.proofs.RunLemmas.{journal_set}

@@ -1,5 +1,5 @@
 pub mod AloneLemmas
 pub mod AnswerLemmas
-pub mod BoundsLemmas
 pub mod RunLemmas
 pub mod ServiceLemmas
+pub mod TellLemmas

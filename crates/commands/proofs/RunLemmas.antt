@@ -1,17 +1,17 @@
 -- What a setup leaves behind whose changes were all made.
-use Rattle.std.proofs.Common.{◌≡◌, IfNone, ℕ, suc, ◌<◌, ◌≤◌, Option, None, List, [], ◌∷◌, length, Result, refl, sym, ap, subst, ◌∙◌, arith}
+use Rattle.std.proofs.Common.{◌≡◌, IfNone, ℕ, suc, ◌<◌, ◌≤◌, Option, None, List, [], ◌∷◌, ◌++◌, length, Result, refl, sym, ap, subst, ◌∙◌, arith}
 use Rattle.std.specs.List.{All}
 use Rattle.std.proofs.lemmas.Bool.Decides.{nat_tests}
 use Rattle.std.proofs.lemmas.List.{length-set}
 use Rattle.std.proofs.lemmas.List.FromFn.{length-map-range_with_len}
-use Rattle.std.proofs.lemmas.List.Elements.{All-head, All-tail}
+use Rattle.std.proofs.lemmas.List.Elements.{All-head, All-push, All-tail}
 use Rattle.desk_core.specs.declared.call.Call.{Call}
 use Rattle.desk_core.specs.declared.entry.Entry.{Entry}
 use Rattle.desk_core.specs.declared.refusal.Refusal.{Refusal}
 use Rattle.desk_core.specs.declared.reply.Reply.{Reply}
 use Rattle.desk_core.specs.Mutation.{AreAnswered, Ends, Then, IsAnswered, Taken, NotListed, BadRule, Full, NoMemory}
 use Rattle.hall.specs.Seats.{HallState, SeatState, IsCarriedOut, new_seats}
-use Rattle.crew.specs.CarriedOut.{replied}
+use Rattle.hall.specs.CarriedOut.{replied}
 use Rattle.server.specs.Setup.{SetUpState, AreSetUp}
 use Rattle.live_run.specs.declared.run_fault.RunFault.{RunFault}
 use Rattle.live_run.specs.declared.run_fault.RunFault.TheVariants as faults
@@ -24,7 +24,10 @@ use Rattle.live_run.specs.WholeRun.{IsLaterFault, run_fault}
 use Rattle.live_run.specs.WholeRun.IsLaterFault.{NoMemory as NoMemoryLater, SeatsMissing as SeatsMissingLater}
 use Rattle.commands.specs.declared.run_failure.RunFailure.{RunFailure}
 use Rattle.commands.specs.declared.run_failure.RunFailure.TheVariants.{Refused}
-use Rattle.commands.specs.Run.{AreMadeAlone, EndsSetUp, IsWhollySetUp}
+use Rattle.live_server.specs.Loop.{EventServer}
+use Rattle.live_server.specs.declared.places.Limits.{Limits}
+use Rattle.live_server.specs.Loop.{empty_table, held_by}
+use Rattle.commands.specs.Run.{AreLoopsOf, AreMadeAlone, EndsSetUp, IsWhollySetUp}
 
 -- a change that was made has one entry
 one_made : (n most seat : ℕ) (before after : List Entry) (call : Option Call) (result : Result Reply Refusal) (calls : List (Option Call)) (results : List (Result Reply Refusal))
@@ -109,3 +112,9 @@ pub out_of_memory : (calls : List (Option Call)) (made : SetUpState) (loops : �
     → IfNone (run_fault loops (length made.seats)) (IsLaterFault made fault) → fault ≡ faults.NoMemory
 out_of_memory calls made loops fault whole some enough failed =
     only_memory calls made fault whole (no_such_fault _ loops (length made.seats) some (omega (arith, enough, whole.all)) failed)
+
+-- one more loop that may hold so much
+pub one_loop_more : (limits : Limits) (old new : List EventServer) (server : EventServer) → new ≡ old ++ server ∷ [] → AreLoopsOf limits old
+    → held_by server ≡ empty_table limits → AreLoopsOf limits new
+one_loop_more limits old new server pushed all empty =
+    subst (AreLoopsOf limits) (sym pushed) (All-push (λ server. held_by server ≡ empty_table limits) old server all empty)

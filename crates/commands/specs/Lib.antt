@@ -7,3 +7,4 @@ pub mod Run
 pub mod RunFailure
 pub mod RunOptions
 pub mod Service
+pub mod Tell

@@ -1,4 +1,4 @@
--- How the command `run` sets its hall up.
+-- How the command `run` sets its hall up, and how much its loops may hold.
 use Rattle.std.specs.Prelude.{ℕ, ◌≡◌, List, [], length, Option, Result}
 use Rattle.std.specs.List.{All}
 use Rattle.desk_core.specs.declared.call.Call.{Call}
@@ -11,8 +11,12 @@ use Rattle.script.specs.Change.{line_changes}
 use Rattle.script.specs.declared.script.Mode.TheVariants.{Run}
 use Rattle.script.specs.Script.{ScriptParts, IsScript, IsScriptFault}
 use Rattle.server.specs.Setup.{SetUpState, AreSetUp}
+use Rattle.live_server.specs.Loop.{EventServer}
+use Rattle.live_server.specs.declared.places.Limits.{Limits}
+use Rattle.live_server.specs.Loop.{empty_table, held_by}
 use Rattle.live_run.specs.declared.refused_line.RefusedLine.{RefusedLine}
 use Rattle.live_run.specs.RefusedLine.{IsFirstRefused, IsMade}
+use Rattle.commands.specs.declared.bounds.Bounds.{Bounds}
 use Rattle.commands.specs.declared.run_failure.RunFailure.{RunFailure}
 use Rattle.commands.specs.declared.run_failure.RunFailure.TheVariants.{Read, Script, Refused, Bind, EventLoop, Write, OutOfMemory}
 
@@ -54,3 +58,11 @@ EndsSetUp bytes (Bind addr cause) = ⊥
 EndsSetUp bytes (EventLoop cause) = ⊥
 EndsSetUp bytes (Write cause) = ⊥
 EndsSetUp bytes OutOfMemory = Unit {0}
+
+-- how much the loops of a run hold together
+abbrev pub limits_in : Bounds → Limits
+limits_in bounds = record { connections = bounds.connections; watches = bounds.watches }
+
+-- each of these loops holds no connection yet, and may hold so much
+abbrev pub AreLoopsOf : Limits → List EventServer → Type 0
+AreLoopsOf limits servers = All (λ server. held_by server ≡ empty_table limits) servers

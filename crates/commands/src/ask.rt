@@ -1,4 +1,5 @@
-ghost use Rattle.std.specs.Prelude.{◌≡◌, ◌≤◌, length};
+ghost use Rattle.std.specs.Prelude.{◌≡◌, ◌≤◌, ◌↔◌, ◌⊎◌, IfNone, IfOk, IfSome, length};
+ghost use Rattle.commands.specs.Expect.{IsExpected};
 
 use crate::command::port_in;
 use crate::deadline::{Deadline, TimedStream};
@@ -21,6 +22,7 @@ const MAX_NAME_LEN: usize = 1_048_576;
 pub fn run<R>(rt: &R, matches: &ArgMatches<'_>, addr: SocketAddr) -> Result<u8, Fault>
 where
     R: Print + Clock + AllocGlobal + Net<Stream = TcpStream>,
+    ensures one_of_two { IfOk result (λ status. (status ≡ 0) ⊎ (status ≡ 3)) }
 {
     let alloc = rt.alloc();
     let name = name_in(matches);
@@ -32,9 +34,31 @@ where
         Some(timeout) => ask_within(rt, alloc, addr, timeout, method, name, most)?,
         None => ask_for_good(rt, alloc, addr, method, name, most)?,
     };
-    let output = output_of(alloc, &told)?;
-    match io::writer(rt).write_all(&output) {
-        Ok(()) => Ok(exit_status(method, matches.get_str("expect"), &told)),
+    print_told(
+        alloc,
+        &mut io::writer(rt),
+        method,
+        matches.get_str("expect"),
+        &told,
+    )
+}
+
+/// Prints what was told. It tells the exit status, where a status of this name may be expected.
+pub fn print_told<O: Write>(
+    alloc: Global,
+    output: &mut O,
+    method: Method,
+    expected: Option<&str>,
+    told: &Told,
+) -> Result<u8, Fault>
+    ensures nothing { IfNone expected.entry (IfOk result (λ status. status ≡ 0)) }
+    ensures met { IfSome expected.entry (λ name.
+        IfOk result (λ status. (status ≡ 0) ↔ IsExpected method name.now told.now)) }
+    ensures one_of_two { IfOk result (λ status. (status ≡ 0) ⊎ (status ≡ 3)) }
+{
+    let text = output_of(alloc, told)?;
+    match output.write_all(&text) {
+        Ok(()) => Ok(exit_status(method, expected, told)),
         Err(_) => Err(Fault::Write),
     }
 }

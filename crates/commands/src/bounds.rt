@@ -1,9 +1,7 @@
-ghost use Rattle.std.specs.Prelude.{min, max, ◌≡◌, ◌+◌, ◌/◌, ◌≤◌, ◌<◌, ◌↔◌, ◌⊎◌, IsSome, IsNone, IfOk, IfSome, length};
-ghost use Rattle.std.specs.List.{All, sum_by};
-ghost use Rattle.commands.specs.Bounds.{IsFairShare, share_of, watches_of};
+ghost use Rattle.std.specs.Prelude.{min, max, ◌≡◌, ◌≤◌, ◌<◌, ◌↔◌, ◌⊎◌, IsSome, IsNone, IfSome};
+ghost use Rattle.commands.specs.Bounds.{watches_of};
 
 use live_server::Limits;
-use std::alloc::{AllocError, Global};
 
 /// The most event loops of a server.
 pub const MAX_LOOPS: u16 = 64;
@@ -47,7 +45,7 @@ impl Bounds {
         })
     }
 
-    /// How many loops serve with so many threads: no more than there are connections, since a loop without any serves nobody.
+    /// How many loops serve with so many threads: no more than there are connections, since more have nothing to do.
     pub fn loops(self, threads: u16) -> u16
         ensures value { result ≡ min (max 1 (min threads 64)) self.connections }
         ensures range { (1 ≤ result) × (result ≤ 64) }
@@ -57,41 +55,14 @@ impl Bounds {
         self.connections.min(u32::from(threads)) as u16
     }
 
-    /// Shares the bounds out among so many loops.
-    pub fn shares(self, alloc: Global, loops: u16) -> Result<Vec<Limits>, AllocError>
-        requires some { 1 ≤ loops }
-        requires served { loops ≤ self.connections }
-        ensures each { IfOk result (λ shares. length shares.items ≡ loops) }
-        ensures connections { IfOk result (λ shares. sum_by (λ share. share.connections) shares.items ≡ self.connections) }
-        ensures watches { IfOk result (λ shares. sum_by (λ share. share.watches) shares.items ≡ self.watches) }
-        ensures fair { IfOk result (λ shares. All (IsFairShare self.connections self.watches loops) shares.items) }
-    {
-        let mut shares = Vec::with_capacity(alloc, loops as usize)?;
-        for number in 0..loops {
-            shares.push(self.share(loops, number))?;
-        }
-        Ok(shares)
-    }
-
-    /// The share of the loop with this number.
-    fn share(self, loops: u16, number: u16) -> Limits
-        requires some { 1 ≤ loops }
-        requires served { loops ≤ self.connections }
-        ensures connections { result.connections ≡ share_of self.connections loops number }
-        ensures watches { result.watches ≡ share_of self.watches loops number }
+    /// How much the loops hold together.
+    pub fn limits(self) -> Limits
+        ensures connections { result.connections ≡ self.connections }
+        ensures watches { result.watches ≡ self.watches }
     {
         Limits {
-            connections: share_of(self.connections, loops, number) as usize,
-            watches: share_of(self.watches, loops, number) as usize,
+            connections: self.connections as usize,
+            watches: self.watches as usize,
         }
     }
-}
-
-fn share_of(whole: u32, loops: u16, number: u16) -> u32
-    requires { 1 ≤ loops }
-    ensures { result ≡ share_of whole loops number }
-{
-    let loops = u32::from(loops);
-    let more = u32::from(u32::from(number) < whole % loops);
-    whole / loops + more
 }

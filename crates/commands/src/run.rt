@@ -4,22 +4,22 @@ ghost use Rattle.desk_core.specs.declared.call.Call.{Call};
 ghost use Rattle.desk_core.specs.Past.{past};
 ghost use Rattle.hall.specs.Seats.{new_seats};
 ghost use Rattle.server.specs.Setup.{AreSetUp};
-ghost use Rattle.live_run.specs.Loops.{HaveServedAll};
+ghost use Rattle.live_run.specs.Loops.{HasEnded, HaveServedAll};
 ghost use Rattle.control.specs.Place.{place_text};
 ghost use Rattle.live_run.specs.WholeRun.{HasRun, HasRunLoops};
 ghost use Rattle.live_run.specs.declared.run_fault.RunFault.TheVariants.{NoMemory};
 ghost use Rattle.commands.specs.declared.run_failure.RunFailure.TheVariants.{OutOfMemory, Refused};
-ghost use Rattle.commands.specs.Run.{AreMadeAlone, EndsSetUp, IsSetUpBy, IsWhollySetUp};
+ghost use Rattle.commands.specs.Run.{AreLoopsOf, AreMadeAlone, EndsSetUp, IsSetUpBy, IsWhollySetUp, limits_in};
 
 use crate::bounds::MAX_LOOPS;
 use crate::input::read_script_bytes;
 use crate::run_failure::{RunFailure, failure_by};
 use crate::run_options::{RunOptions, Source};
 use control::{ControlListener, Place};
-use control_server::{ControlServer, MAX_SESSIONS};
+use control_server::{ControlServer, SESSION_SEATS};
 use desk_core::KeepMany;
 use live_run::{Ran, RefusedLine, RunFault, first_refused, run_live};
-use live_server::{EventServer, Limits, News, Tally};
+use live_server::{Acceptor, EventServer, Limits, News, Places, Tally};
 use probe_core::{Maker, Probe};
 use script::{Mode, read_script};
 use server::{SetUpHall, hall_of};
@@ -52,7 +52,7 @@ where
     let bytes = script_bytes(rt, alloc, options.script)?;
     let threads = options.threads.unwrap_or_else(|| processors(rt));
     let loops = options.bounds.loops(threads);
-    let made = set_up(rt, alloc, maker, &bytes, loops + 1 + MAX_SESSIONS)?;
+    let made = set_up(rt, alloc, maker, &bytes, loops + 1 + SESSION_SEATS)?;
     let Begun {
         servers,
         news,
@@ -85,13 +85,13 @@ where
     requires some { 1 ≤ loops }
     requires served { loops ≤ options.bounds.connections }
     ensures each { IfOk result (λ begun. vec_len begun.servers ≡ loops) }
+    ensures limits { IfOk result (λ begun. AreLoopsOf (limits_in options.entry.bounds) begun.servers.items) }
     ensures controlled { IfOk result (λ begun. IsSome begun.control ↔ IsSome options.entry.control) }
 {
-    let shares = options.bounds.shares(alloc, loops)?;
     let listener = listen(rt, made, options.listen)?;
     let place = control_at(rt, alloc, made, options.control)?;
     // Each loop has the socket too, and closes it at the end, so that clients which come late are refused.
-    let (servers, news) = event_loops(rt, alloc, &listener, &shares)?;
+    let (servers, news) = event_loops(rt, alloc, &listener, options.bounds.limits(), loops)?;
     let place_line = place_line(alloc, &place)?;
     let control = control_loop(rt, alloc, place, &servers)?;
     tell_places(rt, alloc, &listener, options.listen, place_line)?;
@@ -272,18 +272,20 @@ fn print_line<'a, R: Print>(rt: &R, line: &str) -> Result<(), RunFailure<'a>> {
     }
 }
 
-/// A loop for each share, and what tells them news.
+/// So many loops, which share places for these limits, and what tells them news.
 pub fn event_loops<'a, R>(
     rt: &R,
     alloc: Global,
     listener: &TcpListener,
-    shares: &[Limits],
+    limits: Limits,
+    loops: u16,
 ) -> Result<(Vec<EventServer>, News), RunFailure<'a>>
 where
     R: Clock + Net<Listener = TcpListener, Stream = TcpStream>,
-    ensures each { IfOk result (λ made. vec_len made.0 ≡ length shares.now) }
+    ensures each { IfOk result (λ made. vec_len made.0 ≡ loops) }
+    ensures limits { IfOk result (λ made. AreLoopsOf limits made.0.items) }
 {
-    match loops_with(rt, alloc, listener, shares) {
+    match loops_with(rt, alloc, listener, limits, loops) {
         Ok(made) => Ok(made),
         Err(error) => Err(failure_by(error, RunFailure::EventLoop)),
     }
@@ -293,17 +295,20 @@ fn loops_with<R>(
     rt: &R,
     alloc: Global,
     listener: &TcpListener,
-    shares: &[Limits],
+    limits: Limits,
+    loops: u16,
 ) -> io::Result<(Vec<EventServer>, News)>
 where
     R: Clock + Net<Listener = TcpListener, Stream = TcpStream>,
-    ensures each { IfOk result (λ made. vec_len made.0 ≡ length shares.now) }
+    ensures each { IfOk result (λ made. vec_len made.0 ≡ loops) }
+    ensures limits { IfOk result (λ made. AreLoopsOf limits made.0.items) }
 {
     let mut servers = Vec::new(alloc);
     let mut wakers = Vec::new(alloc);
-    for limits in shares {
+    let places = Arc::new(alloc, Places::new(limits))?;
+    for _ in 0..loops {
         let listener = mio::net::TcpListener::from_std(listener.try_clone()?);
-        let server = EventServer::new(rt, alloc, listener, *limits)?;
+        let server = EventServer::new(rt, alloc, Acceptor::new(listener), places.clone()?)?;
         wakers.push(server.waker()?)?;
         servers.push(server)?;
     }
@@ -358,7 +363,7 @@ where
     ensures ran { IfOk result (λ ran. HasRun made.hall (vec_len servers) made.seats (past ran.desk.journal)) }
     ensures alone { IsNone control → IfOk result (λ ran. HasRunLoops made.hall (vec_len servers) made.seats (past ran.desk.journal)) }
     ensures entries { IsNone control → IfOk result (λ ran. length ran.desk.journal ≡ length made.results) }
-    ensures sessions { IfOk result (λ ran. IsSome ran.sessions ↔ IsSome control) }
+    ensures sessions { IfOk result (λ ran. HasEnded control ran.sessions) }
     ensures failure { IfErr result (λ failure. failure ≡ OutOfMemory) }
 {
     match run_live(rt, alloc, made, servers, control, maker, news) {

@@ -1,5 +1,6 @@
-ghost use Rattle.std.specs.Prelude.{◌≡◌, ◌↔◌, ◌⊎◌, IfOk, OnOk};
-ghost use Rattle.std.specs.Io.KnownBytes.{Appends};
+ghost use Rattle.std.specs.Prelude.{◌≡◌, ◌↔◌, ◌⊎◌, IfOk, IfSome, OnOk};
+ghost use Rattle.std.specs.Io.KnownBytes.{Appends, Consumes};
+ghost use Rattle.commands.specs.Tell.{HasTold};
 ghost use Rattle.control.specs.Answer.{IsRefused};
 ghost use Rattle.control.specs.Line.{IsPartOfLine, ended};
 
@@ -39,6 +40,7 @@ pub fn run_line<'a, R>(rt: &R, place: Place<'a>, line: &[u8]) -> Result<u8, Tell
 where
     R: Print + AllocGlobal + Net<Stream = TcpStream>,
     requires one_line { IsPartOfLine line.now }
+    ensures one_of_two { IfOk result (λ status. (status ≡ 0) ⊎ (status ≡ 3)) }
 {
     let alloc = rt.alloc();
     let client = connect_to(rt, place)?;
@@ -54,6 +56,7 @@ where
 pub fn run_input<'a, R>(rt: &R, place: Place<'a>) -> Result<u8, TellFailure<'a>>
 where
     R: Input + Print + AllocGlobal + Net<Stream = TcpStream>,
+    ensures one_of_two { IfOk result (λ status. (status ≡ 0) ⊎ (status ≡ 3)) }
 {
     let alloc = rt.alloc();
     let client = connect_to(rt, place)?;
@@ -93,7 +96,9 @@ pub fn tell_lines<'a, I: Read, R: Read, W: Write, O: Write>(
     reader: &mut R,
     writer: &mut W,
     output: &mut O,
-) -> Result<u8, TellFailure<'a>> {
+) -> Result<u8, TellFailure<'a>>
+    ensures told { IfOk result (HasTold (R.remaining reader.old) (R.remaining reader.new) (O.contents output.old) (O.contents output.new)) }
+{
     let mut line = Vec::with_capacity(alloc, LINE_ROOM)?;
     let mut status = DONE;
     for _ in 0..u64::MAX {
@@ -113,7 +118,7 @@ pub fn tell_lines<'a, I: Read, R: Read, W: Write, O: Write>(
     Ok(status)
 }
 
-/// Tells a line, and prints its answer. It tells the exit status.
+/// Tells a line, and prints its answer, if it has one. It tells the exit status.
 pub fn tell_line<'a, R: Read, W: Write, O: Write>(
     alloc: Global,
     place: Place<'a>,
@@ -123,6 +128,7 @@ pub fn tell_line<'a, R: Read, W: Write, O: Write>(
     line: &[u8],
 ) -> Result<u8, TellFailure<'a>>
     requires one_line { IsPartOfLine line.now }
+    ensures told { IfOk result (HasTold (R.remaining reader.old) (R.remaining reader.new) (O.contents output.old) (O.contents output.new)) }
 {
     match tell(alloc, reader, writer, line) {
         Ok(Some(answer)) => print_answer(output, answer),
@@ -136,7 +142,9 @@ pub fn tell_line<'a, R: Read, W: Write, O: Write>(
 }
 
 /// What a server that has closed the session had said before.
-fn last_answer<R: Read>(alloc: Global, reader: &mut R, kind: ErrorKind) -> Option<Vec<u8>> {
+fn last_answer<R: Read>(alloc: Global, reader: &mut R, kind: ErrorKind) -> Option<Vec<u8>>
+    ensures { IfSome result (λ line. Consumes (R.remaining reader.old) (R.remaining reader.new) (ended line.items)) }
+{
     match kind {
         ErrorKind::BrokenPipe | ErrorKind::ConnectionReset => {}
         _ => return None,

@@ -163,12 +163,12 @@ impl<C> Table<C> {
         self.places[key].connection_mut()
     }
 
-    /// Whether a key's connection would be admitted as an open Watch.
-    pub fn may_admit(&self, key: usize) -> bool
-        ensures { IsTrue result ↔ MayBeAdmitted self.now key }
+    /// Whether a key's connection is admitted as an open Watch.
+    pub fn is_admitted(&self, key: usize) -> bool
+        ensures { result ≡ is_watch (place_at self.now key) }
     {
         match self.places.get(key) {
-            Some(place) => place.is_watch || self.watches < self.most_watches,
+            Some(place) => place.is_watch,
             None => false,
         }
     }

@@ -1,5 +1,8 @@
+pub mod BesideLemmas
 pub mod LineLemmas
 pub mod MeetingLemmas
+pub mod OneMeeting
+pub mod OneRequest
 pub mod PlaceLemmas
 pub mod ReadingLemmas
 pub mod RequestLemmas

@@ -1,9 +1,9 @@
 -- The first line of what was given.
-use Rattle.std.proofs.Common.{ℕ, zero, suc, ◌≡◌, ◌+◌, ◌<◌, ◌==◌, Bool, true, false, List, [], ◌∷◌, length, drop, take, get_or, sym, refl, ap, ◌∙◌, arith, ⊎_elim}
+use Rattle.std.proofs.Common.{ℕ, zero, suc, ◌≡◌, ◌+◌, ◌<◌, ◌≤◌, inl, inr, ◌==◌, Bool, true, false, List, [], ◌∷◌, ◌++◌, length, length-append, drop, take, get_or, sym, refl, ap, ◌∙◌, arith, ⊎_elim, true≢false}
 use Rattle.std.specs.Prelude.{if◌then◌else◌, min, not}
 use Rattle.std.proofs.lemmas.Bool.{cases_lt}
 use Rattle.std.proofs.lemmas.List.{drop_all}
-use Rattle.control.specs.Session.{first_line, behind_line, ends_open}
+use Rattle.control.specs.Session.{IsClosed, IsWithin, first_line, behind_line, ends_open}
 
 -- the front of that length is the first line
 take_by : (b : Bool) (c : ℕ) (line rest : List ℕ) → take (length line) rest ≡ line → take (length (if b then [] else c ∷ line)) (c ∷ rest) ≡ (if b then [] else c ∷ line)
@@ -39,3 +39,42 @@ last_tells (c ∷ []) zero is = refl
 last_tells (c ∷ []) (suc place) is = absurd (omega (arith, is))
 last_tells (c ∷ d ∷ rest) zero is = absurd (omega (arith, is))
 last_tells (c ∷ d ∷ rest) (suc place) is = last_tells (d ∷ rest) place (omega (arith, is))
+
+-- the first line has no more bytes than there are
+within_by : (b : Bool) (c : ℕ) (line : List ℕ) (most : ℕ) → length line ≤ most → length (if b then [] else c ∷ line) ≤ suc most
+within_by true c line most less = omega arith
+within_by false c line most less = omega (arith, less)
+
+pub line_within : (bytes : List ℕ) → length (first_line bytes) ≤ length bytes
+line_within [] = omega arith
+line_within (c ∷ rest) = within_by (c == 10) c (first_line rest) (length rest) (line_within rest)
+
+-- a first line behind which there is more stays where more bytes come
+stays_by : (b : Bool) (c : ℕ) (line now : List ℕ) (most : ℕ) → (length line < most → now ≡ line) → length (if b then [] else c ∷ line) < suc most
+    → (if b then [] else c ∷ now) ≡ (if b then [] else c ∷ line)
+stays_by true c line now most same less = refl
+stays_by false c line now most same less = ap (λ l. c ∷ l) (same (omega (arith, less)))
+
+first_stays : (bytes more : List ℕ) → length (first_line bytes) < length bytes → first_line (bytes ++ more) ≡ first_line bytes
+first_stays [] more less = absurd (omega (arith, less))
+first_stays (c ∷ rest) more less = stays_by (c == 10) c (first_line rest) (first_line (rest ++ more)) (length rest) (first_stays rest more) less
+
+-- LF closes the last line
+pub closed_with : (bytes : List ℕ) → ends_open (bytes ++ 10 ∷ []) ≡ false
+closed_with [] = refl
+closed_with (c ∷ []) = refl
+closed_with (c ∷ d ∷ rest) = closed_with (d ∷ rest)
+
+-- there is room for that LF
+pub closed_fits : (bytes : List ℕ) → IsWithin bytes → ends_open bytes ≡ true → length (first_line bytes) < 1025 → IsWithin (bytes ++ 10 ∷ [])
+closed_fits bytes within open_ short = ⊎_elim
+    (λ (most : length bytes ≤ 1025). ⊎_elim
+    (λ (less : length bytes < 1025). inl (omega (arith, length-append bytes (10 ∷ []), less)))
+    (λ many. inr record {
+      size = omega (arith, length-append bytes (10 ∷ []), most, many);
+      first = omega (arith, ap length (first_stays bytes (10 ∷ []) (omega (arith, short, many))), short);
+      closed = closed_with bytes;
+    })
+    (cases_lt (length bytes) 1025))
+    (λ (closed : IsClosed bytes). absurd (true≢false (sym open_ ∙ closed.closed)))
+    within

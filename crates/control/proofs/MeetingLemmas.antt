@@ -1,7 +1,7 @@
 -- Requests that were met.
 use Rattle.std.proofs.Common.{ℕ, ◌≡◌, ◌≢◌, List, subst, sym, true≢false}
 use Rattle.std.proofs.lemmas.Option.{none-some}
-use Rattle.std.specs.Prelude.{length, Option, None, Some, IfSome, IsSome, Result, refl}
+use Rattle.std.specs.Prelude.{Option, None, Some, IfSome, IsSome, Result, refl}
 use Rattle.desk_core.specs.declared.call.Call.{Call}
 use Rattle.desk_core.specs.declared.entry.Entry.{Entry}
 use Rattle.desk_core.specs.declared.refusal.Refusal.{Refusal}
@@ -25,46 +25,46 @@ use Rattle.control.specs.Text.IsTold.{AsItIs, CutShort}
 use Rattle.control.specs.Meeting.IsMet.{Changes, Checks, Packs, Lists, Tells, Stops, Starves, StarvesTold}
 
 pub checked : {S : Type 0} (names : List (List ℕ)) (seen : S → List Entry) (looks : S → S → Type 0)
-    (changes : S → S → Option Call → Result Reply Refusal → Type 0) (old new : S) (line : Line) (name : List ℕ) (status : Option Serving)
-    → line ≡ Check name → looks old new → status ≡ status_map names (seen new) name → IsMet names seen looks changes old new (requests.Line line) (answers.Checked status)
-checked names seen looks changes old new line name status is looked told =
-    subst (λ l. IsMet names seen looks changes old new (requests.Line l) (answers.Checked status)) (sym is)
-    (subst (λ s. IsMet names seen looks changes old new (requests.Line (Check name)) (answers.Checked s)) (sym told) (Checks name looked))
+    (changes : S → S → Option Call → Result Reply Refusal → Type 0) (tells : S → Stats → Type 0) (stops : S → S → Type 0) (old new : S) (line : Line) (name : List ℕ) (status : Option Serving)
+    → line ≡ Check name → looks old new → status ≡ status_map names (seen new) name → IsMet names seen looks changes tells stops old new (requests.Line line) (answers.Checked status)
+checked names seen looks changes tells stops old new line name status is looked told =
+    subst (λ l. IsMet names seen looks changes tells stops old new (requests.Line l) (answers.Checked status)) (sym is)
+    (subst (λ s. IsMet names seen looks changes tells stops old new (requests.Line (Check name)) (answers.Checked s)) (sym told) (Checks name looked))
 
 pub packed : {S : Type 0} (names : List (List ℕ)) (seen : S → List Entry) (looks : S → S → Type 0)
-    (changes : S → S → Option Call → Result Reply Refusal → Type 0) (old new : S) (line : Line) (word : ℕ)
-    → line ≡ Board → looks old new → word ≡ board_of (seen new) → IsMet names seen looks changes old new (requests.Line line) (answers.Board word)
-packed names seen looks changes old new line word is looked told =
-    subst (λ l. IsMet names seen looks changes old new (requests.Line l) (answers.Board word)) (sym is)
-    (subst (λ w. IsMet names seen looks changes old new (requests.Line Board) (answers.Board w)) (sym told) (Packs looked))
+    (changes : S → S → Option Call → Result Reply Refusal → Type 0) (tells : S → Stats → Type 0) (stops : S → S → Type 0) (old new : S) (line : Line) (word : ℕ)
+    → line ≡ Board → looks old new → word ≡ board_of (seen new) → IsMet names seen looks changes tells stops old new (requests.Line line) (answers.Board word)
+packed names seen looks changes tells stops old new line word is looked told =
+    subst (λ l. IsMet names seen looks changes tells stops old new (requests.Line l) (answers.Board word)) (sym is)
+    (subst (λ w. IsMet names seen looks changes tells stops old new (requests.Line Board) (answers.Board w)) (sym told) (Packs looked))
 
 changed_by : {S : Type 0} (names : List (List ℕ)) (seen : S → List Entry) (looks : S → S → Type 0)
-    (changes : S → S → Option Call → Result Reply Refusal → Type 0) (old new : S) (line : Line) (call : Option (Option Call)) (result : Result Reply Refusal)
-    → line_change names line ≡ call → IsSome call → IfSome call (λ one. changes old new one result) → IsMet names seen looks changes old new (requests.Line line) (answers.Changed result)
-changed_by names seen looks changes old new line (Some call) result asks some made = Changes line call result asks made
-changed_by names seen looks changes old new line None result asks some made = absurd (true≢false (sym some))
+    (changes : S → S → Option Call → Result Reply Refusal → Type 0) (tells : S → Stats → Type 0) (stops : S → S → Type 0) (old new : S) (line : Line) (call : Option (Option Call)) (result : Result Reply Refusal)
+    → line_change names line ≡ call → IsSome call → IfSome call (λ one. changes old new one result) → IsMet names seen looks changes tells stops old new (requests.Line line) (answers.Changed result)
+changed_by names seen looks changes tells stops old new line (Some call) result asks some made = Changes line call result asks made
+changed_by names seen looks changes tells stops old new line None result asks some made = absurd (true≢false (sym some))
 
 pub changed : {S : Type 0} (names : List (List ℕ)) (seen : S → List Entry) (looks : S → S → Type 0)
-    (changes : S → S → Option Call → Result Reply Refusal → Type 0) (old new : S) (line : Line) (result : Result Reply Refusal)
-    → IsSome (line_change names line) → IfSome (line_change names line) (λ one. changes old new one result) → IsMet names seen looks changes old new (requests.Line line) (answers.Changed result)
-changed names seen looks changes old new line result some made = changed_by names seen looks changes old new line (line_change names line) result refl some made
+    (changes : S → S → Option Call → Result Reply Refusal → Type 0) (tells : S → Stats → Type 0) (stops : S → S → Type 0) (old new : S) (line : Line) (result : Result Reply Refusal)
+    → IsSome (line_change names line) → IfSome (line_change names line) (λ one. changes old new one result) → IsMet names seen looks changes tells stops old new (requests.Line line) (answers.Changed result)
+changed names seen looks changes tells stops old new line result some made = changed_by names seen looks changes tells stops old new line (line_change names line) result refl some made
 
 pub listed : {S : Type 0} (names : List (List ℕ)) (seen : S → List Entry) (looks : S → S → Type 0)
-    (changes : S → S → Option Call → Result Reply Refusal → Type 0) (old new : S) (request : Request) (word : ℕ)
-    → request ≡ requests.List → looks old new → word ≡ board_of (seen new) → IsMet names seen looks changes old new request (answers.Listed word)
-listed names seen looks changes old new request word is looked told =
-    subst (λ r. IsMet names seen looks changes old new r (answers.Listed word)) (sym is)
-    (subst (λ w. IsMet names seen looks changes old new requests.List (answers.Listed w)) (sym told) (Lists looked))
+    (changes : S → S → Option Call → Result Reply Refusal → Type 0) (tells : S → Stats → Type 0) (stops : S → S → Type 0) (old new : S) (request : Request) (word : ℕ)
+    → request ≡ requests.List → looks old new → word ≡ board_of (seen new) → IsMet names seen looks changes tells stops old new request (answers.Listed word)
+listed names seen looks changes tells stops old new request word is looked told =
+    subst (λ r. IsMet names seen looks changes tells stops old new r (answers.Listed word)) (sym is)
+    (subst (λ w. IsMet names seen looks changes tells stops old new requests.List (answers.Listed w)) (sym told) (Lists looked))
 
 pub told : {S : Type 0} (names : List (List ℕ)) (seen : S → List Entry) (looks : S → S → Type 0)
-    (changes : S → S → Option Call → Result Reply Refusal → Type 0) (old new : S) (request : Request) (stats : Stats)
-    → request ≡ requests.Stats → looks old new → stats.entries ≡ length (seen new) → IsMet names seen looks changes old new request (answers.Told stats)
-told names seen looks changes old new request stats is looked entries = subst (λ r. IsMet names seen looks changes old new r (answers.Told stats)) (sym is) (Tells stats looked entries)
+    (changes : S → S → Option Call → Result Reply Refusal → Type 0) (tells : S → Stats → Type 0) (stops : S → S → Type 0) (old new : S) (request : Request) (stats : Stats)
+    → request ≡ requests.Stats → looks old new → tells new stats → IsMet names seen looks changes tells stops old new request (answers.Told stats)
+told names seen looks changes tells stops old new request stats is looked counts = subst (λ r. IsMet names seen looks changes tells stops old new r (answers.Told stats)) (sym is) (Tells stats looked counts)
 
 pub stopped : {S : Type 0} (names : List (List ℕ)) (seen : S → List Entry) (looks : S → S → Type 0)
-    (changes : S → S → Option Call → Result Reply Refusal → Type 0) (old new : S) (request : Request) → request ≡ requests.Stop → new ≡ old
-    → IsMet names seen looks changes old new request answers.Stopping
-stopped names seen looks changes old new request is same = subst (λ r. IsMet names seen looks changes old new r answers.Stopping) (sym is) (Stops same)
+    (changes : S → S → Option Call → Result Reply Refusal → Type 0) (tells : S → Stats → Type 0) (stops : S → S → Type 0) (old new : S) (request : Request) → request ≡ requests.Stop → stops old new
+    → IsMet names seen looks changes tells stops old new request answers.Stopping
+stopped names seen looks changes tells stops old new request is told = subst (λ r. IsMet names seen looks changes tells stops old new r answers.Stopping) (sym is) (Stops told)
 
 -- a line of a session that is no Check and not the board asks for a change
 pub asks_change : (names : List (List ℕ)) (line : Line) → IsOffered line → ((name : List ℕ) → ¬ line ≡ Check name) → ¬ line ≡ Board → IsSome (line_change names line)
@@ -78,31 +78,31 @@ asks_change names Board offered check board = absurd (board refl)
 
 -- a request whose answer was long is met as well where there is no memory for that
 long_met : {S : Type 0} (names : List (List ℕ)) (seen : S → List Entry) (looks : S → S → Type 0)
-    (changes : S → S → Option Call → Result Reply Refusal → Type 0) (old new : S) (request : Request) (answer : Answer)
-    → IsMet names seen looks changes old new request answer → short_text answer ≡ None → IsMet names seen looks changes old new request answers.OutOfMemory
-long_met names seen looks changes old new request answer (Changes line call result asks made) long = absurd (none-some _ (sym long))
-long_met names seen looks changes old new request answer (Checks name looked) long = absurd (none-some _ (sym long))
-long_met names seen looks changes old new request answer (Packs looked) long = StarvesTold request looked
-long_met names seen looks changes old new request answer (Lists looked) long = StarvesTold request looked
-long_met names seen looks changes old new request answer (Tells stats looked entries) long = StarvesTold request looked
-long_met names seen looks changes old new request answer (Stops same) long = absurd (none-some _ (sym long))
-long_met names seen looks changes old new request answer (Starves _ same) long = absurd (none-some _ (sym long))
-long_met names seen looks changes old new request answer (StarvesTold _ looked) long = absurd (none-some _ (sym long))
+    (changes : S → S → Option Call → Result Reply Refusal → Type 0) (tells : S → Stats → Type 0) (stops : S → S → Type 0) (old new : S) (request : Request) (answer : Answer)
+    → IsMet names seen looks changes tells stops old new request answer → short_text answer ≡ None → IsMet names seen looks changes tells stops old new request answers.OutOfMemory
+long_met names seen looks changes tells stops old new request answer (Changes line call result asks made) long = absurd (none-some _ (sym long))
+long_met names seen looks changes tells stops old new request answer (Checks name looked) long = absurd (none-some _ (sym long))
+long_met names seen looks changes tells stops old new request answer (Packs looked) long = StarvesTold request looked
+long_met names seen looks changes tells stops old new request answer (Lists looked) long = StarvesTold request looked
+long_met names seen looks changes tells stops old new request answer (Tells stats looked counts) long = StarvesTold request looked
+long_met names seen looks changes tells stops old new request answer (Stops same) long = absurd (none-some _ (sym long))
+long_met names seen looks changes tells stops old new request answer (Starves _ same) long = absurd (none-some _ (sym long))
+long_met names seen looks changes tells stops old new request answer (StarvesTold _ looked) long = absurd (none-some _ (sym long))
 
 cut_short : {S : Type 0} (names : List (List ℕ)) (seen : S → List Entry) (looks : S → S → Type 0)
-    (changes : S → S → Option Call → Result Reply Refusal → Type 0) (old new : S) (line : List ℕ) (answer : Answer)
-    → IsLineMet names seen looks changes old new line answer → short_text answer ≡ None → answer ≢ answers.Skipped → IsLineMet names seen looks changes old new line answers.OutOfMemory
-cut_short names seen looks changes old new line answer (IsTooLong long same) none skipped = absurd (none-some _ (sym none))
-cut_short names seen looks changes old new line answer (IsSkipped short blank same) none skipped = absurd (skipped refl)
-cut_short names seen looks changes old new line answer (IsNoText short wrong same) none skipped = absurd (none-some _ (sym none))
-cut_short names seen looks changes old new line answer (IsNoRequest said wrong same) none skipped = absurd (none-some _ (sym none))
-cut_short names seen looks changes old new line answer (IsUnread said same) none skipped = absurd (none-some _ (sym none))
-cut_short names seen looks changes old new line answer (IsAsked said request _ asks met) none skipped =
-    IsAsked said request answers.OutOfMemory asks (long_met names seen looks changes old new request answer met none)
+    (changes : S → S → Option Call → Result Reply Refusal → Type 0) (tells : S → Stats → Type 0) (stops : S → S → Type 0) (old new : S) (line : List ℕ) (answer : Answer)
+    → IsLineMet names seen looks changes tells stops old new line answer → short_text answer ≡ None → answer ≢ answers.Skipped → IsLineMet names seen looks changes tells stops old new line answers.OutOfMemory
+cut_short names seen looks changes tells stops old new line answer (IsTooLong long same) none skipped = absurd (none-some _ (sym none))
+cut_short names seen looks changes tells stops old new line answer (IsSkipped short blank same) none skipped = absurd (skipped refl)
+cut_short names seen looks changes tells stops old new line answer (IsNoText short wrong same) none skipped = absurd (none-some _ (sym none))
+cut_short names seen looks changes tells stops old new line answer (IsNoRequest said wrong same) none skipped = absurd (none-some _ (sym none))
+cut_short names seen looks changes tells stops old new line answer (IsUnread said same) none skipped = absurd (none-some _ (sym none))
+cut_short names seen looks changes tells stops old new line answer (IsAsked said request _ asks met) none skipped =
+    IsAsked said request answers.OutOfMemory asks (long_met names seen looks changes tells stops old new request answer met none)
 
 -- what is told of an answer meets its line
 pub still_met : {S : Type 0} (names : List (List ℕ)) (seen : S → List Entry) (looks : S → S → Type 0)
-    (changes : S → S → Option Call → Result Reply Refusal → Type 0) (old new : S) (line : List ℕ) (answer told : Answer)
-    → IsLineMet names seen looks changes old new line answer → IsTold answer told → IsLineMet names seen looks changes old new line told
-still_met names seen looks changes old new line answer told met AsItIs = met
-still_met names seen looks changes old new line answer told met (CutShort none skipped) = cut_short names seen looks changes old new line answer met none skipped
+    (changes : S → S → Option Call → Result Reply Refusal → Type 0) (tells : S → Stats → Type 0) (stops : S → S → Type 0) (old new : S) (line : List ℕ) (answer told : Answer)
+    → IsLineMet names seen looks changes tells stops old new line answer → IsTold answer told → IsLineMet names seen looks changes tells stops old new line told
+still_met names seen looks changes tells stops old new line answer told met AsItIs = met
+still_met names seen looks changes tells stops old new line answer told met (CutShort none skipped) = cut_short names seen looks changes tells stops old new line answer met none skipped

@@ -1,15 +1,11 @@
 -- The lines of what was given, one after the other.
 use Rattle.std.proofs.Common.{ℕ, ◌≡◌, ◌≢◌, ◌≤◌, ◌⊎◌, inl, inr, ◌==◌, Bool, true, false, List, [], ◌∷◌, ◌++◌, length, sym, refl, ap, ◌∙◌, subst, append_assoc, append-nil, arith, ⊎_elim, length-append}
-use Rattle.std.specs.Prelude.{if◌then◌else◌, All, Contains, Option, Result}
+use Rattle.std.specs.Prelude.{if◌then◌else◌, All, Contains}
 use Rattle.std.proofs.lemmas.Bool.{eqb-true, eq-eqb}
 use Rattle.std.proofs.lemmas.List.Elements.{All-nil, All-cons}
 use Rattle.std.proofs.lemmas.Grind.{flat_map-append}
-use Rattle.desk_core.specs.declared.call.Call.{Call}
-use Rattle.desk_core.specs.declared.entry.Entry.{Entry}
-use Rattle.desk_core.specs.declared.refusal.Refusal.{Refusal}
-use Rattle.desk_core.specs.declared.reply.Reply.{Reply}
 use Rattle.control.specs.declared.answer.Answer.{Answer}
-use Rattle.control.specs.Session.{behind_line, ends_open, first_line}
+use Rattle.control.specs.Session.{IsClosed, IsWithin, behind_line, ends_open, first_line}
 use Rattle.control.specs.Talk.{IsCut, AreLines, AreMet, IsOverAfter, nobody, answer_texts}
 use Rattle.control.specs.Talk.IsCut.{AtLf, TooLong}
 use Rattle.control.specs.Talk.AreLines.{NoMore, OneMore}
@@ -54,9 +50,16 @@ cut_by bytes line behind most has none (inr (all, left)) =
     TooLong (sym (ap (λ l. line ++ l) left ∙ (append-nil line ∙ all))) none
     (⊎_elim (λ found. absurd (no_such bytes (subst NoLf all none) found)) (λ (many : 1025 ≤ length bytes). omega (arith, ap length all, most, many)) has)
 
--- the first line is cut from bytes of which there are no more than a line may have
-pub cut : (bytes : List ℕ) → length bytes ≤ 1025 → (Contains bytes 10 ⊎ (1025 ≤ length bytes)) → IsCut bytes (first_line bytes) (behind_line bytes)
-cut bytes most has = cut_by bytes (first_line bytes) (behind_line bytes) most has (no_lf bytes) (split bytes)
+cut_closed : (bytes line behind : List ℕ) → length bytes ≡ 1026 → length line ≤ 1024 → NoLf line → IsSplit bytes line behind → IsCut bytes line behind
+cut_closed bytes line behind size first none (inl is) = AtLf is none first
+cut_closed bytes line behind size first none (inr (all, left)) = absurd (omega (arith, ap length all, size, first))
+
+-- the first line is cut from the bytes that a session holds
+pub cut : (bytes : List ℕ) → IsWithin bytes → (Contains bytes 10 ⊎ (1025 ≤ length bytes)) → IsCut bytes (first_line bytes) (behind_line bytes)
+cut bytes within has = ⊎_elim
+    (λ (most : length bytes ≤ 1025). cut_by bytes (first_line bytes) (behind_line bytes) most has (no_lf bytes) (split bytes))
+    (λ (closed : IsClosed bytes). cut_closed bytes (first_line bytes) (behind_line bytes) closed.size closed.first (no_lf bytes) (split bytes))
+    within
 
 -- the first line stays where more bytes come
 cut_more : (bytes line behind more : List ℕ) → IsCut bytes line behind → IsCut (bytes ++ more) line (behind ++ more)
@@ -77,10 +80,10 @@ lines_then {rest = last} {more = more} (OneMore bytes line behind lines rest cut
 pub one_line : {bytes line rest : List ℕ} → IsCut bytes line rest → AreLines bytes (line ∷ []) rest
 one_line {bytes} {line} {rest} cut = OneMore bytes line rest [] rest cut (NoMore rest)
 
-module _ {S : Type 0} {names : List (List ℕ)} {seen : S → List Entry} {looks : S → S → Type 0} {changes : S → S → Option Call → Result Reply Refusal → Type 0} where
+module _ {S : Type 0} {meets : S → S → List ℕ → Answer → Type 0} where
   -- lines that are met, and then more lines
-  pub met_then : {others : S → S → Type 0} {old between new : S} {lines more : List (List ℕ)} {answers later : List Answer} → AreMet others names seen looks changes old between lines answers
-      → AreMet others names seen looks changes between new more later → AreMet others names seen looks changes old new (lines ++ more) (answers ++ later)
+  pub met_then : {others : S → S → Type 0} {old between new : S} {lines more : List (List ℕ)} {answers later : List Answer} → AreMet others meets old between lines answers
+      → AreMet others meets between new more later → AreMet others meets old new (lines ++ more) (answers ++ later)
   met_then (Ends _) next = next
   met_then {new = last} {more = more} {later = later} (Then old between new line answer lines answers met are) next =
       Then old between last line answer (lines ++ more) (answers ++ later) met (met_then are next)
@@ -88,8 +91,8 @@ module _ {S : Type 0} {names : List (List ℕ)} {seen : S → List Entry} {looks
       Moves old between last (lines ++ more) (answers ++ later) moves (met_then are next)
 
   -- where nobody else moved the state on, the same is so whoever may have
-  pub met_beside : {others : S → S → Type 0} {old new : S} {lines : List (List ℕ)} {answers : List Answer} → AreMet nobody names seen looks changes old new lines answers
-      → AreMet others names seen looks changes old new lines answers
+  pub met_beside : {others : S → S → Type 0} {old new : S} {lines : List (List ℕ)} {answers : List Answer} → AreMet nobody meets old new lines answers
+      → AreMet others meets old new lines answers
   met_beside (Ends state) = Ends state
   met_beside (Then old between new line answer lines answers met are) = Then old between new line answer lines answers met (met_beside are)
   met_beside (Moves old between new lines answers moves are) = absurd moves

@@ -1,6 +1,7 @@
 pub mod Answer
 pub mod Line
 pub mod Listener
+pub mod Beside
 pub mod Meeting
 pub mod Place
 pub mod Request

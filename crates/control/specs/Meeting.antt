@@ -19,20 +19,21 @@ use Rattle.control.specs.declared.stats.Stats.{Stats}
 use Rattle.control.specs.Request.{IsRequest}
 
 -- The request is met with this answer, between two states. `changes` says how a change that was asked for comes out, `looks` that the
--- state has at most seen more, and `seen` is the history that it has seen, the newest entry first. A change has its reply, and all else
--- is told at one point of the history. Where memory ran out nothing was changed
+-- state has at most seen more, and `seen` is the history that it has seen, the newest entry first; `tells` says what it counts, and `stops`
+-- that the server is to end. A change has its reply, and all else is told at one point of the history. Where memory ran out
+-- nothing was changed
 pub data IsMet {S : Type 0} (names : List (List ℕ)) (seen : S → List Entry) (looks : S → S → Type 0)
-    (changes : S → S → Option Call → Result Reply Refusal → Type 0) (old new : S) : Request → Answer → Type 0 where
+    (changes : S → S → Option Call → Result Reply Refusal → Type 0) (tells : S → Stats → Type 0) (stops : S → S → Type 0) (old new : S) : Request → Answer → Type 0 where
   Changes : (line : Line) (call : Option Call) (result : Result Reply Refusal) → line_change names line ≡ Some call → changes old new call result
-      → IsMet names seen looks changes old new (requests.Line line) (answers.Changed result)
+      → IsMet names seen looks changes tells stops old new (requests.Line line) (answers.Changed result)
   Checks : (name : List ℕ) → looks old new
-      → IsMet names seen looks changes old new (requests.Line (Check name)) (answers.Checked (status_map names (seen new) name))
-  Packs : looks old new → IsMet names seen looks changes old new (requests.Line Board) (answers.Board (board_of (seen new)))
-  Lists : looks old new → IsMet names seen looks changes old new requests.List (answers.Listed (board_of (seen new)))
-  Tells : (stats : Stats) → looks old new → stats.entries ≡ length (seen new) → IsMet names seen looks changes old new requests.Stats (answers.Told stats)
-  Stops : new ≡ old → IsMet names seen looks changes old new requests.Stop answers.Stopping
-  Starves : (request : Request) → new ≡ old → IsMet names seen looks changes old new request answers.OutOfMemory
-  StarvesTold : (request : Request) → looks old new → IsMet names seen looks changes old new request answers.OutOfMemory
+      → IsMet names seen looks changes tells stops old new (requests.Line (Check name)) (answers.Checked (status_map names (seen new) name))
+  Packs : looks old new → IsMet names seen looks changes tells stops old new (requests.Line Board) (answers.Board (board_of (seen new)))
+  Lists : looks old new → IsMet names seen looks changes tells stops old new requests.List (answers.Listed (board_of (seen new)))
+  Tells : (stats : Stats) → looks old new → tells new stats → IsMet names seen looks changes tells stops old new requests.Stats (answers.Told stats)
+  Stops : stops old new → IsMet names seen looks changes tells stops old new requests.Stop answers.Stopping
+  Starves : (request : Request) → new ≡ old → IsMet names seen looks changes tells stops old new request answers.OutOfMemory
+  StarvesTold : (request : Request) → looks old new → IsMet names seen looks changes tells stops old new request answers.OutOfMemory
 
 -- The line, which stands before LF, says something: it is text of at most 1,024 bytes, and of one byte or more without a CR at its end
 pub record IsSaid (line : List ℕ) : Type 0 where
@@ -42,11 +43,11 @@ pub record IsSaid (line : List ℕ) : Type 0 where
 
 -- The line is met with this answer. Its CR at the end is no part of what it says
 pub data IsLineMet {S : Type 0} (names : List (List ℕ)) (seen : S → List Entry) (looks : S → S → Type 0)
-    (changes : S → S → Option Call → Result Reply Refusal → Type 0) (old new : S) (line : List ℕ) : Answer → Type 0 where
-  IsTooLong : 1024 < length line → new ≡ old → IsLineMet names seen looks changes old new line answers.TooLong
-  IsNoText : length line ≤ 1024 → ¬ IsUtf8 line → new ≡ old → IsLineMet names seen looks changes old new line answers.BadLine
-  IsSkipped : length line ≤ 1024 → without_cr line ≡ [] → new ≡ old → IsLineMet names seen looks changes old new line answers.Skipped
-  IsNoRequest : IsSaid line → ((request : Request) → ¬ IsRequest names (without_cr line) request) → new ≡ old → IsLineMet names seen looks changes old new line answers.BadLine
-  IsUnread : IsSaid line → new ≡ old → IsLineMet names seen looks changes old new line answers.OutOfMemory
-  IsAsked : IsSaid line → (request : Request) (answer : Answer) → IsRequest names (without_cr line) request → IsMet names seen looks changes old new request answer
-      → IsLineMet names seen looks changes old new line answer
+    (changes : S → S → Option Call → Result Reply Refusal → Type 0) (tells : S → Stats → Type 0) (stops : S → S → Type 0) (old new : S) (line : List ℕ) : Answer → Type 0 where
+  IsTooLong : 1024 < length line → new ≡ old → IsLineMet names seen looks changes tells stops old new line answers.TooLong
+  IsNoText : length line ≤ 1024 → ¬ IsUtf8 line → new ≡ old → IsLineMet names seen looks changes tells stops old new line answers.BadLine
+  IsSkipped : length line ≤ 1024 → without_cr line ≡ [] → new ≡ old → IsLineMet names seen looks changes tells stops old new line answers.Skipped
+  IsNoRequest : IsSaid line → ((request : Request) → ¬ IsRequest names (without_cr line) request) → new ≡ old → IsLineMet names seen looks changes tells stops old new line answers.BadLine
+  IsUnread : IsSaid line → new ≡ old → IsLineMet names seen looks changes tells stops old new line answers.OutOfMemory
+  IsAsked : IsSaid line → (request : Request) (answer : Answer) → IsRequest names (without_cr line) request → IsMet names seen looks changes tells stops old new request answer
+      → IsLineMet names seen looks changes tells stops old new line answer

@@ -35,9 +35,19 @@ ends_open [] = false
 ends_open (c ∷ []) = not (c == 10)
 ends_open (c ∷ d ∷ rest) = ends_open (d ∷ rest)
 
--- the same bytes with LF behind a line that stands without it, if the line is not too long
+-- the same bytes with LF behind a last line that stands without it, unless all of them are one line that is too long
 abbrev pub ended : List ℕ → List ℕ
-ended bytes = if ends_open bytes && nat_lt (length bytes) 1025 then bytes ++ codes "\n" else bytes
+ended bytes = if ends_open bytes && nat_lt (length (first_line bytes)) 1025 then bytes ++ codes "\n" else bytes
+
+-- 1,025 bytes of several lines, and the LF that closes the last of them
+pub record IsClosed (bytes : List ℕ) : Type 0 where
+  pub size : length bytes ≡ 1026
+  pub first : length (first_line bytes) ≤ 1024
+  pub closed : ends_open bytes ≡ false
+
+-- no more bytes than a session is given, or these and the LF that closes the last line
+abbrev pub IsWithin : List ℕ → Type 0
+IsWithin bytes = (length bytes ≤ 1025) ⊎ IsClosed bytes
 
 -- a session to which no more bytes come
 abbrev pub at_end : SessionState → SessionState

@@ -1,12 +1,7 @@
 -- What is said in a session: the lines of its bytes, and how they are met one after the other.
-use Rattle.std.specs.Prelude.{Bool, false, ℕ, ◌≡◌, ◌≤◌, Option, Result, List, [], ◌∷◌, ◌++◌, length, All, ◌≢◌}
+use Rattle.std.specs.Prelude.{Bool, false, ℕ, ◌≡◌, ◌≤◌, List, [], ◌∷◌, ◌++◌, length, All, ◌≢◌}
 use Rattle.std.specs.List.{flat_map}
-use Rattle.desk_core.specs.declared.call.Call.{Call}
-use Rattle.desk_core.specs.declared.entry.Entry.{Entry}
-use Rattle.desk_core.specs.declared.refusal.Refusal.{Refusal}
-use Rattle.desk_core.specs.declared.reply.Reply.{Reply}
 use Rattle.control.specs.declared.answer.Answer.{Answer}
-use Rattle.control.specs.Meeting.{IsLineMet}
 use Rattle.control.specs.Text.{answer_text, ends_session}
 
 -- these bytes begin with this line, behind which there are more: the bytes before the first LF, at most 1,024 of them, or else the first
@@ -20,14 +15,13 @@ pub data AreLines : List ℕ → List (List ℕ) → List ℕ → Type 0 where
   NoMore : (rest : List ℕ) → AreLines rest [] rest
   OneMore : (bytes line more : List ℕ) (lines : List (List ℕ)) (rest : List ℕ) → IsCut bytes line more → AreLines more lines rest → AreLines bytes (line ∷ lines) rest
 
--- the lines are met with these answers, one after the other; in between `others` may have moved the state on
-pub data AreMet {S : Type 0} (others : S → S → Type 0) (names : List (List ℕ)) (seen : S → List Entry) (looks : S → S → Type 0)
-    (changes : S → S → Option Call → Result Reply Refusal → Type 0) : S → S → List (List ℕ) → List Answer → Type 0 where
-  Ends : (state : S) → AreMet others names seen looks changes state state [] []
-  Then : (old between new : S) (line : List ℕ) (answer : Answer) (lines : List (List ℕ)) (answers : List Answer) → IsLineMet names seen looks changes old between line answer
-      → AreMet others names seen looks changes between new lines answers → AreMet others names seen looks changes old new (line ∷ lines) (answer ∷ answers)
+-- the lines are met with these answers, one after the other, each as `meets` says; in between `others` may have moved the state on
+pub data AreMet {S : Type 0} (others : S → S → Type 0) (meets : S → S → List ℕ → Answer → Type 0) : S → S → List (List ℕ) → List Answer → Type 0 where
+  Ends : (state : S) → AreMet others meets state state [] []
+  Then : (old between new : S) (line : List ℕ) (answer : Answer) (lines : List (List ℕ)) (answers : List Answer) → meets old between line answer
+      → AreMet others meets between new lines answers → AreMet others meets old new (line ∷ lines) (answer ∷ answers)
   Moves : (old between new : S) (lines : List (List ℕ)) (answers : List Answer) → others old between
-      → AreMet others names seen looks changes between new lines answers → AreMet others names seen looks changes old new lines answers
+      → AreMet others meets between new lines answers → AreMet others meets old new lines answers
 
 -- nobody else moves the state on
 abbrev pub nobody : {S : Type 0} → S → S → Type 0

@@ -11,15 +11,17 @@
 //! ghost use Rattle.std.specs.Prelude.{◌≡◌, [], IsTrue, IsFalse};
 //! ghost use Rattle.control.specs.Session.{behind_line};
 //!
-//! use control::{Console, Session};
+//! use control::{Server, Session};
+//! use desk_core::Console;
 //! use probe_core::{Maker, Probe};
 //! use std::alloc::Global;
 //!
 //! /// Answers the next line of a session, if a whole one has come. Its answer then waits to be sent.
-//! pub fn answer_next<P: Probe, C: Console<P>, M: Maker<P>>(
+//! pub fn answer_next<P: Probe, C: Console<P>, V: Server, M: Maker<P>>(
 //!     alloc: Global,
 //!     session: &mut Session,
 //!     console: &mut C,
+//!     server: &mut V,
 //!     maker: &M,
 //! ) -> bool
 //!     requires sent { session.old.waiting ≡ [] }
@@ -30,7 +32,7 @@
 //!     if !session.has_line() {
 //!         return false;
 //!     }
-//!     session.answer(alloc, console, maker);
+//!     session.answer(alloc, console, server, maker);
 //!     true
 //! }
 //! ```
@@ -68,7 +70,7 @@
 
 mod answer;
 mod client;
-mod console;
+mod laws;
 mod line;
 mod line_end;
 mod listener;
@@ -79,6 +81,7 @@ mod reading;
 mod refusals;
 mod request;
 mod sending;
+mod server;
 mod session;
 mod stats;
 mod stream;
@@ -90,7 +93,7 @@ mod writing;
 
 pub use answer::Answer;
 pub use client::{ControlClient, connect};
-pub use console::Console;
+pub use laws::{one_meeting, one_request};
 pub use line::{LINE_ROOM, MAX_LINE_LEN, is_one_line, is_silent};
 pub use line_end::LineEnd;
 pub use listener::ControlListener;
@@ -98,6 +101,7 @@ pub use place::Place;
 pub use reading::read_line;
 pub use refusals::{is_refused, is_turned_away};
 pub use request::Request;
+pub use server::Server;
 pub use session::Session;
 pub use stats::{Counts, Ended, OpenNow, Stats};
 pub use stream::ControlStream;

@@ -1,86 +1,110 @@
 ghost use Rattle.std.specs.Prelude.{◌≡◌, IsSome, IfSome, IfNone};
 ghost use Rattle.script.specs.Change.{line_change};
-ghost use Rattle.control.specs.Meeting.{IsLineMet, IsMet};
+ghost use Rattle.control.specs.Beside.{ChangesBeside, IsLineMetBeside, IsMetBeside, TellsBeside};
 ghost use Rattle.control.specs.Request.{IsOfferedRequest};
 
 use crate::answer::Answer;
-use crate::console::Console;
 use crate::request::{Request, read_request};
-use desk_core::{Refusal, Reply};
+use crate::server::Server;
+use crate::stats::Stats;
+use desk_core::{Console, Effect, Extent, Refusal, Reply};
 use probe_core::{Maker, Probe};
 use script::{Line, probe_for, without_cr};
 use std::alloc::Global;
 
 /// Does what a request asks for.
-pub(crate) fn meet<P: Probe, C: Console<P>, M: Maker<P>>(
+pub(crate) fn meet<P: Probe, C: Console<P>, V: Server, M: Maker<P>>(
     console: &mut C,
+    server: &mut V,
     maker: &M,
     request: &Request,
 ) -> Answer
     requires offered { IsOfferedRequest request.now }
     ensures names { C.names console.new ≡ C.names console.old }
-    ensures met { IsMet (C.names console.old) C.seen C.looks C.changes console.old console.new request.now result }
+    ensures met { IsMetBeside C.seen C.kept C.looks C.answers V.counted V.woken V.stopped (C.names console.old) (console.old, server.old) (console.new, server.new) request.now result }
 {
     match request {
-        Request::Line(line) => meet_line(console, maker, line),
+        Request::Line(line) => meet_line(console, server, maker, line),
         Request::List => Answer::Listed(console.board()),
-        Request::Stats => Answer::Told(console.stats()),
+        Request::Stats => Answer::Told(stats(console, server)),
         Request::Stop => {
-            console.stop();
+            server.stop();
             Answer::Stopping
         }
     }
 }
 
-fn meet_line<P: Probe, C: Console<P>, M: Maker<P>>(
+/// Counts the entries of the registry, and has the server count the rest.
+fn stats<P: Probe, C: Console<P>, V: Server>(console: &mut C, server: &V) -> Stats
+    ensures names { C.names console.new ≡ C.names console.old }
+    ensures looks { C.looks console.old console.new }
+    ensures tells { TellsBeside C.seen C.kept V.counted (console.new, server.now) result }
+{
+    let Extent { entries, kept } = console.extent();
+    Stats {
+        entries,
+        kept: kept as u32,
+        counts: server.counts(),
+    }
+}
+
+fn meet_line<P: Probe, C: Console<P>, V: Server, M: Maker<P>>(
     console: &mut C,
+    server: &mut V,
     maker: &M,
     line: &Line,
 ) -> Answer
     requires offered { IsOfferedRequest (Request.Line line.now) }
     ensures names { C.names console.new ≡ C.names console.old }
-    ensures met { IsMet (C.names console.old) C.seen C.looks C.changes console.old console.new (Request.Line line.now) result }
+    ensures met { IsMetBeside C.seen C.kept C.looks C.answers V.counted V.woken V.stopped (C.names console.old) (console.old, server.old) (console.new, server.new) (Request.Line line.now) result }
 {
     match line {
         Line::Check(name) => Answer::Checked(console.check(name.as_str())),
         Line::Board => Answer::Board(console.board()),
-        _ => match change(console, maker, line) {
+        _ => match change(console, server, maker, line) {
             Some(result) => Answer::Changed(result),
             None => Answer::OutOfMemory,
         },
     }
 }
 
-/// Makes the change that a line asks for. Where there is no memory for its probe it is not asked for.
-fn change<P: Probe, C: Console<P>, M: Maker<P>>(
+/// Makes the change that a line asks for, and wakes the server if it shows. Where there is no memory for its probe it is not asked for.
+fn change<P: Probe, C: Console<P>, V: Server, M: Maker<P>>(
     console: &mut C,
+    server: &mut V,
     maker: &M,
     line: &Line,
 ) -> Option<Result<Reply, Refusal>>
     requires change { IsSome (line_change (C.names console.old) line.now) }
     ensures names { C.names console.new ≡ C.names console.old }
-    ensures changed { IfSome result (λ reply. IfSome (line_change (C.names console.old) line.now) (λ call. C.changes console.old console.new call reply)) }
-    ensures failed { IfNone result (console.new ≡ console.old) }
+    ensures changed { IfSome result (λ reply. IfSome (line_change (C.names console.old) line.now) (λ call.
+        ChangesBeside C.seen C.answers V.woken (console.old, server.old) (console.new, server.new) call reply)) }
+    ensures failed { IfNone result ((console.new ≡ console.old) × (server.new ≡ server.old)) }
 {
     let call = line.call(console.catalogue()).unwrap();
     let Ok(probe) = probe_for(maker, line) else {
         return None;
     };
-    Some(console.change(call, probe))
+    let Effect { result, shows } = console.change(call, probe);
+    if shows {
+        server.wake();
+    }
+    Some(result)
 }
 
 /// The most bytes of a line.
 const MAX_LINE: usize = 1_024;
 
 /// Does what a line asks for, which stands before LF.
-pub(crate) fn meet_text<P: Probe, C: Console<P>, M: Maker<P>>(
+pub(crate) fn meet_text<P: Probe, C: Console<P>, V: Server, M: Maker<P>>(
     alloc: Global,
     console: &mut C,
+    server: &mut V,
     maker: &M,
     line: &[u8],
 ) -> Answer
     ensures names { C.names console.new ≡ C.names console.old }
-    ensures met { IsLineMet (C.names console.old) C.seen C.looks C.changes console.old console.new line.now result }
+    ensures met { IsLineMetBeside C.seen C.kept C.looks C.answers V.counted V.woken V.stopped (C.names console.old) (console.old, server.old) (console.new, server.new) line.now result }
 {
     if line.len() > MAX_LINE {
         return Answer::TooLong;
@@ -93,7 +117,7 @@ pub(crate) fn meet_text<P: Probe, C: Console<P>, M: Maker<P>>(
         return Answer::Skipped;
     }
     match read_request(alloc, console.catalogue(), content) {
-        Ok(Some(request)) => meet(console, maker, &request),
+        Ok(Some(request)) => meet(console, server, maker, &request),
         Ok(None) => Answer::BadLine,
         Err(_) => Answer::OutOfMemory,
     }

@@ -1,7 +1,10 @@
-//! A registry of one thread for tests, over which sessions are held. Its ghosts say little: the tests look at what it answers.
+//! A registry of one thread for tests, over which sessions are held, and a server that counts what it is told. Their ghosts say
+//! little: the tests look at what they answer.
 
-use crate::{Console, Counts, Ended, OpenNow, Stats};
-use desk_core::{Call, Catalogue, Desk, Refusal, Reply, board_entries};
+use crate::{Counts, Ended, OpenNow, Server};
+use desk_core::{
+    Call, Catalogue, Console, Desk, Effect, Extent, Refusal, Registrar, board_entries,
+};
 use health_wire::Serving;
 use probe_core::{Maker, Manual, Probe, Rule};
 use std::alloc::{AllocError, Global};
@@ -40,9 +43,10 @@ impl<P: Probe> OneThread<P> {
     }
 }
 
-impl<P: Probe> Console<P> for OneThread<P> {
-    ghost use Rattle.std.specs.Prelude.{◌≡◌, ℕ, List, Option, Result, IfSome, length};
+impl<P: Probe> Registrar<P> for OneThread<P> {
+    ghost use Rattle.std.specs.Prelude.{◌≡◌, ◌↔◌, ℕ, List, Option, Result, IfSome, IfOk, IsErr, IsTrue, IsFalse};
     ghost use Rattle.std.specs.Option.{option_map};
+    ghost use Rattle.desk_core.specs.Changes.{Shows};
     ghost use Rattle.desk_core.specs.Past.{past};
     ghost use Rattle.desk_core.specs.Mutation.{rule_of};
 
@@ -50,26 +54,35 @@ impl<P: Probe> Console<P> for OneThread<P> {
 
     ghost seen = { λ console. past console.desk.journal };
 
-    ghost changes = { λ old new call result. Unit {0} };
-
-    ghost looks = { λ old new. Unit {0} };
+    ghost answers = { λ old new call result. Unit {0} };
 
     fn catalogue(&self) -> &Catalogue {
         &self.catalogue
     }
 
-    fn change(&mut self, call: Option<Call>, probe: Option<P>) -> Result<Reply, Refusal>
+    fn change(&mut self, call: Option<Call>, probe: Option<P>) -> Effect
         requires ruled { IfSome call (λ c. option_map P.rule probe ≡ rule_of c) }
         ensures names { self.new.catalogue ≡ self.old.catalogue }
+        ensures shows { IfOk result.result (λ reply.
+            IsTrue result.shows ↔ Shows (past self.new.desk.journal)) }
+        ensures refused { IsErr result.result → IsFalse result.shows }
     {
         let Some(call) = call else {
-            return Err(Refusal::NotListed);
+            return Effect::of_refusal(Refusal::NotListed);
         };
         match self.desk.change(0, call, probe) {
-            Ok((reply, _)) => Ok(reply),
-            Err((refusal, _)) => Err(refusal),
+            Ok(made) => made.effect(),
+            Err((refusal, _)) => Effect::of_refusal(refusal),
         }
     }
+}
+
+impl<P: Probe> Console<P> for OneThread<P> {
+    ghost use Rattle.std.specs.Prelude.{None};
+
+    ghost kept = { None };
+
+    ghost looks = { λ old new. Unit {0} };
 
     fn check(&mut self, name: &str) -> Option<Serving> {
         self.desk.check(self.catalogue.slot(name))
@@ -79,24 +92,54 @@ impl<P: Probe> Console<P> for OneThread<P> {
         self.desk.board()
     }
 
-    fn stats(&mut self) -> Stats {
-        Stats {
+    fn extent(&mut self) -> Extent {
+        Extent {
             entries: board_entries(self.desk.board()),
-            kept: 2,
-            counts: Counts {
-                current: OpenNow {
-                    connections: 3,
-                    watches: 4,
-                    sessions: 5,
-                },
-                ended: Ended {
-                    calls: 6,
-                    given_up: 7,
-                    behind: 8,
-                },
+            kept: self.desk.journal_kept().len(),
+        }
+    }
+}
+
+/// A server that counts what it is told.
+#[derive(Clone, Copy, Debug, PartialEq, Eq)]
+pub struct Told {
+    /// How often it was told that a status changed.
+    pub wakes: u32,
+    /// How often it was told to end.
+    pub stops: u32,
+}
+
+impl Told {
+    pub const NOTHING: Told = Told { wakes: 0, stops: 0 };
+}
+
+impl Server for Told {
+    ghost counted = { λ server counts. Unit {0} };
+
+    ghost woken = { λ old new. Unit {0} };
+
+    ghost stopped = { λ old new. Unit {0} };
+
+    fn counts(&self) -> Counts {
+        Counts {
+            current: OpenNow {
+                connections: 3,
+                watches: 4,
+                sessions: 5,
+            },
+            ended: Ended {
+                calls: 6,
+                given_up: 7,
+                behind: 8,
             },
         }
     }
 
-    fn stop(&mut self) {}
+    fn wake(&mut self) {
+        self.wakes = self.wakes.wrapping_add(1);
+    }
+
+    fn stop(&mut self) {
+        self.stops = self.stops.wrapping_add(1);
+    }
 }

@@ -2,15 +2,15 @@ ghost use Rattle.std.specs.Prelude.{◌≡◌, ◌≤◌, length};
 ghost use Rattle.control.specs.Session.{ends_open, first_line};
 
 use crate::answer::Answer;
-use crate::console::Console;
 use crate::meeting::meet_text;
+use crate::server::Server;
 use crate::writing::write_answer;
-use desk_core::Catalogue;
+use desk_core::{Catalogue, Console};
 use probe_core::{Maker, Probe};
 use std::alloc::{AllocError, Global};
 use std::marker::Model;
 
-/// The most bytes of a line, and the LF after it.
+/// The most bytes of a line, and the LF after it. Behind so many there is room for the LF that closes the last line.
 const MOST_UNREAD: usize = 1_025;
 
 /// Room for each answer that tells what came of a change.
@@ -24,37 +24,35 @@ const LEAST_ROOM: usize = 32;
 pub struct Session {
     unread: Vec<u8>,
     waiting: Vec<u8>,
-    gone: usize,
     is_over: bool,
     has_ended: bool,
 }
 
 impl Model for Session {
-    ghost use Rattle.std.specs.Prelude.{◌≤◌, drop, vec_len, vec_capacity};
-    ghost use Rattle.control.specs.Session.{SessionState};
+    ghost use Rattle.std.specs.Prelude.{◌≤◌, vec_capacity};
+    ghost use Rattle.control.specs.Session.{SessionState, IsWithin};
 
     ghost Value = { SessionState };
 
-    ghost view = { λ session. record { unread = session.unread.items; waiting = drop session.gone session.waiting.items; is_over = session.is_over; has_ended = session.has_ended } };
+    ghost view = { λ session. record { unread = session.unread.items; waiting = session.waiting.items; is_over = session.is_over; has_ended = session.has_ended } };
 
-    ghost invariant = { λ session. (vec_len session.unread ≤ 1025) × (1025 ≤ vec_capacity session.unread) × (session.gone ≤ vec_len session.waiting) × (32 ≤ vec_capacity session.waiting) };
+    ghost invariant = { λ session. IsWithin session.unread.items × (1026 ≤ vec_capacity session.unread) × (32 ≤ vec_capacity session.waiting) };
 }
 
 impl Session {
-    ghost use Rattle.std.specs.Prelude.{◌≡◌, ◌-◌, ◌≤◌, ◌++◌, ◌↔◌, [], drop, min, take, length, IfOk, IsTrue, if◌then◌else◌};
-    ghost use Rattle.control.specs.Meeting.{IsLineMet};
+    ghost use Rattle.std.specs.Prelude.{◌≡◌, ◌-◌, ◌≤◌, ◌++◌, ◌↔◌, [], drop, false, min, take, length, IfOk, IsTrue};
+    ghost use Rattle.control.specs.Beside.{IsLineMetBeside};
     ghost use Rattle.control.specs.Talk.{IsCut};
     ghost use Rattle.control.specs.Text.{IsTold, answer_text, ends_session};
-    ghost use Rattle.control.specs.Session.{HasLine, at_end, begun, first_line, behind_line, with_unread, with_waiting};
+    ghost use Rattle.control.specs.Session.{HasLine, IsWithin, at_end, begun, ends_open, first_line, behind_line, with_unread, with_waiting};
 
     /// A session that was given nothing yet. It takes the memory of its lines.
     pub fn new(alloc: Global) -> Result<Session, AllocError>
         ensures { IfOk result (λ session. session ≡ begun) }
     {
         Ok(Session {
-            unread: Vec::with_capacity(alloc, MOST_UNREAD)?,
+            unread: Vec::with_capacity(alloc, MOST_UNREAD + 1)?,
             waiting: Vec::with_capacity(alloc, LEAST_ROOM)?,
-            gone: 0,
             is_over: false,
             has_ended: false,
         })
@@ -64,7 +62,7 @@ impl Session {
     pub fn room(&self) -> usize
         ensures { result ≡ 1025 - length self.now.unread }
     {
-        MOST_UNREAD - self.unread.len()
+        MOST_UNREAD.saturating_sub(self.unread.len())
     }
 
     /// Takes as many of the bytes as there is room for, and tells how many.
@@ -79,9 +77,10 @@ impl Session {
 
     /// No more bytes come: what stands after the last LF is a line too.
     pub fn end(&mut self)
-        ensures { self.new ≡ at_end self.old }
+        ensures state { self.new ≡ at_end self.old }
+        ensures closed { length (first_line self.new.unread) ≤ 1024 → ends_open self.new.unread ≡ false }
     {
-        if ends_open(&self.unread) && self.unread.len() < MOST_UNREAD {
+        if ends_open(&self.unread) && line_len(&self.unread) < MOST_UNREAD {
             self.unread.push(b'\n').unwrap();
         }
         self.has_ended = true;
@@ -105,7 +104,7 @@ impl Session {
     pub fn to_send(&self) -> &[u8]
         ensures { result.now ≡ self.now.waiting }
     {
-        &self.waiting[self.gone..]
+        &self.waiting
     }
 
     /// So many bytes of that were sent.
@@ -113,7 +112,7 @@ impl Session {
         requires { count ≤ length self.old.waiting }
         ensures { self.new ≡ with_waiting (drop count self.old.waiting) self.old }
     {
-        self.gone += count;
+        self.waiting.drain(..count);
     }
 
     /// Whether its last line was answered: one that is too long, or `stop`.
@@ -124,23 +123,24 @@ impl Session {
     }
 
     /// Answers the first line, and takes it away. The probe of a line that registers a service is made before the change is asked for.
-    pub fn answer<P: Probe, C: Console<P>, M: Maker<P>>(
+    pub fn answer<P: Probe, C: Console<P>, V: Server, M: Maker<P>>(
         &mut self,
         alloc: Global,
         console: &mut C,
+        server: &mut V,
         maker: &M,
     ) -> Answer
         requires line { HasLine self.old }
         requires sent { self.old.waiting ≡ [] }
         ensures names { C.names console.new ≡ C.names console.old }
-        ensures met { IsLineMet (C.names console.old) C.seen C.looks C.changes console.old console.new (first_line self.old.unread) result }
+        ensures met { IsLineMetBeside C.seen C.kept C.looks C.answers V.counted V.woken V.stopped (C.names console.old) (console.old, server.old) (console.new, server.new) (first_line self.old.unread) result }
         ensures cut { IsCut self.old.unread (first_line self.old.unread) (behind_line self.old.unread) }
         ensures unread { self.new.unread ≡ behind_line self.old.unread }
         ensures ended { self.new.has_ended ≡ self.old.has_ended }
         ensures waiting { self.new.waiting ≡ answer_text (C.names console.old) result }
         ensures over { self.new.is_over ≡ ends_session result }
     {
-        let answer = meet_text(alloc, console, maker, self.first_line());
+        let answer = meet_text(alloc, console, server, maker, self.first_line());
         self.drop_line();
         let told = self.say(alloc, console.catalogue(), answer);
         self.is_over = told.ends_session();
@@ -149,7 +149,7 @@ impl Session {
 
     fn first_line(&self) -> &[u8]
         ensures value { result.now ≡ first_line self.now.unread }
-        ensures most { length self.now.unread ≤ 1025 }
+        ensures within { IsWithin self.now.unread }
     {
         let len = line_len(&self.unread);
         &self.unread[..len]
@@ -170,8 +170,6 @@ impl Session {
         ensures state { self.new ≡ with_waiting (answer_text catalogue.now result) self.old }
         ensures told { IsTold answer result }
     {
-        self.waiting.clear();
-        self.gone = 0;
         if write_answer(alloc, catalogue, &mut self.waiting, answer).is_ok() {
             return answer;
         }

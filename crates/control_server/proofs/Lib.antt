@@ -1,3 +1,4 @@
 pub mod ConsoleLemmas
 pub mod MadeLemmas
 pub mod SeatLemmas
+pub mod SaidLemmas

@@ -1,5 +1,5 @@
 -- What lines that a seat met have made of its history.
-use Rattle.std.proofs.Common.{◌≡◌, ℕ, List, [], ◌∷◌, ◌++◌, ap, sym, refl, ◌∙◌, subst}
+use Rattle.std.proofs.Common.{◌≡◌, ℕ, List, [], ◌∷◌, ◌++◌, length, ap, sym, refl, ◌∙◌, subst}
 use Rattle.std.specs.Prelude.{Option, None, Some, Result, Ok, Err}
 use Rattle.std.proofs.lemmas.List.{append_assoc, reverse-append}
 use Rattle.desk_core.specs.declared.call.Call.{Call}
@@ -9,19 +9,20 @@ use Rattle.desk_core.specs.declared.reply.Reply.{Reply}
 use Rattle.desk_core.specs.Mutation.{Ends as Done, Then as Next}
 use Rattle.desk_core.specs.Past.{past}
 use Rattle.hall.specs.Seats.{HallState, SeatState, IsOf, IsCarriedOut, own_calls, with_seen}
-use Rattle.crew.specs.CarriedOut.{replied}
-use Rattle.crew.specs.Looking.{HasLooked}
-use Rattle.crew.proofs.CarryingOut.{has_met}
-use Rattle.crew.proofs.LookingLemmas.{older_on}
+use Rattle.hall.specs.CarriedOut.{replied}
+use Rattle.hall.specs.Looking.{HasLooked}
+use Rattle.hall.proofs.CarryingOut.{has_met}
+use Rattle.hall.proofs.LookingLemmas.{older_on}
 use Rattle.control.specs.declared.answer.Answer.{Answer}
 use Rattle.script.specs.TextLines.{without_cr}
 use Rattle.control.specs.declared.request.Request.{Request}
-use Rattle.control.specs.Meeting.{IsMet, IsLineMet}
+use Rattle.control.specs.declared.stats.Stats.{Stats}
+use Rattle.control.specs.Meeting.{IsMet}
 use Rattle.control.specs.Meeting.IsMet.{Changes, Checks, Packs, Lists, Tells, Stops, Starves, StarvesTold}
 use Rattle.control.specs.Meeting.IsLineMet.{IsTooLong, IsSkipped, IsNoText, IsNoRequest, IsUnread, IsAsked}
 use Rattle.control.specs.Request.{IsRequest}
 use Rattle.control.specs.Talk.AreMet.{Ends, Then, Moves}
-use Rattle.control_server.specs.SeatLines.{AreAskedBy, HasMade, HasMet, results_of}
+use Rattle.control_server.specs.SeatLines.{AreAskedBy, HasMade, HasMet, IsMetBySeat, results_of}
 use Rattle.control_server.specs.SeatLines.AreAskedBy.{NoLines, Change, NoChange}
 
 -- the first change's entry stands before those of the others
@@ -85,8 +86,14 @@ stays old new same = subst (λ (seat : SeatState). HasLooked seat new) same (rec
 abbrev seen_in : SeatState → List Entry
 seen_in seat = seat.seen
 
+abbrev entries_in : SeatState → Stats → Type 0
+entries_in seat stats = stats.entries ≡ length seat.seen
+
+abbrev stays_so : SeatState → SeatState → Type 0
+stays_so before after = after ≡ before
+
 request_first : (names : List (List ℕ)) (a b c : SeatState) (line : List ℕ) (request : Request) (answer : Answer) (lines : List (List ℕ)) (answers : List Answer)
-    → IsRequest names (without_cr line) request → IsMet names seen_in HasLooked IsCarriedOut a b request answer → Makes names b c lines answers → Makes names a c (line ∷ lines) (answer ∷ answers)
+    → IsRequest names (without_cr line) request → IsMet names seen_in HasLooked IsCarriedOut entries_in stays_so a b request answer → Makes names b c lines answers → Makes names a c (line ∷ lines) (answer ∷ answers)
 request_first names a b c line _ _ lines answers is (Changes asked call result change carried) makes = record {
   calls = call ∷ makes.calls;
   asked = Change line call result lines answers makes.calls (record { request = asked; is = is; change = change }) makes.asked;
@@ -101,7 +108,7 @@ request_first names a b c line _ answer lines answers is (Starves request same) 
 request_first names a b c line _ answer lines answers is (StarvesTold request looked) makes = quiet_first names a b c line _ lines answers refl refl looked makes
 
 line_first : (names : List (List ℕ)) (a b c : SeatState) (line : List ℕ) (answer : Answer) (lines : List (List ℕ)) (answers : List Answer)
-    → IsLineMet names seen_in HasLooked IsCarriedOut a b line answer → Makes names b c lines answers → Makes names a c (line ∷ lines) (answer ∷ answers)
+    → IsMetBySeat names a b line answer → Makes names b c lines answers → Makes names a c (line ∷ lines) (answer ∷ answers)
 line_first names a b c line _ lines answers (IsTooLong long same) makes = quiet_first names a b c line _ lines answers refl refl (stays a b same) makes
 line_first names a b c line _ lines answers (IsSkipped short empty same) makes = quiet_first names a b c line _ lines answers refl refl (stays a b same) makes
 line_first names a b c line _ lines answers (IsNoText short not_text same) makes = quiet_first names a b c line _ lines answers refl refl (stays a b same) makes

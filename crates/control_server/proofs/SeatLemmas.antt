@@ -1,32 +1,14 @@
 -- The seats that sessions use, before and after lines were met by them.
-use Rattle.std.proofs.Common.{◌≡◌, ℕ, zero, suc, ◌<◌, List, [], ◌∷◌, ◌++◌, length, get_or, refl, sym, subst, ◌∙◌, arith, ⊎_elim}
+use Rattle.std.proofs.Common.{◌≡◌, ℕ, zero, suc, ◌<◌, List, [], ◌∷◌, length, get_or, refl, sym, subst, ◌∙◌, arith, ⊎_elim}
 use Rattle.std.specs.Prelude.{slice_set}
 use Rattle.std.specs.List.{All}
 use Rattle.std.proofs.lemmas.Bool.{cases_eq}
 use Rattle.std.proofs.lemmas.List.{get_or-set_other, get_or-set_same, length-set}
 use Rattle.std.proofs.lemmas.List.Elements.{All-get_or}
 use Rattle.hall.specs.Seats.{HallState, SeatState, IsOf}
-use Rattle.control.specs.Talk.AreMet.{Ends}
-use Rattle.control.proofs.TalkLemmas.{met_then}
 use Rattle.control_server.specs.Seats.{MetLines, SeatsHaveMet}
+use Rattle.control_server.specs.Sessions.{unused}
 use Rattle.control_server.proofs.MadeLemmas.{met_ours}
-
--- a seat that was not used
-pub unused : (names : List (List ℕ)) (seat : SeatState) → MetLines names seat seat
-unused names seat = record { lines = []; answers = []; met = Ends seat }
-
-met_on : (names : List (List ℕ)) (a b c : SeatState) → MetLines names a b → MetLines names b c → MetLines names a c
-met_on names a b c p q = record { lines = p.lines ++ q.lines; answers = p.answers ++ q.answers; met = met_then p.met q.met }
-
-pub seats_unused : (names : List (List ℕ)) (seats : List SeatState) → SeatsHaveMet names seats seats
-seats_unused names seats = record { count = refl; each = λ place other below. unused names (get_or seats place other) }
-
-pub seats_on : (names : List (List ℕ)) (a b c : List SeatState) → SeatsHaveMet names a b → SeatsHaveMet names b c → SeatsHaveMet names a c
-seats_on names a b c p q = record {
-  count = q.count ∙ p.count;
-  each = λ place other below. met_on names (get_or a place other) (get_or b place other) (get_or c place other) (p.each place other below)
-      (q.each place other (omega (arith, below, p.count)));
-}
 
 -- each seat stays the hall's
 pub met_line_ours : (names : List (List ℕ)) (hall : HallState) (old new : SeatState) → MetLines names old new → IsOf hall old → IsOf hall new

@@ -1,4 +1,5 @@
 pub mod Connection
-pub mod HallConsole
 pub mod Seats
 pub mod SeatLines
+pub mod Sessions
+pub mod Server

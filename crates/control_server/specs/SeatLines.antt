@@ -1,13 +1,13 @@
 -- What sessions make of the seat that they have, one after the other, and what of it is in the seat's history.
-use Rattle.std.specs.Prelude.{ℕ, ◌≡◌, Option, Some, List, [], ◌∷◌, ◌++◌, Result}
+use Rattle.std.specs.Prelude.{ℕ, ◌≡◌, Option, Some, List, [], ◌∷◌, ◌++◌, length, Result}
 use Rattle.desk_core.specs.declared.call.Call.{Call}
 use Rattle.desk_core.specs.declared.refusal.Refusal.{Refusal}
 use Rattle.desk_core.specs.declared.reply.Reply.{Reply}
 use Rattle.desk_core.specs.Past.{past}
 use Rattle.desk_core.specs.Watch.{IsOlder}
 use Rattle.hall.specs.Seats.{SeatState, IsCarriedOut, own_calls, with_seen}
-use Rattle.crew.specs.CarriedOut.{replied}
-use Rattle.crew.specs.Looking.{HasLooked}
+use Rattle.hall.specs.CarriedOut.{replied}
+use Rattle.hall.specs.Looking.{HasLooked}
 use Rattle.script.specs.declared.line.Line.{Line}
 use Rattle.script.specs.Change.{line_change}
 use Rattle.script.specs.TextLines.{without_cr}
@@ -15,12 +15,17 @@ use Rattle.control.specs.declared.answer.Answer.{Answer}
 use Rattle.control.specs.declared.answer.Answer.TheVariants.{Changed, Checked, Board, Listed, Told, Stopping, BadLine, TooLong, OutOfMemory, Skipped}
 use Rattle.control.specs.declared.request.Request.TheVariants as requests
 use Rattle.control.specs.Request.{IsRequest}
+use Rattle.control.specs.Meeting.{IsLineMet}
 use Rattle.control.specs.Talk.{AreMet}
 
--- By this seat these lines were met, one after the other, each with its answer at its point of the history: a change by a change of the
--- seat, anything else by what the seat has seen. In between it has at most looked
+-- The line is met by the seat with this answer: a change by a change of the seat, anything else by what the seat has seen
+abbrev pub IsMetBySeat : List (List ℕ) → SeatState → SeatState → List ℕ → Answer → Type 0
+IsMetBySeat names old new line answer =
+    IsLineMet names (λ seat. seat.seen) HasLooked IsCarriedOut (λ seat stats. stats.entries ≡ length seat.seen) (λ before after. after ≡ before) old new line answer
+
+-- By this seat these lines were met, one after the other, each with its answer at its point of the history. In between it has at most looked
 abbrev pub HasMet : List (List ℕ) → SeatState → SeatState → List (List ℕ) → List Answer → Type 0
-HasMet names old new lines answers = AreMet HasLooked names (λ seat. seat.seen) HasLooked IsCarriedOut old new lines answers
+HasMet names old new lines answers = AreMet HasLooked (IsMetBySeat names) old new lines answers
 
 -- the results of the changes among answers
 abbrev pub results_of : List Answer → List (Result Reply Refusal)

@@ -4,8 +4,8 @@ ghost use Rattle.hall.specs.Seats.{SeatState};
 ghost use Rattle.control.specs.declared.answer.Answer.{Answer};
 ghost use Rattle.control.specs.Session.{SessionState, begun};
 ghost use Rattle.control.specs.Talk.{AreLines, answer_texts};
-ghost use Rattle.session_loop.specs.Chain.{followed_by, nothing_moved};
-ghost use Rattle.session_loop.specs.Turn.{IsDone, Moved};
+ghost use Rattle.reactor.specs.Moved.{Moved, followed_by, nothing_moved};
+ghost use Rattle.reactor.specs.Talking.{IsDone};
 ghost use Rattle.control_server.specs.Connection.{SpeaksBy};
 ghost use Rattle.control_server.specs.SeatLines.{AreAskedBy, HasMade, HasMet, results_of};
 
@@ -25,6 +25,6 @@ pub fn turns_make_a_session()
         → SpeaksBy names first now session mid moved → SpeaksBy names now later mid session_now more
         → SpeaksBy names first later session session_now (followed_by moved more) }
     ensures ends { (names : List (List ℕ)) (first now : SeatState) (session_now : SessionState) (moved : Moved)
-        → SpeaksBy names first now begun session_now moved → IsDone session_now
-        → (moved.sent ≡ answer_texts names moved.answers) × ((session_now.is_over ≡ true) ⊎ AreLines (moved.received ++ moved.closing) moved.lines []) }
+        → (said : SpeaksBy names first now begun session_now moved) → IsDone session_now → session_now.waiting ≡ []
+        → (moved.sent ≡ answer_texts names said.answers) × ((session_now.is_over ≡ true) ⊎ AreLines (moved.read ++ said.closing) said.lines []) }
 {}

@@ -36,18 +36,15 @@
 //! ```
 #![tactic(auto)]
 
-mod connection;
+mod acceptor;
 mod context;
 mod control_server;
-mod hall_console;
 mod laws;
-mod leaving;
 mod overview;
 mod sessions;
 
 pub use context::Context;
 pub use control_server::ControlServer;
-pub use hall_console::HallConsole;
 pub use laws::{lines_make_changes, turns_make_a_session};
 pub use overview::Overview;
-pub use sessions::MAX_SESSIONS;
+pub use sessions::{MAX_SESSIONS, SESSION_SEATS};

@@ -1,7 +1,7 @@
-use control::{Counts, Ended, OpenNow};
+use control::{Counts, Ended, OpenNow, Server};
 use live_server::{News, Tally};
 use std::sync::Arc;
-use std::sync::atomic::AtomicU64;
+use std::sync::atomic::{AtomicU64, Ordering};
 
 /// What a session sees and asks of the server that runs over the registry.
 #[derive(Clone, Copy)]
@@ -16,8 +16,31 @@ pub struct Overview<'a> {
     pub stops: &'a AtomicU64,
 }
 
+/// Contracts see nothing of what it is told: its loops share that.
+impl<'a> Server for Overview<'a> {
+    ghost use Rattle.std.specs.Prelude.{◌≡◌};
+
+    ghost counted = { λ overview counts. Unit {0} };
+
+    ghost woken = { λ old new. new ≡ old };
+
+    ghost stopped = { λ old new. new ≡ old };
+
+    fn counts(&self) -> Counts {
+        counts_of(self.tallies, self.sessions)
+    }
+
+    fn wake(&mut self) {
+        self.news.change();
+    }
+
+    fn stop(&mut self) {
+        self.stops.store(1, Ordering::SeqCst);
+    }
+}
+
 /// What all loops have counted by now, beside so many sessions. A sum stays at its greatest number once it has come to it.
-pub(crate) fn counts_of(tallies: &[Arc<Tally>], sessions: u64) -> Counts {
+fn counts_of(tallies: &[Arc<Tally>], sessions: u64) -> Counts {
     let mut current = OpenNow {
         connections: 0,
         watches: 0,

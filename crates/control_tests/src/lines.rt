@@ -1,4 +1,4 @@
-use control::one_thread::{Manuals, OneThread};
+use control::one_thread::{Manuals, OneThread, Told};
 use control::{Answer, Session};
 use probe_core::Manual;
 use std::alloc::Global;
@@ -21,7 +21,7 @@ const LINES: [(&[u8], &[u8]); 19] = [
     (b"retire a\n", b"refused full\n"),
     (
         b"stats\n",
-        b"entries 4 kept 2 connections 3 watches 4 sessions 5 calls 6 given_up 7 behind 8\n",
+        b"entries 4 kept 4 connections 3 watches 4 sessions 5 calls 6 given_up 7 behind 8\n",
     ),
     (b"\n", b""),
     (b"\r\n", b""),
@@ -39,6 +39,7 @@ fn answer_all(
     alloc: Global,
     session: &mut Session,
     console: &mut OneThread<Manual>,
+    server: &mut Told,
     answers: &mut Vec<u8>,
 ) -> Result<(), Fail> {
     for _ in 0..MOST_STEPS {
@@ -46,7 +47,7 @@ fn answer_all(
             return Ok(());
         }
         if session.to_send().is_empty() {
-            session.answer(alloc, console, &Manuals);
+            session.answer(alloc, console, server, &Manuals);
         }
         let waiting = session.to_send();
         let count = waiting.len();
@@ -59,6 +60,7 @@ fn answer_all(
 /// The answers to bytes that come in pieces of at most so many.
 fn answers_to(alloc: Global, bytes: &[u8], most: usize) -> Result<Vec<u8>, Fail> {
     let mut console: OneThread<Manual> = OneThread::new(alloc)?;
+    let mut server = Told::NOTHING;
     let mut session = Session::new(alloc)?;
     let mut answers = Vec::new(alloc);
     let mut rest = bytes;
@@ -68,7 +70,7 @@ fn answers_to(alloc: Global, bytes: &[u8], most: usize) -> Result<Vec<u8>, Fail>
         }
         let taken = session.give(&rest[..most.min(rest.len())]);
         rest = &rest[taken..];
-        answer_all(alloc, &mut session, &mut console, &mut answers)?;
+        answer_all(alloc, &mut session, &mut console, &mut server, &mut answers)?;
     }
     Err(Fail::new("bytes without end"))
 }
@@ -93,12 +95,13 @@ fn answers_lines_in_their_order_in_any_pieces(rt: HostRuntime) -> Result<(), Fai
 fn ends_at_a_line_that_is_too_long(rt: HostRuntime) -> Result<(), Fail> {
     let alloc = rt.alloc();
     let mut console: OneThread<Manual> = OneThread::new(alloc)?;
+    let mut server = Told::NOTHING;
     let mut session = Session::new(alloc)?;
     same(&session.give(&[b'a'; 2_000]), &1_025, &"taken")?;
     same(&session.has_line(), &true, &"a line")?;
     if session.has_line() && session.to_send().is_empty() {
         same(
-            &session.answer(alloc, &mut console, &Manuals),
+            &session.answer(alloc, &mut console, &mut server, &Manuals),
             &Answer::TooLong,
             &"answer",
         )?;
@@ -121,12 +124,109 @@ fn takes_a_last_line_that_has_no_lf(rt: HostRuntime) -> Result<(), Fail> {
     let alloc = rt.alloc();
     for (bytes, expected) in &LAST {
         let mut console: OneThread<Manual> = OneThread::new(alloc)?;
+        let mut server = Told::NOTHING;
         let mut session = Session::new(alloc)?;
         let mut answers = Vec::new(alloc);
         session.give(bytes);
         session.end();
-        answer_all(alloc, &mut session, &mut console, &mut answers)?;
+        answer_all(alloc, &mut session, &mut console, &mut server, &mut answers)?;
         same(&answers.as_slice(), expected, bytes)?;
+    }
+    Ok(())
+}
+
+/// A line, and what the server has been told behind it: how often that a status changed, and how often to end.
+type Row = (&'static [u8], u32, u32);
+
+/// Lines one after the other, each list over a registry of its own, with room for four entries.
+const WAKES: [&[Row]; 4] = [
+    &[
+        (b"list\n", 0, 0),
+        (b"register a manual\n", 1, 0),
+        (b"up a\n", 1, 0),
+        (b"down a\n", 2, 0),
+        (b"down zz\n", 2, 0),
+        (b"down a\n", 2, 0),
+        (b"up a\n", 2, 0),
+        (b"check a\n", 2, 0),
+        (b"stats\n", 2, 0),
+        (b"board\n", 2, 0),
+        (b"stop\n", 2, 1),
+    ],
+    &[
+        (b"down a\n", 0, 0),
+        (b"shutdown\n", 0, 0),
+        (b"register a manual\n", 1, 0),
+        (b"resume\n", 2, 0),
+        (b"stop\n", 2, 1),
+    ],
+    &[
+        (b"register a manual\n", 1, 0),
+        (b"retire a\n", 2, 0),
+        (b"retire a\n", 2, 0),
+        (b"register - threshold 3\n", 2, 0),
+        (b"no word\n", 2, 0),
+        (b"\n", 2, 0),
+    ],
+    &[
+        (b"register a manual\n", 1, 0),
+        (b"register - manual\n", 2, 0),
+        (b"shutdown\n", 3, 0),
+        (b"resume\n", 4, 0),
+    ],
+];
+
+#[test]
+fn wakes_the_server_after_each_change_that_shows_and_no_other(rt: HostRuntime) -> Result<(), Fail> {
+    let alloc = rt.alloc();
+    for rows in WAKES {
+        let mut console: OneThread<Manual> = OneThread::new(alloc)?;
+        let mut server = Told::NOTHING;
+        let mut session = Session::new(alloc)?;
+        let mut answers = Vec::new(alloc);
+        for (line, wakes, stops) in rows {
+            session.give(line);
+            answer_all(alloc, &mut session, &mut console, &mut server, &mut answers)?;
+            let told = Told {
+                wakes: *wakes,
+                stops: *stops,
+            };
+            same(&server, &told, line)?;
+        }
+    }
+    Ok(())
+}
+
+#[test]
+fn takes_a_last_line_that_has_no_lf_behind_all_that_fits(rt: HostRuntime) -> Result<(), Fail> {
+    let alloc = rt.alloc();
+    let mut console: OneThread<Manual> = OneThread::new(alloc)?;
+    let mut server = Told::NOTHING;
+    let mut session = Session::new(alloc)?;
+    let mut bytes = vec![in alloc; b'\n'; 1_018]?;
+    bytes.extend_from_slice(b"check a")?;
+    same(&session.give(&bytes), &1_025, &"taken")?;
+    session.end();
+    same(&session.room(), &0, &"room")?;
+    session.end();
+    same(&session.give(b"list\n"), &0, &"more")?;
+    let mut answers = Vec::new(alloc);
+    answer_all(alloc, &mut session, &mut console, &mut server, &mut answers)?;
+    same(&answers.as_slice(), &b"not found\n".as_slice(), &"answers")
+}
+
+#[test]
+fn ends_at_a_last_line_that_is_too_long(rt: HostRuntime) -> Result<(), Fail> {
+    let alloc = rt.alloc();
+    for (len, expected) in [(1_024usize, "bad line\n"), (1_025, "line too long\n")] {
+        let mut console: OneThread<Manual> = OneThread::new(alloc)?;
+        let mut server = Told::NOTHING;
+        let mut session = Session::new(alloc)?;
+        let mut answers = Vec::new(alloc);
+        session.give(&vec![in alloc; b'x'; len]?);
+        session.end();
+        answer_all(alloc, &mut session, &mut console, &mut server, &mut answers)?;
+        same(&answers.as_slice(), &expected.as_bytes(), &len)?;
     }
     Ok(())
 }

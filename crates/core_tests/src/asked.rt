@@ -44,7 +44,7 @@ pub(crate) fn change<K: Keep>(desk: &mut Desk<Manual, K>, slot: Slot, asked: Ask
         Asked::Resume => desk.change(0, Call::Resume, None),
     };
     match changed {
-        Ok((reply, _)) => Ok(reply),
+        Ok(made) => Ok(made.reply),
         Err((refusal, _)) => Err(refusal),
     }
 }

@@ -1,9 +1,8 @@
-pub mod CarryingOut
 pub mod GatherLemmas
-pub mod LookingLemmas
 pub mod NewSeats
 pub mod NotingLemmas
 pub mod OneGathering
+pub mod Orders
 pub mod Reasons
 pub mod Reports
 pub mod Soundness

@@ -23,12 +23,12 @@ use Rattle.crew.specs.declared.staff.Staff.{Staff}
 use Rattle.crew.specs.declared.worker.Worker.{Worker}
 use Rattle.crew.specs.CommandRun.{HaveRun, IsEquipped, IsReady}
 use Rattle.desk_core.specs.Mutation.{IsAnswered, Taken, NotListed, BadRule, Full, NoMemory, AreAnswered, Ends, Then}
-use Rattle.crew.specs.CarriedOut.{HasCarriedOut, replied}
-use Rattle.crew.specs.Looking.{HasLooked}
+use Rattle.hall.specs.CarriedOut.{HasCarriedOut, replied}
+use Rattle.hall.specs.Looking.{HasLooked}
 use Rattle.crew.specs.Serve.{HasServed, lists_in}
 use Rattle.crew.specs.Staff.{IsEmptyFor, IsStaffOf, orders_of, seats_of}
 use Rattle.crew.specs.Worker.{HaveLooked}
-use Rattle.crew.proofs.CarryingOut.{are_ours, looked_ours}
+use Rattle.hall.proofs.CarryingOut.{are_ours, looked_ours}
 
 -- how many changes a seat has made
 abbrev made : SeatState → ℕ

@@ -5,7 +5,7 @@ use Rattle.desk_core.specs.Order.{ordered}
 use Rattle.hall.specs.Seats.{HallState, IsOf}
 use Rattle.crew.specs.declared.command_run.Commands.{Commands}
 use Rattle.crew.specs.declared.command_run.CommandRun.{CommandRun}
-use Rattle.crew.specs.CarriedOut.{HasCarriedOut}
+use Rattle.hall.specs.CarriedOut.{HasCarriedOut}
 
 -- no order of the list has a result yet, and there is room for one of each
 pub record IsEquipped (commands : Commands) : Type 0 where

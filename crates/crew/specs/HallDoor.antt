@@ -5,7 +5,7 @@ use Rattle.desk_core.specs.declared.refusal.Refusal.{Refusal}
 use Rattle.desk_core.specs.declared.reply.Reply.{Reply}
 use Rattle.hall.specs.Seats.{HallState, SeatState, IsCarriedOut}
 use Rattle.crew.specs.declared.door.HallDoor.{HallDoor}
-use Rattle.crew.specs.Looking.{HasLooked}
+use Rattle.hall.specs.Looking.{HasLooked}
 
 -- the hall behind the door
 abbrev pub door_hall : {R P K : Type 0} → HallDoor R P K → HallState

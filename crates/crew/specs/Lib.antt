@@ -1,11 +1,9 @@
 pub mod CommandRun
 pub mod CrewWhy
 pub mod Answering
-pub mod CarriedOut
 pub mod Gather
 pub mod Noting
 pub mod Ring
-pub mod Looking
 pub mod Serve
 pub mod Staff
 pub mod HallDoor

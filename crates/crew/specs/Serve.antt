@@ -7,8 +7,8 @@ use Rattle.desk_core.specs.declared.refusal.Refusal.{Refusal}
 use Rattle.desk_core.specs.declared.reply.Reply.{Reply}
 use Rattle.desk_core.specs.Order.{ordered}
 use Rattle.hall.specs.Seats.{SeatState, own_calls}
-use Rattle.crew.specs.CarriedOut.{HasCarriedOut}
-use Rattle.crew.specs.Looking.{HasLooked}
+use Rattle.hall.specs.CarriedOut.{HasCarriedOut}
+use Rattle.hall.specs.Looking.{HasLooked}
 
 -- the lists in a vector of vectors
 abbrev pub lists_in : {X : Type 0} → Vec (Vec X Global) Global → List (List X)

@@ -2,7 +2,7 @@
 use Rattle.std.specs.Prelude.{ℕ, ◌<◌, List, length}
 use Rattle.std.specs.List.{slice_index_or}
 use Rattle.crew.specs.declared.worker.Worker.{Worker}
-use Rattle.crew.specs.Looking.{HasLooked}
+use Rattle.hall.specs.Looking.{HasLooked}
 
 -- all workers' seats have at most looked
 abbrev pub HaveLooked : {P : Type 0} → List (Worker P) → List (Worker P) → Type 0

@@ -1,13 +1,15 @@
 ghost use Rattle.hall.specs.Seats.{IsOf};
 
-use desk_core::{Behind, Call, Catalogue, Keep, KeepAll, Refusal, Registrar, Reply, Watch};
+use desk_core::{
+    Behind, Call, Catalogue, Console, Effect, Extent, Keep, KeepAll, Registrar, Watch,
+};
 use hall::{Hall, Seat};
 use health_wire::Serving;
 use probe_core::Probe;
 use std::sync::Wait;
 use web_call::Door;
 
-/// A door over a hall: it looks, and makes changes, with a seat, which it is lent.
+/// A door over a hall, and a console: it looks, and makes changes, with a seat, which it is lent.
 #[derive(Drop)]
 pub struct HallDoor<'a, R: Wait, P: Probe, K: Keep = KeepAll> {
     rt: &'a R,
@@ -21,7 +23,7 @@ impl<'a, R: Wait, P: Probe, K: Keep> HallDoor<'a, R, P, K> {
     ghost use Rattle.hall.specs.Seats.{IsOf};
     ghost use Rattle.crew.specs.HallDoor.{door_hall, door_seat};
 
-    /// The seat is one of this hall's. A Check waits for nobody; `open`, `step` and `change` wait for the seat's turn.
+    /// The seat is one of this hall's. A Check and `board` wait for nobody; `open`, `step`, `change` and `extent` wait for the seat's turn.
     pub fn new(rt: &'a R, hall: &'a Hall<P, K>, seat: &'a mut Seat<P, K>) -> HallDoor<'a, R, P, K>
         requires { IsOf hall.now seat.old }
         ensures reference { result.seat.ghost_name ≡ seat.entry.ghost_name }
@@ -86,13 +88,16 @@ impl<'a, R: Wait, P: Probe, K: Keep> Door for HallDoor<'a, R, P, K> {
 }
 
 impl<'a, R: Wait, P: Probe, K: Keep> Registrar<P> for HallDoor<'a, R, P, K> {
-    ghost use Rattle.std.specs.Prelude.{◌≡◌, IfSome};
+    ghost use Rattle.std.specs.Prelude.{◌≡◌, ◌↔◌, IfSome, IfOk, IsErr, IsTrue, IsFalse};
     ghost use Rattle.std.specs.Option.{option_map};
+    ghost use Rattle.desk_core.specs.Changes.{Shows};
     ghost use Rattle.desk_core.specs.Mutation.{rule_of};
     ghost use Rattle.desk_core.specs.Order.{IsListed};
-    ghost use Rattle.crew.specs.HallDoor.{door_hall, CarriesOut};
+    ghost use Rattle.crew.specs.HallDoor.{door_hall, door_seat, CarriesOut};
 
     ghost names = { λ door. (door_hall door).names };
+
+    ghost seen = { λ door. (door_seat door).seen };
 
     ghost answers = { CarriesOut };
 
@@ -100,15 +105,42 @@ impl<'a, R: Wait, P: Probe, K: Keep> Registrar<P> for HallDoor<'a, R, P, K> {
         self.hall.catalogue()
     }
 
-    fn change(&mut self, call: Option<Call>, probe: Option<P>) -> Result<Reply, Refusal>
+    fn change(&mut self, call: Option<Call>, probe: Option<P>) -> Effect
         requires listed { IfSome call (IsListed (door_hall self.old).names) }
         requires ruled { IfSome call (λ c. option_map P.rule probe ≡ rule_of c) }
         ensures names { (door_hall self.new).names ≡ (door_hall self.old).names }
-        ensures answered { CarriesOut self.old self.new call result }
+        ensures answered { CarriesOut self.old self.new call result.result }
+        ensures shows { IfOk result.result (λ reply.
+            IsTrue result.shows ↔ Shows (door_seat self.new).seen) }
+        ensures refused { IsErr result.result → IsFalse result.shows }
     {
         match self.hall.change(self.rt, self.seat, call, probe) {
-            Ok((reply, _)) => Ok(reply),
-            Err((refusal, _)) => Err(refusal),
+            Ok(made) => made.effect(),
+            Err((refusal, _)) => Effect::of_refusal(refusal),
         }
     }
 }
+
+impl<'a, R: Wait, P: Probe, K: Keep> Console<P> for HallDoor<'a, R, P, K> {
+    ghost use Rattle.crew.specs.HallDoor.{StaysAt};
+
+    ghost kept = { K.kept };
+
+    ghost looks = { StaysAt };
+
+    fn check(&mut self, name: &str) -> Option<Serving> {
+        let answer = self.hall.check(self.seat, name);
+        answer.status
+    }
+
+    fn board(&mut self) -> u64 {
+        self.hall.board(self.seat)
+    }
+
+    fn extent(&mut self) -> Extent {
+        self.hall.extent(self.rt, self.seat)
+    }
+}
+
+#[cfg(test)]
+mod tests;

@@ -4,7 +4,7 @@ ghost use Rattle.std.specs.Vec.Iter.{into_iter_items, into_iter_len};
 ghost use Rattle.hall.specs.Seats.{IsOf};
 ghost use Rattle.crew.specs.Answering.{EndsSo, StaysBusy, end_of, moment};
 ghost use Rattle.crew.specs.HallDoor.{StaysAt};
-ghost use Rattle.crew.specs.Looking.{HasLooked};
+ghost use Rattle.hall.specs.Looking.{HasLooked};
 ghost use Rattle.crew.specs.Worker.{HaveLooked};
 
 use crate::call_end::CallEnd;

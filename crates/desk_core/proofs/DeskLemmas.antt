@@ -1,6 +1,7 @@
 -- What a desk keeps, before and after an entry.
 use Rattle.std.proofs.Common.{◌≡◌, ◌≢◌, ℕ, zero, suc, ◌^◌, ◌<◌, ◌≤◌, ◌==◌, ◌&&◌, Bool, true, false, if◌then◌else◌, Option, None, Some, unwrap_or}
 use Rattle.std.proofs.Common.{List, [], ◌∷◌, ◌++◌, length, get_or, set, replicate, Ok, Err, refl, sym, ap, subst, ◌∙◌, inl, inr, ◌⊎◌, arith}
+use Rattle.std.specs.Prelude.{IsTrue, ◌↔◌}
 use Rattle.std.specs.Option.{option_map, option_or}
 use Rattle.std.proofs.lemmas.Bool.{eqb-true, eqb-false, eq-eqb, cases_lt}
 use Rattle.std.proofs.lemmas.List.{length-reverse, get_or-set_other}
@@ -27,7 +28,7 @@ use Rattle.desk_core.specs.Mutation.{entry_of, Taken, NoMemory}
 use Rattle.desk_core.specs.Reply.{reply_to}
 use Rattle.desk_core.specs.Status.{status_at, status_by, opinion, all_serving, has_slot, serving_if}
 use Rattle.desk_core.specs.Board.{packed, status_in}
-use Rattle.desk_core.specs.Changes.{changed, changes_of, shown_at}
+use Rattle.desk_core.specs.Changes.{Shows, changed, changes_of, shown_at}
 use Rattle.desk_core.specs.Slots.{covers_below, status_from, shown_in, noted, touched, HasSame, IsHeard, IsApplied}
 use Rattle.desk_core.specs.Cache.{relies_on, rule_in, IsMapOf, LooksBack, HasDependents, IsRelated, Leaves, HasRule}
 use Rattle.desk_core.specs.Desk.{State, HasAnswered, Keeps, IsDesk, IsShown, probe_at}
@@ -305,6 +306,15 @@ has_answered old new seat call reply lawful below reply_is is most = record {
   most = most;
   answer = Taken call reply lawful (rw (length-reverse old.journal) below) reply_is (ap past is ∙ past_more old.journal (entry_of seat call reply));
 }
+
+-- it shows where the list of status changes has grown
+pub shows_newest : (shows : Bool) (journal new : List Entry) (entry : Entry) (was changes : List Change) → new ≡ journal ++ entry ∷ [] → was ≡ changes_of (past journal)
+    → changes ≡ changes_of (past new) → IsTrue shows ↔ (length was < length changes) → IsTrue shows ↔ Shows (past new)
+shows_newest shows journal new entry was changes is was_is changes_is told =
+    let later : past new ≡ entry ∷ past journal = ap past is ∙ past_more journal entry in
+    subst (λ h. IsTrue shows ↔ Shows h) (sym later)
+    (subst (λ cs. IsTrue shows ↔ (length cs < length (changes_of (entry ∷ past journal)))) was_is
+    (subst (λ cs. IsTrue shows ↔ (length was < length cs)) (changes_is ∙ ap changes_of later) told))
 
 -- a lawful change for which an allocation failed, at a journal that is not full
 pub unanswered : (old inside new : State) (seat : ℕ) (call : Call) → inside ≡ old → new.journal ≡ inside.journal → new.max_entries ≡ inside.max_entries

@@ -1,5 +1,5 @@
 -- What watchers are shown: each change of a service's status (Watch of health-checking.md of grpc).
-use Rattle.std.specs.Prelude.{ℕ, zero, suc, ◌==◌, Bool, if◌then◌else◌, Some, List, [], ◌∷◌, ◌++◌, length}
+use Rattle.std.specs.Prelude.{ℕ, zero, suc, ◌<◌, ◌==◌, Bool, if◌then◌else◌, Some, List, [], ◌∷◌, ◌++◌, length}
 use Rattle.health_wire.specs.declared.serving.Serving.{Serving}
 use Rattle.health_wire.specs.Serving.{serving_number}
 use Rattle.desk_core.specs.declared.change.Change.{Change}
@@ -26,3 +26,8 @@ abbrev pub changes_of : List Entry → List Change
 changes_of [] = []
 changes_of (entry ∷ older) =
     changes_of older ++ changed (length older) (shown_at older) (shown_at (entry ∷ older)) 16
+
+-- the newest entry of a history changed what is shown of a service
+abbrev pub Shows : List Entry → Type 0
+Shows [] = ⊥
+Shows (entry ∷ older) = length (changes_of older) < length (changes_of (entry ∷ older))

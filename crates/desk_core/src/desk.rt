@@ -7,6 +7,7 @@ use crate::entry::Entry;
 use crate::history::History;
 use crate::keep::{Capacity, Keep, KeepAll};
 use crate::lawful::is_lawful_call;
+use crate::made::Made;
 use crate::refusal::Refusal;
 use crate::registration::{Handed, Registered};
 use crate::reply::{Reply, reply_to_event, reply_to_register, reply_to_retire};
@@ -54,7 +55,7 @@ impl<P: Probe, K: Keep> Model for Desk<P, K> {
 }
 
 impl<P: Probe, K: Keep> Desk<P, K> {
-    ghost use Rattle.std.specs.Prelude.{◌≡◌, ◌≢◌, ◌<◌, ◌≤◌, ◌↔◌, ℕ, length, None, Ok, Err, IfSome, IfNone, IfOk, IfErr, IsErr, OnOk, OnErr, MatchResult};
+    ghost use Rattle.std.specs.Prelude.{◌≡◌, ◌≢◌, ◌<◌, ◌≤◌, ◌↔◌, ℕ, length, None, Ok, Err, IfSome, IfNone, IfOk, IfErr, IsErr, IsTrue, OnOk, OnErr, MatchResult};
     ghost use Rattle.std.specs.Option.{option_map};
     ghost use Rattle.desk_core.specs.Past.{past};
     ghost use Rattle.desk_core.specs.Mutation.{rule_of};
@@ -62,7 +63,7 @@ impl<P: Probe, K: Keep> Desk<P, K> {
     ghost use Rattle.desk_core.specs.Reply.{reply_to};
     ghost use Rattle.desk_core.specs.Legal.{IsLegal, IsLawfulCall};
     ghost use Rattle.desk_core.specs.Status.{checked, shown};
-    ghost use Rattle.desk_core.specs.Changes.{changes_of};
+    ghost use Rattle.desk_core.specs.Changes.{Shows, changes_of};
     ghost use Rattle.desk_core.specs.Watch.{IsBehind, opened, stepped};
     ghost use Rattle.tail.specs.Tail.{kept_of, most_held};
     ghost use Rattle.desk_core.specs.Board.{board_of};
@@ -107,18 +108,20 @@ impl<P: Probe, K: Keep> Desk<P, K> {
         seat: u16,
         call: Call,
         probe: Option<P>,
-    ) -> Result<(Reply, Option<P>), (Refusal, Option<P>)>
+    ) -> Result<Made<P>, (Refusal, Option<P>)>
         requires ruled { option_map P.rule probe ≡ rule_of call }
         ensures answered { MatchResult result
-            (λ taken. HasAnswered self.old self.new seat call (Ok taken.0))
+            (λ made. HasAnswered self.old self.new seat call (Ok made.reply))
             (λ refused. HasAnswered self.old self.new seat call (Err refused.0)) }
-        ensures old { IfOk result (λ taken. option_map (λ p. (P.rule p, P.memory p)) taken.1
+        ensures old { IfOk result (λ made. option_map (λ p. (P.rule p, P.memory p)) made.old
             ≡ probe_of (past self.old.journal) call) }
+        ensures shows { IfOk result (λ made.
+            IsTrue made.shows ↔ Shows (past self.new.journal)) }
         ensures handed_back { IfErr result (λ refused. refused.1 ≡ probe) }
         ensures full { IsAtLimit K.kept self.old
             → IfErr result (λ refused. refused.0 ≢ Refusal.NoMemory) }
         ensures holds { HoldsMemory self.old self.new }
-        ensures placed { IfOk result (λ taken. 16 ≤ self.new.places) }
+        ensures placed { IfOk result (λ made. 16 ≤ self.new.places) }
     {
         if let Some(refusal) = self.refusal_of(&call) {
             return Err((refusal, probe));
@@ -132,8 +135,8 @@ impl<P: Probe, K: Keep> Desk<P, K> {
         };
         let old = self.slots.apply(&call, reply, probe);
         self.is_shut = shut_after(self.is_shut, &call);
-        self.history.show(&self.slots, self.is_shut, &call, at);
-        Ok((reply, old))
+        let shows = self.history.show(&self.slots, self.is_shut, &call, at);
+        Ok(Made { reply, old, shows })
     }
 
     /// Why the change is refused, other than out of memory.
@@ -191,7 +194,7 @@ impl<P: Probe, K: Keep> Desk<P, K> {
     {
         let call = Call::Register(slot, probe.rule());
         match self.change(seat, call, Some(probe)) {
-            Ok((reply, old)) => Ok(Registered { reply, old }),
+            Ok(Made { reply, old, .. }) => Ok(Registered { reply, old }),
             Err((refusal, probe)) => Err(Handed {
                 refusal,
                 probe: probe.unwrap(),
@@ -212,7 +215,7 @@ impl<P: Probe, K: Keep> Desk<P, K> {
         ensures placed { IfOk result (λ taken. 16 ≤ self.new.places) }
     {
         match self.change(seat, Call::Retire(slot), None) {
-            Ok(taken) => Ok(taken),
+            Ok(Made { reply, old, .. }) => Ok((reply, old)),
             Err((refusal, _)) => Err(refusal),
         }
     }
@@ -266,7 +269,7 @@ impl<P: Probe, K: Keep> Desk<P, K> {
         ensures placed { IfOk result (λ reply. 16 ≤ self.new.places) }
     {
         match self.change(seat, call, None) {
-            Ok((reply, _)) => Ok(reply),
+            Ok(made) => Ok(made.reply),
             Err((refusal, _)) => Err(refusal),
         }
     }

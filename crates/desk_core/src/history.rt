@@ -23,7 +23,7 @@ pub(crate) struct History {
 }
 
 impl History {
-    ghost use Rattle.std.specs.Prelude.{◌≡◌, ℕ, ◌+◌, ◌^◌, ◌<◌, ◌≤◌, Some, [], ◌∷◌, ◌++◌, length, replicate, IfSome, IsOk, IfOk, OnOk, OnErr};
+    ghost use Rattle.std.specs.Prelude.{◌≡◌, ℕ, ◌+◌, ◌^◌, ◌<◌, ◌≤◌, Some, [], ◌∷◌, ◌++◌, ◌↔◌, length, replicate, IfSome, IsOk, IsTrue, IfOk, OnOk, OnErr};
     ghost use Rattle.desk_core.specs.Cache.{IsRelated};
     ghost use Rattle.desk_core.specs.Changes.{changed};
     ghost use Rattle.desk_core.specs.Mutation.{entry_of};
@@ -118,8 +118,14 @@ impl History {
     }
 
     /// Computes anew the statuses that the call touched, and those of the slots that depend on them, and lists what the entry at
-    /// this place changed.
-    pub(crate) fn show<P: Probe>(&mut self, slots: &Slots<P>, is_shut: bool, call: &Call, at: u32)
+    /// this place changed. It tells whether that is anything.
+    pub(crate) fn show<P: Probe>(
+        &mut self,
+        slots: &Slots<P>,
+        is_shut: bool,
+        call: &Call,
+        at: u32,
+    ) -> bool
         requires room { 16 ≤ self.old.changes.room }
         requires few { length self.old.changes.items + 16 < 2 ^ 63 }
         ensures kept { (self.new.journal.keep ≡ self.old.journal.keep)
@@ -133,12 +139,16 @@ impl History {
         ensures statuses { IsShown (touched call.now) slots.now.places.items is_shut
             self.new.cache.dependents self.old.cache.statuses self.new.cache.statuses }
         ensures dependents { IsRelated call.now self.old.cache.dependents self.new.cache.dependents }
+        ensures shows { IsTrue result
+            ↔ (length self.old.changes.items < length self.new.changes.items) }
     {
         memory_tells_status();
+        let told = self.changes.len();
         let before = self.cache.statuses();
         self.cache.follow(call);
         self.cache.refresh(slots, is_shut, touched(call));
         tell(&mut self.changes, at, before, self.cache.statuses());
+        self.changes.len() > told
     }
 }
 

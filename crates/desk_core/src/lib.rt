@@ -30,12 +30,15 @@ mod cache;
 mod call;
 mod catalogue;
 mod change;
+mod console;
 mod desk;
 mod entry;
+mod extent;
 mod history;
 mod keep;
 mod lawful;
 mod laws;
+mod made;
 mod name;
 mod order;
 mod owned;
@@ -53,8 +56,10 @@ pub use board::{board_entries, board_status};
 pub use call::{Call, Finding, Setting};
 pub use catalogue::{Catalogue, CatalogueFault};
 pub use change::Change;
+pub use console::Console;
 pub use desk::Desk;
 pub use entry::Entry;
+pub use extent::Extent;
 pub use keep::{Capacity, Keep, KeepAll, KeepMany};
 pub use laws::{
     behind_for_good, changes_grow, depends_on_all, events_decide, faultless_names,
@@ -62,6 +67,7 @@ pub use laws::{
     one_outcome, slots_and_names, steps_leave_none_out, tells_changes_alone, walks_tell_the_story,
     watchers_end_up_right,
 };
+pub use made::{Effect, Made};
 pub use name::Name;
 pub use order::Order;
 pub use refusal::Refusal;

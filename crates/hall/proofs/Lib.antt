@@ -7,3 +7,5 @@ pub mod Ends
 pub mod Entering
 pub mod Taken
 pub mod Gathered
+pub mod LookingLemmas
+pub mod CarryingOut

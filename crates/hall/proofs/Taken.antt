@@ -1,12 +1,13 @@
 -- What a change leaves of the seat that made it.
 use Rattle.std.proofs.Common.{◌≡◌, ℕ, suc, ◌+◌, ◌<◌, ◌≤◌, ◌^◌, ◌==◌, Bool, true, false, if◌then◌else◌, List, [], ◌∷◌, length, sym, refl, ap, ◌∙◌, subst, arith}
-use Rattle.std.specs.Prelude.{Option, Some, None, Result, Ok, Err, drop}
+use Rattle.std.specs.Prelude.{Option, Some, None, Result, Ok, Err, IsTrue, ◌↔◌, drop}
 use Rattle.atomic_table.specs.Seated.{TableId}
 use Rattle.desk_core.specs.declared.call.Call.{Call}
 use Rattle.desk_core.specs.declared.entry.Entry.{Entry}
 use Rattle.desk_core.specs.declared.refusal.Refusal.{Refusal}
 use Rattle.desk_core.specs.declared.refusal.Refusal.TheVariants.{NotListed}
 use Rattle.desk_core.specs.declared.reply.Reply.{Reply}
+use Rattle.desk_core.specs.Changes.{Shows}
 use Rattle.desk_core.specs.Desk.{State, HasAnswered}
 use Rattle.desk_core.specs.Legal.{IsLegal}
 use Rattle.desk_core.specs.Past.{past}
@@ -144,6 +145,11 @@ pub before_newest : (rested : Seated) (seat number : ℕ) (before after : State)
     → rested ≡ (seat_view seat (past after.journal) after.max_entries, []) → drop 1 (seen_in rested) ≡ past before.journal
 before_newest rested seat number before after call reply answers rests =
     ap (λ (h : List Entry). drop 1 h) (ap seen_in rests ∙ newest before after number call reply answers)
+
+-- what the desk shows its seat has seen
+pub shows_seen : (shows : Bool) (rested : Seated) (seat : ℕ) (after : State) → IsTrue shows ↔ Shows (past after.journal)
+    → rested ≡ (seat_view seat (past after.journal) after.max_entries, []) → IsTrue shows ↔ Shows (seen_in rested)
+shows_seen shows rested seat after shown rests = subst (λ (h : List Entry). IsTrue shows ↔ Shows h) (sym (ap seen_in rests)) shown
 
 -- a seat that made a change counts it
 pub seat_taken : (me waiting rested : Seated) (number made counted seat : ℕ) (before after : State) (call : Call) (reply : Reply) → InHand me waiting number made before

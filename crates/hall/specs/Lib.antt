@@ -3,3 +3,5 @@ pub mod Gates
 pub mod Steps
 pub mod Seats
 pub mod Fault
+pub mod Looking
+pub mod CarriedOut

@@ -4,16 +4,17 @@ ghost use Rattle.desk_core.specs.Mutation.{entry_of};
 use crate::gate::{enter, finish, leave};
 use crate::hall::Hall;
 use crate::seat::Seat;
-use desk_core::{Call, Entry, Finding, Handed, Keep, Refusal, Registered, Reply, Setting};
+use desk_core::{Call, Entry, Finding, Handed, Keep, Made, Refusal, Registered, Reply, Setting};
 use probe_core::Probe;
 use std::sync::Wait;
 
 /// The changes. Each waits for the seat's turn, but that of a name that is not listed.
 impl<P: Probe, K: Keep> Hall<P, K> {
-    ghost use Rattle.std.specs.Prelude.{◌≡◌, None, Some, Ok, Err, IfSome, IfOk, IfErr, MatchResult, drop};
+    ghost use Rattle.std.specs.Prelude.{◌≡◌, ◌↔◌, None, Some, Ok, Err, IfSome, IfOk, IfErr, IsTrue, MatchResult, drop};
     ghost use Rattle.std.specs.Option.{option_map};
     ghost use Rattle.desk_core.specs.declared.call.Call.TheVariants as calls;
     ghost use Rattle.desk_core.specs.Catalogue.{slot_of};
+    ghost use Rattle.desk_core.specs.Changes.{Shows};
     ghost use Rattle.desk_core.specs.Desk.{probe_at, probe_of};
     ghost use Rattle.desk_core.specs.Mutation.{rule_of};
     ghost use Rattle.desk_core.specs.Order.{call_at, IsListed};
@@ -27,15 +28,16 @@ impl<P: Probe, K: Keep> Hall<P, K> {
         seat: &mut Seat<P, K>,
         call: Option<Call>,
         probe: Option<P>,
-    ) -> Result<(Reply, Option<P>), (Refusal, Option<P>)>
+    ) -> Result<Made<P>, (Refusal, Option<P>)>
         requires ours { IsOf self.now seat.old }
         requires listed { IfSome call (IsListed self.now.names) }
         requires ruled { IfSome call (λ c. option_map P.rule probe ≡ rule_of c) }
         ensures answered { MatchResult result
-            (λ taken. IsCarriedOut seat.old seat.new call (Ok taken.0))
+            (λ made. IsCarriedOut seat.old seat.new call (Ok made.reply))
             (λ refused. IsCarriedOut seat.old seat.new call (Err refused.0)) }
-        ensures old { IfOk result (λ taken. IfSome call (λ c.
-            option_map (λ p. (P.rule p, P.memory p)) taken.1
+        ensures shows { IfOk result (λ made. IsTrue made.shows ↔ Shows seat.new.seen) }
+        ensures old { IfOk result (λ made. IfSome call (λ c.
+            option_map (λ p. (P.rule p, P.memory p)) made.old
             ≡ probe_of (drop 1 seat.new.seen) c)) }
         ensures handed_back { IfErr result (λ refused. refused.1 ≡ probe) }
     {
@@ -46,10 +48,10 @@ impl<P: Probe, K: Keep> Hall<P, K> {
         let shared = &self.table.shared;
         let mut desk = enter(rt, shared, &mut seat.place);
         match desk.change(number, *call, probe) {
-            Ok((reply, old)) => {
-                let entry = entry(number, call, reply);
+            Ok(made) => {
+                let entry = entry(number, call, made.reply);
                 finish(shared, &mut seat.place, &mut seat.made, desk, entry);
-                Ok((reply, old))
+                Ok(made)
             }
             Err(refused) => {
                 leave(shared, &mut seat.place, desk);
@@ -83,7 +85,7 @@ impl<P: Probe, K: Keep> Hall<P, K> {
             .slot(name)
             .map(|slot| Call::Register(slot, rule));
         match self.change(rt, seat, call, Some(probe)) {
-            Ok((reply, old)) => Ok(Registered { reply, old }),
+            Ok(Made { reply, old, .. }) => Ok(Registered { reply, old }),
             Err((refusal, probe)) => Err(Handed {
                 refusal,
                 probe: probe.unwrap(),
@@ -110,7 +112,7 @@ impl<P: Probe, K: Keep> Hall<P, K> {
     {
         let call = self.catalogue.slot(name).map(|slot| Call::Retire(slot));
         match self.change(rt, seat, call, None) {
-            Ok(taken) => Ok(taken),
+            Ok(Made { reply, old, .. }) => Ok((reply, old)),
             Err((refusal, _)) => Err(refusal),
         }
     }
@@ -182,7 +184,7 @@ impl<P: Probe, K: Keep> Hall<P, K> {
         ensures answered { IsCarriedOut seat.old seat.new call result }
     {
         match self.change(rt, seat, call, None) {
-            Ok((reply, _)) => Ok(reply),
+            Ok(made) => Ok(made.reply),
             Err((refusal, _)) => Err(refusal),
         }
     }

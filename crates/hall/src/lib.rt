@@ -30,7 +30,6 @@
 mod answer;
 mod changes;
 mod closed;
-mod extent;
 mod fault;
 mod gate;
 mod hall;
@@ -42,7 +41,6 @@ mod view;
 
 pub use answer::Answer;
 pub use closed::{Closed, Unclosed};
-pub use extent::Extent;
 pub use fault::HallFault;
 pub use hall::Hall;
 pub use note::Note;

@@ -4,13 +4,12 @@ ghost use Rattle.desk_core.specs.Board.{board_of};
 ghost use Rattle.desk_core.specs.Status.{checked};
 
 use crate::answer::Answer;
-use crate::extent::Extent;
 use crate::gate::{BOARD, enter, leave};
 use crate::hall::Hall;
 use crate::note::Note;
 use crate::seat::Seat;
 use crate::steps::{Look, Meet, Tell};
-use desk_core::{Behind, Keep, KeepAll, Slot, Watch, board_entries, board_status};
+use desk_core::{Behind, Extent, Keep, KeepAll, Slot, Watch, board_entries, board_status};
 use health_wire::Serving;
 use probe_core::Probe;
 use std::sync::Wait;

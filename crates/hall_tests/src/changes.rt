@@ -4,8 +4,8 @@ ghost use Rattle.hall.specs.Seats.{IsOf};
 
 use crate::guest::{Guest, Probes, manuals, two_seats};
 use crate::rows::{DONE, Found, Step, Wrong, is_as, result_of};
-use desk_core::{Finding, Keep, KeepAll, Refusal, Reply, Setting};
-use hall::{Extent, Hall};
+use desk_core::{Extent, Finding, Keep, KeepAll, Refusal, Reply, Setting};
+use hall::Hall;
 use health_wire::Serving;
 use probe_core::{Manual, Probe, Start, Threshold};
 use std::alloc::Global;

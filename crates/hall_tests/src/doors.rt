@@ -1,11 +1,12 @@
-//! A door to a hall, by a seat that meets no other.
+//! Doors to a hall, by seats that meet no other.
 
+ghost use Rattle.std.specs.Prelude.{◌≡◌};
 ghost use Rattle.hall.specs.Seats.{IsOf};
 
 use crate::guest::{Guest, Probes, two_seats};
 use crate::rows::{Step, result_of};
 use crew::HallDoor;
-use desk_core::{KeepAll, Setting, Watch};
+use desk_core::{KeepAll, Name, Order, Registrar, Setting, Watch};
 use hall::Hall;
 use health_wire::Serving;
 use probe_core::Manual;
@@ -50,4 +51,52 @@ fn a_door_tells_what_another_seat_sets(rt: HostRuntime) -> Result<(), Fail> {
     let (hall, mut setter, mut looker) = two_seats(alloc, &["a", ""], 100, probes)?;
     let told = tells_each_setting(&rt, &hall, &mut setter, &mut looker);
     same(&told, &[true, true, true], &"opening, down, up")
+}
+
+/// Whether the change of an order shows.
+fn shows<R: Wait>(door: &mut HallDoor<'_, R, Manual>, order: &Order) -> bool
+    ensures reference { door.new.seat.ghost_name ≡ door.old.seat.ghost_name }
+{
+    let call = order.call(door.catalogue());
+    door.change(call, None).shows
+}
+
+/// Which of the changes show by which two doors set `a` up and down.
+fn shown_by_two<R: Wait>(
+    rt: &R,
+    hall: &Hall<Manual, KeepAll>,
+    one: &mut Guest<Manual, KeepAll>,
+    other: &mut Guest<Manual, KeepAll>,
+    up: &Order,
+    down: &Order,
+) -> [bool; 6]
+    requires one { IsOf hall.now one.old.seat }
+    requires other { IsOf hall.now other.old.seat }
+{
+    let _ = result_of(rt, hall, one, Step::Register("a"));
+    let mut first = HallDoor::new(rt, hall, &mut one.seat);
+    let mut second = HallDoor::new(rt, hall, &mut other.seat);
+    [
+        shows(&mut first, up),
+        shows(&mut first, down),
+        shows(&mut second, up),
+        shows(&mut first, down),
+        shows(&mut second, down),
+        shows(&mut first, up),
+    ]
+}
+
+#[test]
+fn a_change_shows_whoever_made_the_one_before(rt: HostRuntime) -> Result<(), Fail> {
+    let alloc = rt.alloc();
+    let probes = Probes {
+        first: Vec::from_array(alloc, [Manual::new()])?,
+        second: Vec::new(alloc),
+        counters: None,
+    };
+    let (hall, mut one, mut other) = two_seats(alloc, &["a", ""], 100, probes)?;
+    let up = Order::Set(Name::new(String::from_str(alloc, "a")?), Setting::Up);
+    let down = Order::Set(Name::new(String::from_str(alloc, "a")?), Setting::Down);
+    let shown = shown_by_two(&rt, &hall, &mut one, &mut other, &up, &down);
+    same(&shown, &[false, true, true, true, false, true], &"shown")
 }

@@ -1,7 +1,6 @@
 use crate::race::{Race, expect_race};
 use crate::rows::{DONE, Found, Row, Step};
-use desk_core::{Finding, KeepAll, Refusal, Setting};
-use hall::Extent;
+use desk_core::{Extent, Finding, KeepAll, Refusal, Setting};
 use health_wire::Serving;
 use std::test::Fail;
 

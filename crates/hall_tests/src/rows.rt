@@ -3,8 +3,8 @@
 ghost use Rattle.hall.specs.Seats.{IsOf};
 
 use crate::guest::Guest;
-use desk_core::{Behind, Finding, Keep, Refusal, Reply, Setting};
-use hall::{Answer, Extent, Hall, Seat};
+use desk_core::{Behind, Extent, Finding, Keep, Refusal, Reply, Setting};
+use hall::{Answer, Hall, Seat};
 use health_wire::Serving;
 use probe_core::Probe;
 use std::sync::Wait;

@@ -6,12 +6,13 @@ use Rattle.std.proofs.lemmas.List.{append-nil, drop_all, take_all, length-map, g
 use Rattle.std.proofs.lemmas.List.Elements.{All-get_or}
 use Rattle.std.proofs.lemmas.List.Sums.{sum_by-cons}
 use Rattle.hall.specs.Seats.{HallState, SeatState, IsOf, own_calls}
-use Rattle.crew.specs.Looking.{HasLooked}
-use Rattle.crew.proofs.CarryingOut.{looked_ours}
+use Rattle.hall.specs.Looking.{HasLooked}
+use Rattle.hall.proofs.CarryingOut.{looked_ours}
 use Rattle.live_run.specs.declared.seated_loop.SeatedLoop.{SeatedLoop}
-use Rattle.live_server.specs.declared.event_server.EventServer.{EventServer}
+use Rattle.live_server.specs.Loop.{EventServer}
 use Rattle.control_server.specs.Seats.{MetLines, SeatsHaveMet}
-use Rattle.control_server.proofs.SeatLemmas.{met_line_ours, unused}
+use Rattle.control_server.proofs.SeatLemmas.{met_line_ours}
+use Rattle.control_server.specs.Sessions.{unused}
 use Rattle.live_run.specs.Loops.{HasServedAll, HaveServed, HaveServedAll, SeatsHaveLooked, SeatsHaveServed}
 
 -- an element of the middle one of three parts

@@ -12,11 +12,11 @@ use Rattle.desk_core.specs.declared.reply.Reply.{Reply}
 use Rattle.desk_core.specs.Legal.{IsLegal}
 use Rattle.desk_core.specs.Past.{past}
 use Rattle.hall.specs.Seats.{HallState, SeatState, IsSeenIn, own_calls, new_seats}
-use Rattle.crew.specs.CarriedOut.{HasCarriedOut, replied}
+use Rattle.hall.specs.CarriedOut.{HasCarriedOut, replied}
 use Rattle.server.specs.Setup.{AreSetUp, SetUpState}
 use Rattle.live_run.specs.declared.run_fault.RunFault.{RunFault}
 use Rattle.live_run.specs.declared.run_fault.RunFault.TheVariants as faults
-use Rattle.live_server.specs.declared.event_server.EventServer.{EventServer}
+use Rattle.live_server.specs.Loop.{EventServer}
 use Rattle.live_run.specs.declared.seated_loop.SeatedLoop.{SeatedLoop}
 use Rattle.live_run.specs.declared.seating.Seating.{Seating}
 use Rattle.live_run.specs.Loops.{SeatsHaveLooked, SeatsHaveServed}

@@ -1,12 +1,13 @@
 -- What loops leave of a hall's seats.
-use Rattle.std.specs.Prelude.{ℕ, ◌≡◌, ◌<◌, ◌≤◌, List, length}
+use Rattle.std.specs.Prelude.{ℕ, ◌≡◌, ◌<◌, ◌≤◌, ◌↔◌, List, length, Option, IfSome, IsSome}
 use Rattle.std.specs.List.{slice_index_or}
 use Rattle.hall.specs.Seats.{SeatState}
-use Rattle.crew.specs.Looking.{HasLooked}
+use Rattle.hall.specs.Looking.{HasLooked}
 use Rattle.connection_table.specs.Table.{held_count}
 use Rattle.control_server.specs.Seats.{MetLines}
-use Rattle.live_server.specs.declared.event_server.EventServer.{EventServer}
-use Rattle.live_server.specs.Loop.{held_by}
+use Rattle.control_server.specs.Server.{sessions_of}
+use Rattle.control_server.specs.declared.control_server.ControlServer.{ControlServer}
+use Rattle.live_server.specs.Loop.{EventServer, held_by}
 use Rattle.live_server.specs.Settled.{KeepsAccount}
 use Rattle.live_run.specs.declared.seated_loop.SeatedLoop.{SeatedLoop}
 
@@ -29,6 +30,11 @@ HaveServed {P} {K} old new = (place : ℕ) (other : SeatedLoop P K) → place < 
 pub record HaveServedAll (old new : List EventServer) : Type 0 where
   pub count : length new ≡ length old
   pub each : (place : ℕ) (other : EventServer) → place < length old → HasServedAll (slice_index_or old place other) (slice_index_or new place other)
+
+-- the loop over sessions has come back, if there was one, and holds no connection any more
+pub record HasEnded (old new : Option ControlServer) : Type 0 where
+  pub back : IsSome new ↔ IsSome old
+  pub none_left : IfSome new (λ server. held_count (sessions_of server) ≡ 0)
 
 -- Loops have looked by so many seats behind the first, and done nothing else by them. The first seat and those behind the loops' are
 -- as they were

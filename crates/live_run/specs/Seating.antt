@@ -1,7 +1,7 @@
 -- Loops on their seats, with the seats beside theirs.
 use Rattle.std.specs.Prelude.{◌≡◌, ◌+◌, ◌≤◌, List, [], ◌∷◌, ◌++◌, length, map, vec_len, vec_capacity}
 use Rattle.hall.specs.Seats.{SeatState}
-use Rattle.live_server.specs.declared.event_server.EventServer.{EventServer}
+use Rattle.live_server.specs.Loop.{EventServer}
 use Rattle.live_run.specs.declared.seating.Seating.{Seating}
 
 -- all seats: the first, the loops', and those that are spare

@@ -2,6 +2,8 @@ ghost use Rattle.std.specs.Prelude.{◌≡◌, vec_len};
 ghost use Rattle.std.specs.List.{All};
 ghost use Rattle.hall.specs.Seats.{IsOf};
 ghost use Rattle.control_server.specs.Seats.{SeatsHaveMet};
+ghost use Rattle.connection_table.specs.Table.{held_count};
+ghost use Rattle.control_server.specs.Server.{sessions_of};
 ghost use Rattle.live_run.specs.Loops.{HaveServed};
 
 use crate::seated_loop::SeatedLoop;
@@ -42,6 +44,7 @@ where
     requires seats { All (IsOf hall.now) seats.items }
     requires loops { All (λ seated. IsOf hall.now seated.seat) loops.items }
     ensures met { SeatsHaveMet hall.now.names seats.items result.0.seats.items }
+    ensures none_left { held_count (sessions_of result.0.control) ≡ 0 }
     ensures len { vec_len result.1 ≡ vec_len loops }
     ensures served { HaveServed loops.items result.1.items }
 {
@@ -55,7 +58,8 @@ where
         rt,
         move || -> Held<P, K>
             requires { All (IsOf hall.now) seats.items }
-            ensures { SeatsHaveMet hall.entry.now.names seats.items result.seats.items }
+            ensures met { SeatsHaveMet hall.entry.now.names seats.items result.seats.items }
+            ensures none_left { held_count (sessions_of result.control) ≡ 0 }
         { hold_sessions(rt, hall, maker, news, control, seats) },
         move || -> Vec<SeatedLoop<P, K>>
             requires { All (λ seated. IsOf waiting.hall.now seated.seat) waiting.loops.items }
@@ -107,7 +111,8 @@ fn hold_sessions<R, P: Probe, K: Keep, M: Maker<P>>(
 where
     R: Wait + Clock,
     requires seats { All (IsOf hall.now) seats.items }
-    ensures { SeatsHaveMet hall.now.names seats.items result.seats.items }
+    ensures met { SeatsHaveMet hall.now.names seats.items result.seats.items }
+    ensures none_left { held_count (sessions_of result.control) ≡ 0 }
 {
     let context = Context {
         rt,

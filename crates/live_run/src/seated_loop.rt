@@ -36,7 +36,7 @@ fn serve_loop<R: Wait + Clock, P: Probe, K: Keep>(
 /// Lets all loops serve side by side until all is to end and no connection is left.
 ///
 /// Each has a thread of its own where one can be made. Loops without a thread run when those with one have ended; all loops listen
-/// to the same socket, so that the others serve what comes until then, each as many connections as it may hold.
+/// to the same socket, so that the others serve what comes until then.
 pub fn serve_loops<R: Wait + Threads + Clock + Sync, P: Probe + Send, K: Keep + Send>(
     rt: &R,
     hall: &Hall<P, K>,

@@ -92,10 +92,10 @@ impl<P: Probe, K: Keep> Seating<P, K> {
 }
 
 impl<P: Probe + Send, K: Keep + Send> Seating<P, K> {
-    ghost use Rattle.std.specs.Prelude.{◌≡◌, ◌↔◌, vec_len, IsNone, IsSome};
+    ghost use Rattle.std.specs.Prelude.{◌≡◌, vec_len, IsNone, None, Some};
     ghost use Rattle.std.specs.List.{All};
     ghost use Rattle.hall.specs.Seats.{IsOf};
-    ghost use Rattle.live_run.specs.Loops.{HaveServedAll, SeatsHaveLooked, SeatsHaveServed};
+    ghost use Rattle.live_run.specs.Loops.{HasEnded, HaveServedAll, SeatsHaveLooked, SeatsHaveServed};
     ghost use Rattle.live_run.specs.Seating.{HasRoom, seats_of, servers_of};
 
     /// Lets the loops serve until all is to end, beside sessions where there is a place for them, and gives everything back.
@@ -116,7 +116,7 @@ impl<P: Probe + Send, K: Keep + Send> Seating<P, K> {
         ensures looked { IsNone control → SeatsHaveLooked (vec_len self.loops) (seats_of self) result.seats.items }
         ensures servers { HaveServedAll (servers_of self) result.servers.items }
         ensures ours { All (IsOf hall.now) result.seats.items }
-        ensures sessions { IsSome result.sessions ↔ IsSome control }
+        ensures sessions { HasEnded control result.sessions }
     {
         match control {
             None => self.serve_alone(rt, hall, news),
@@ -135,7 +135,7 @@ impl<P: Probe + Send, K: Keep + Send> Seating<P, K> {
         ensures looked { SeatsHaveLooked (vec_len self.loops) (seats_of self) result.seats.items }
         ensures servers { HaveServedAll (servers_of self) result.servers.items }
         ensures ours { All (IsOf hall.now) result.seats.items }
-        ensures sessions { IsNone result.sessions }
+        ensures sessions { HasEnded None result.sessions }
     {
         let (loops, spare) = (after_serving(rt, hall, self.loops, news), self.spare);
         let Back { servers, seats, .. } = self.back;
@@ -167,7 +167,7 @@ impl<P: Probe + Send, K: Keep + Send> Seating<P, K> {
         ensures served { SeatsHaveServed hall.now.names (vec_len self.loops) (seats_of self) result.seats.items }
         ensures servers { HaveServedAll (servers_of self) result.servers.items }
         ensures ours { All (IsOf hall.now) result.seats.items }
-        ensures sessions { IsSome result.sessions }
+        ensures sessions { HasEnded (Some control) result.sessions }
     {
         let (held, loops) = serve_beside(rt, hall, maker, news, control, self.spare, self.loops);
         let Back { servers, seats, .. } = self.back;

@@ -1,11 +1,11 @@
-ghost use Rattle.std.specs.Prelude.{◌≡◌, ◌↔◌, List, Option, length, vec_len, Err, IfSome, IfNone, IsNone, IsSome, IfOk, IfErr};
+ghost use Rattle.std.specs.Prelude.{◌≡◌, List, Option, length, vec_len, Err, IfSome, IfNone, IsNone, IfOk, IfErr};
 ghost use Rattle.std.specs.List.{sum_by};
 ghost use Rattle.desk_core.specs.declared.call.Call.{Call};
 ghost use Rattle.desk_core.specs.Past.{past};
 ghost use Rattle.hall.specs.Seats.{own_calls, new_seats};
-ghost use Rattle.crew.specs.CarriedOut.{replied};
+ghost use Rattle.hall.specs.CarriedOut.{replied};
 ghost use Rattle.server.specs.Setup.{AreSetUp};
-ghost use Rattle.live_run.specs.Loops.{HaveServedAll};
+ghost use Rattle.live_run.specs.Loops.{HasEnded, HaveServedAll};
 ghost use Rattle.live_run.specs.WholeRun.{HasRun, HasRunLoops, IsLaterFault, run_fault};
 
 use crate::ran::Ran;
@@ -49,8 +49,8 @@ where
     // lines asked for.
     ensures ran { IfOk result (λ ran. HasRun made.hall (vec_len servers) made.seats (past ran.desk.journal)) }
     ensures most { IfOk result (λ ran. ran.desk.max_entries ≡ made.hall.most) }
-    // The loop over sessions comes back, so that its caller can take its socket's file away.
-    ensures sessions { IfOk result (λ ran. IsSome ran.sessions ↔ IsSome control) }
+    // The loop over sessions comes back, so that its caller can take its socket's file away, and holds none any more.
+    ensures sessions { IfOk result (λ ran. HasEnded control ran.sessions) }
 
     // Without sessions nobody has made changes since the setup.
     ensures alone { IsNone control → IfOk result (λ ran. HasRunLoops made.hall (vec_len servers) made.seats (past ran.desk.journal)) }

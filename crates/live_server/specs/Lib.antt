@@ -1,4 +1,4 @@
-pub mod Connection
-pub mod Served
 pub mod Settled
 pub mod Loop
+pub mod Places
+pub mod Held

@@ -1,18 +1,32 @@
 -- The connections that a loop holds.
 use Rattle.std.specs.Prelude.{[]}
+use Rattle.mio.specs.declared.net.stream.TcpStream.{TcpStream}
 use Rattle.connection_table.specs.Table.{TableState}
-use Rattle.live_server.specs.declared.calls.Calls.{Calls}
-use Rattle.live_server.specs.declared.calls.Limits.{Limits}
-use Rattle.live_server.specs.declared.connection.Connection.{Connection}
-use Rattle.live_server.specs.declared.event_server.EventServer.{EventServer}
+use Rattle.reactor.specs.declared.connection.Connection.{Connection}
+use Rattle.reactor.specs.contracts.calling.CallMachine.TheImpl.{ghosts}
+use Rattle.web_call.specs.declared.call.Call.{Call}
+use Rattle.live_server.specs.declared.acceptor.Acceptor.{Acceptor}
+use Rattle.live_server.specs.declared.conversations.Conversations.{Conversations}
+use Rattle.live_server.specs.declared.event_loop.EventLoop.{EventLoop}
+use Rattle.live_server.specs.declared.places.Limits.{Limits}
+use Rattle.live_server.specs.declared.places.Taken.{Taken}
+use Rattle.live_server.specs.Held.{held_in, taken_in}
+
+-- a loop over calls
+abbrev pub EventServer : Type 0
+EventServer = EventLoop Acceptor TcpStream Call ghosts
 
 -- the table of the connections that a loop holds
-abbrev pub held_by : EventServer → TableState Connection
-held_by server = server.calls.table
+abbrev pub held_by : {A S M : Type 0} {g : _} → EventLoop A S M g → TableState (Connection S M)
+held_by server = held_in server.conversations.held
 
-abbrev pub table_of : Calls → TableState Connection
-table_of calls = calls.table
+abbrev pub table_of : {S M : Type 0} {g : _} → Conversations S M g → TableState (Connection S M)
+table_of conversations = held_in conversations.held
+
+-- the places that a loop has taken
+abbrev pub taken_by : {A S M : Type 0} {g : _} → EventLoop A S M g → Taken
+taken_by server = taken_in server.conversations.held
 
 -- a table with no connection yet
-abbrev pub empty_table : Limits → TableState Connection
+abbrev pub empty_table : {C : Type 0} → Limits → TableState C
 empty_table limits = record { places = []; taken = 0; ended = 0; most = limits.connections; most_watches = limits.watches }

@@ -30,17 +30,27 @@
 //! ```
 #![tactic(auto)]
 
+mod accept;
 mod acceptor;
-mod calls;
-mod connection;
-mod event_server;
+mod calling;
+mod conversations;
+mod event_loop;
+mod handler;
+mod held;
 mod news;
+mod places;
 mod queue;
+mod rounds;
 mod tally;
+mod turns;
 
-pub use calls::{Counts, Limits};
-pub use event_server::EventServer;
+pub use accept::Accept;
+pub use acceptor::Acceptor;
+pub use conversations::Counts;
+pub use event_loop::{EventLoop, EventServer};
+pub use handler::{Handler, Visit};
 pub use news::News;
+pub use places::{Limits, Places};
 pub use queue::Queue;
 pub use tally::{Tallied, Tally};
 

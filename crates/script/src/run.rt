@@ -1,6 +1,6 @@
 use crate::line::Line;
 use crate::outcome::Outcome;
-use desk_core::{Call, Catalogue, Desk, Refusal, Registrar, Reply, Slot, Watch};
+use desk_core::{Call, Catalogue, Desk, Effect, Refusal, Registrar, Slot, Watch};
 use health_wire::Serving;
 use probe_core::Probe;
 use std::alloc::{AllocError, Global};
@@ -60,7 +60,7 @@ impl<P: Probe> Run<P> {
         match line {
             Line::Register(..) | Line::Retire(_) | Line::Order(_) => {
                 let call = line.call(&self.catalogue).unwrap();
-                Ok(Outcome::Changed(self.change(call, probe)))
+                Ok(Outcome::Changed(self.change(call, probe).result))
             }
             Line::Check(name) => {
                 let slot = self.catalogue.slot(name.as_str());
@@ -97,12 +97,15 @@ impl<P: Probe> Run<P> {
 }
 
 impl<P: Probe> Registrar<P> for Run<P> {
-    ghost use Rattle.std.specs.Prelude.{◌≡◌, IfSome};
+    ghost use Rattle.std.specs.Prelude.{◌≡◌, ◌↔◌, IfSome, IfOk, IsErr, IsTrue, IsFalse};
     ghost use Rattle.std.specs.Option.{option_map};
+    ghost use Rattle.desk_core.specs.Changes.{Shows};
     ghost use Rattle.desk_core.specs.Mutation.{rule_of};
     ghost use Rattle.script.specs.Run.{IsChanged};
 
     ghost names = { λ run. run.names };
+
+    ghost seen = { λ run. run.entries };
 
     ghost answers = { IsChanged };
 
@@ -110,17 +113,20 @@ impl<P: Probe> Registrar<P> for Run<P> {
         &self.catalogue
     }
 
-    fn change(&mut self, call: Option<Call>, probe: Option<P>) -> Result<Reply, Refusal>
+    fn change(&mut self, call: Option<Call>, probe: Option<P>) -> Effect
         requires ruled { IfSome call (λ c. option_map P.rule probe ≡ rule_of c) }
         ensures names { self.new.names ≡ self.old.names }
-        ensures answered { IsChanged self.old self.new call result }
+        ensures answered { IsChanged self.old self.new call result.result }
+        ensures shows { IfOk result.result (λ reply.
+            IsTrue result.shows ↔ Shows self.new.entries) }
+        ensures refused { IsErr result.result → IsFalse result.shows }
     {
         let Some(call) = call else {
-            return Err(Refusal::NotListed);
+            return Effect::of_refusal(Refusal::NotListed);
         };
         match self.desk.change(SEAT, call, probe) {
-            Ok((reply, _)) => Ok(reply),
-            Err((refusal, _)) => Err(refusal),
+            Ok(made) => made.effect(),
+            Err((refusal, _)) => Effect::of_refusal(refusal),
         }
     }
 }

@@ -28,7 +28,7 @@ pub fn set_up<P: Probe, D: Registrar<P>, M: Maker<P>>(
     for line in lines {
         let probe = probe_of(line, &mut probes);
         if let Some(call) = line.call(registrar.catalogue()) {
-            results.push(registrar.change(call, probe)).unwrap();
+            results.push(registrar.change(call, probe).result).unwrap();
         }
     }
     Ok(results)

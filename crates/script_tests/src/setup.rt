@@ -1,4 +1,4 @@
-use desk_core::{Call, Catalogue, Desk, Refusal, Registrar, Reply};
+use desk_core::{Call, Catalogue, Desk, Effect, Refusal, Registrar, Reply};
 use probe_core::{Maker, Manual, Probe, Rule};
 use script::{Mode, read_script, set_up};
 use std::alloc::{AllocError, Global};
@@ -13,11 +13,15 @@ struct Registry<P: Probe> {
 }
 
 impl<P: Probe> Registrar<P> for Registry<P> {
-    ghost use Rattle.std.specs.Prelude.{◌≡◌, IfSome};
+    ghost use Rattle.std.specs.Prelude.{◌≡◌, ◌↔◌, IfSome, IfOk, IsErr, IsTrue, IsFalse};
     ghost use Rattle.std.specs.Option.{option_map};
+    ghost use Rattle.desk_core.specs.Changes.{Shows};
     ghost use Rattle.desk_core.specs.Mutation.{rule_of};
+    ghost use Rattle.desk_core.specs.Past.{past};
 
     ghost names = { λ registry. registry.catalogue };
+
+    ghost seen = { λ registry. past registry.desk.journal };
 
     ghost answers = { λ old new call result. Unit {0} };
 
@@ -25,16 +29,19 @@ impl<P: Probe> Registrar<P> for Registry<P> {
         &self.catalogue
     }
 
-    fn change(&mut self, call: Option<Call>, probe: Option<P>) -> Result<Reply, Refusal>
+    fn change(&mut self, call: Option<Call>, probe: Option<P>) -> Effect
         requires ruled { IfSome call (λ c. option_map P.rule probe ≡ rule_of c) }
         ensures names { self.new.catalogue ≡ self.old.catalogue }
+        ensures shows { IfOk result.result (λ reply.
+            IsTrue result.shows ↔ Shows (past self.new.desk.journal)) }
+        ensures refused { IsErr result.result → IsFalse result.shows }
     {
         let Some(call) = call else {
-            return Err(Refusal::NotListed);
+            return Effect::of_refusal(Refusal::NotListed);
         };
         match self.desk.change(0, call, probe) {
-            Ok((reply, _)) => Ok(reply),
-            Err((refusal, _)) => Err(refusal),
+            Ok(made) => made.effect(),
+            Err((refusal, _)) => Effect::of_refusal(refusal),
         }
     }
 }

@@ -9,8 +9,8 @@ use Rattle.desk_core.specs.declared.call.Call.{Call}
 use Rattle.desk_core.specs.declared.refusal.Refusal.{Refusal}
 use Rattle.desk_core.specs.declared.reply.Reply.{Reply}
 use Rattle.hall.specs.Seats.{HallState, SeatState, IsOf, new_seats}
-use Rattle.crew.specs.CarriedOut.{HasCarriedOut}
-use Rattle.crew.proofs.CarryingOut.{are_ours}
+use Rattle.hall.specs.CarriedOut.{HasCarriedOut}
+use Rattle.hall.proofs.CarryingOut.{are_ours}
 use Rattle.server.specs.Setup.{AreSetUp}
 
 -- all seats that a hall deals out are its own

@@ -6,9 +6,10 @@ use Rattle.desk_core.specs.declared.refusal.Refusal.{Refusal}
 use Rattle.desk_core.specs.declared.reply.Reply.{Reply}
 use Rattle.desk_core.specs.Mutation.{AreAnswered}
 use Rattle.crew.specs.declared.door.HallDoor.{HallDoor}
-use Rattle.crew.specs.CarriedOut.{HasCarriedOut}
+use Rattle.hall.specs.CarriedOut.{HasCarriedOut}
 use Rattle.crew.specs.HallDoor.{door_seat, CarriesOut}
-use Rattle.crew.proofs.CarryingOut.{by_door, same_reference, has_met}
+use Rattle.hall.proofs.CarryingOut.{has_met}
+use Rattle.crew.proofs.Orders.{by_door, same_reference}
 
 -- its seat is the one that it was lent
 pub stays_referenced : {R P K X E : Type 0} (results : X → List (Result Reply Refusal)) (old new : HallDoor R P K) (calls : List (Option Call)) (result : Result X E)

@@ -6,7 +6,7 @@ use Rattle.desk_core.specs.declared.order.Order.{Order}
 use Rattle.desk_core.specs.declared.refusal.Refusal.{Refusal}
 use Rattle.desk_core.specs.declared.reply.Reply.{Reply}
 use Rattle.hall.specs.Seats.{HallState, SeatState}
-use Rattle.crew.specs.CarriedOut.{HasCarriedOut}
+use Rattle.hall.specs.CarriedOut.{HasCarriedOut}
 
 -- a hall that a script has set up: its seats, what came of the script's lines, and the script's orders
 pub record SetUpState : Type 0 where

@@ -1,6 +1,6 @@
 ghost use Rattle.std.specs.Prelude.{◌≡◌, ◌≤◌, IfOk, OnErr};
 ghost use Rattle.hall.specs.Seats.{IsOf, new_seats};
-ghost use Rattle.crew.specs.CarriedOut.{HasCarriedOut};
+ghost use Rattle.hall.specs.CarriedOut.{HasCarriedOut};
 ghost use Rattle.crew.specs.HallDoor.{door_hall, door_seat};
 ghost use Rattle.script.specs.Change.{line_changes};
 ghost use Rattle.server.specs.Setup.{AreSetUp};

@@ -3,11 +3,13 @@
 ghost use Rattle.std.specs.List.{All};
 ghost use Rattle.hall.specs.Seats.{IsOf};
 
+use crate::apart::check_each;
 use crate::changes::watch;
 use crate::ends::{check_beside_silence, check_beside_slowness, end_under_load};
 use crate::full::fill;
 use crate::halls::{Maker, Teller, counts_of, hall_of_a, seat_loops};
 use crate::scenes::{Counts, Place};
+use crate::slices::tell_all;
 use hall::{Hall, Seat};
 use live_run::{SeatedLoop, serve_loops};
 use live_server::News;
@@ -28,6 +30,9 @@ pub(super) enum Scene<'a> {
     CheckBesideSlowness,
     Watch((Maker<'a>, Maker<'a>), Teller<'a>),
     Fill(Maker<'a>),
+    TellAll(Maker<'a>),
+    /// There is another socket, at this address.
+    CheckEach(SocketAddr),
 }
 
 impl Scene<'_> {
@@ -44,6 +49,8 @@ impl Scene<'_> {
             Scene::CheckBesideSlowness => check_beside_slowness(rt, alloc, addr, news),
             Scene::Watch(makers, teller) => watch(rt, alloc, addr, news, makers, teller),
             Scene::Fill(maker) => fill(rt, alloc, addr, news, maker),
+            Scene::TellAll(maker) => tell_all(rt, alloc, addr, news, maker),
+            Scene::CheckEach(other) => check_each(rt, alloc, addr, other),
         }
     }
 }

@@ -3,7 +3,11 @@
 #![tactic(auto)]
 
 #[cfg(test)]
+mod apart;
+#[cfg(test)]
 mod beside;
+#[cfg(test)]
+mod buffers;
 #[cfg(test)]
 mod changes;
 #[cfg(test)]
@@ -16,6 +20,8 @@ mod halls;
 mod many;
 #[cfg(test)]
 mod memory;
+#[cfg(test)]
+mod pouring;
 #[cfg(test)]
 mod ready;
 #[cfg(test)]
@@ -32,5 +38,13 @@ mod serving;
 mod sessions;
 #[cfg(test)]
 mod setup;
+#[cfg(test)]
+mod slices;
+#[cfg(test)]
+mod slots;
+#[cfg(test)]
+mod stalled;
+#[cfg(test)]
+mod stopping;
 #[cfg(test)]
 mod talks;

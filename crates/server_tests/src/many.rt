@@ -12,7 +12,7 @@ use std::time::{Clock, Duration};
 use test_support::requests::WATCH_OF_A;
 use test_support::same;
 
-/// Twice as many as one of the two loops holds.
+/// As many as the two loops hold together.
 const WATCHERS: u8 = 200;
 
 const COUNTED: &[u8] =
@@ -40,8 +40,6 @@ pub(super) fn many<R: Wait + Clock + Net<Stream = TcpStream>>(
     alloc: Global,
     addresses: Addresses,
 ) -> Result<(), Fail> {
-    // Each loop tells the other that it has room as it begins.
-    thread::sleep(rt, Duration::from_millis(300));
     let mut watchers = Vec::new(alloc);
     for _ in 0..WATCHERS {
         let mut watcher = Watcher::open(rt, addresses.calls, WATCH_OF_A)?;

@@ -1,6 +1,7 @@
 use crate::ready::Ready;
 use crate::runs::{SCRIPT, set_up};
 use crate::scenes::Place;
+use desk_core::{Keep, KeepMany};
 use live_run::RunFault;
 use std::alloc::Global;
 use std::net::{Net, TcpListener, TcpStream};
@@ -10,15 +11,14 @@ use std::thread::Threads;
 use std::time::Clock;
 use test_support::{Scarcity, same};
 
-/// The room of the test, in bytes, of which it leaves one step more each time. Two loops, each with its buffer, have to move within
-/// it.
+/// The room of the test, in bytes, of which it leaves one step more each time. Two loops have to move within it.
 const ROOM: usize = 114_688;
 
 const STEP: usize = 4_096;
 
 /// A run for which there is so much memory of the room left, and whether that was enough.
-fn run_leaving<R: Wait + Threads + Clock + Sync>(
-    ready: Ready<'_, R>,
+fn run_leaving<R: Wait + Threads + Clock + Sync, K: Keep + Send>(
+    ready: Ready<'_, R, K>,
     scarcity: &Scarcity,
     left: usize,
 ) -> Result<bool, Fail> {
@@ -38,7 +38,7 @@ where
 {
     let Place { servers, news, .. } = Place::new(rt, alloc, 2)?;
     news.end();
-    let (made, _) = set_up(rt, alloc, SCRIPT, 3)?;
+    let (made, _) = set_up::<R, KeepMany>(rt, alloc, SCRIPT, 3)?;
     let ready = Ready {
         rt,
         alloc,

@@ -3,7 +3,7 @@ ghost use Rattle.std.specs.Prelude.{◌≤◌, IfOk};
 use crate::scenes::{Counts, Watcher, expect_checked};
 use crate::sessions::{Outcome, run_beside};
 use crate::talks::Talk;
-use desk_core::{KeepMany, Reply};
+use desk_core::{Keep, KeepMany, Reply};
 use live_run::{RefusedLine, first_refused};
 use live_server::News;
 use probe_core::{Maker, Manual, Probe, Rule};
@@ -47,12 +47,12 @@ impl Maker<Manual> for Manuals {
 }
 
 /// A hall that forgets, set up by the script, and the first line of it that was not made.
-pub(super) fn set_up<R: Wait>(
+pub(super) fn set_up<R: Wait, K: Keep>(
     rt: &R,
     alloc: Global,
     script: &[u8],
     seats: u16,
-) -> Result<(SetUpHall<Manual, KeepMany>, Option<RefusedLine>), Fail>
+) -> Result<(SetUpHall<Manual, K>, Option<RefusedLine>), Fail>
     requires some { 1 ≤ seats }
     requires not_too_many { seats ≤ 1024 }
 {
@@ -93,9 +93,14 @@ fn runs_what_a_script_has_set_up(rt: HostRuntime) -> Result<(), Fail> {
     same(&found, &expected, &"a run")
 }
 
+fn refused_line<R: Wait>(rt: &R, alloc: Global) -> Result<Option<RefusedLine>, Fail> {
+    let (_, refused) = set_up::<R, KeepMany>(rt, alloc, FAILING, 2)?;
+    Ok(refused)
+}
+
 #[test]
 fn tells_the_line_of_a_setup_that_was_not_made(rt: HostRuntime) -> Result<(), Fail> {
-    let (_, refused) = set_up(&rt, rt.alloc(), FAILING, 2)?;
+    let refused = refused_line(&rt, rt.alloc())?;
     let expected = RefusedLine {
         number: 5,
         answer: Ok(Reply::Missing),

@@ -1,17 +1,18 @@
 //! Loops that share a socket of 127.0.0.1, and clients of them.
 
-use live_server::{EventServer, Limits, News};
+use live_server::{Acceptor, EventServer, Limits, News, Places};
 use std::alloc::Global;
 use std::io::{Read, Write};
 use std::net::{Net, SocketAddr, TcpListener, TcpStream};
+use std::sync::Arc;
 use std::test::Fail;
 use std::time::{Clock, Duration};
 use test_support::same;
 
-/// How much each loop holds at once. No test opens more Watches than all loops may hold together.
-const LIMITS: Limits = Limits {
+/// How much the loops hold together: one test opens so many Watches, and none opens more.
+pub(super) const LIMITS: Limits = Limits {
     connections: 200,
-    watches: 100,
+    watches: 200,
 };
 
 /// How many seconds a client waits for each read: no test takes so long.
@@ -38,13 +39,25 @@ impl Place {
         loops: u8,
     ) -> Result<Place, Fail> {
         let listener = TcpListener::bind(rt, ("127.0.0.1", 0u16))?;
+        Place::over(rt, alloc, &listener, loops, LIMITS)
+    }
+
+    /// Loops over this socket.
+    pub(super) fn over<R: Net<Listener = TcpListener, Stream = TcpStream> + Clock>(
+        rt: &R,
+        alloc: Global,
+        listener: &TcpListener,
+        loops: u8,
+        limits: Limits,
+    ) -> Result<Place, Fail> {
         listener.set_nonblocking(true)?;
         let addr = listener.local_addr()?;
+        let places = Arc::new(alloc, Places::new(limits))?;
         let mut servers = Vec::new(alloc);
         let mut wakers = Vec::new(alloc);
         for _ in 0..loops {
             let shared = mio::net::TcpListener::from_std(listener.try_clone()?);
-            let server = EventServer::new(rt, alloc, shared, LIMITS)?;
+            let server = EventServer::new(rt, alloc, Acceptor::new(shared), places.clone()?)?;
             wakers.push(server.waker()?)?;
             servers.push(server)?;
         }
@@ -125,7 +138,11 @@ impl Watcher {
         addr: SocketAddr,
         request: &[u8],
     ) -> Result<Watcher, Fail> {
-        let mut stream = client(rt, addr, request)?;
+        Watcher::over(client(rt, addr, request)?)
+    }
+
+    /// The same, of a client that has asked for it.
+    pub(super) fn over(mut stream: TcpStream) -> Result<Watcher, Fail> {
         read_head(&mut stream)?;
         Ok(Watcher { stream })
     }

@@ -2,13 +2,14 @@
 
 ghost use Rattle.std.specs.Prelude.{◌≤◌};
 
+use crate::buffers::small_listener;
 use crate::ready::Ready;
 use crate::runs::set_up;
-use crate::scenes::{Counts, Place};
+use crate::scenes::{Counts, LIMITS, Place};
 use crate::talks::Talk;
 use control::ControlListener;
-use control_server::{ControlServer, MAX_SESSIONS};
-use desk_core::{Call, Entry, KeepMany, Setting, Slot};
+use control_server::{ControlServer, SESSION_SEATS};
+use desk_core::{Call, Entry, Keep, KeepMany, Setting, Slot};
 use live_run::{Ran, RunFault};
 use live_server::{EventServer, News};
 use probe_core::Manual;
@@ -79,11 +80,14 @@ impl<R: Wait + Clock + Net<Stream = TcpStream>> Clients<'_, R> {
 }
 
 /// Runs the hall by the loops and the sessions, and lets clients talk beside them.
-fn run_and_talk<R: Wait + Threads + Clock + Sync + Net<Stream = TcpStream>>(
-    ready: Ready<'_, R>,
+fn run_and_talk<R, K: Keep + Send>(
+    ready: Ready<'_, R, K>,
     talk: Talk,
     addresses: Addresses,
-) -> (Result<Ran<Manual, KeepMany>, RunFault>, Result<usize, Fail>) {
+) -> (Result<Ran<Manual, K>, RunFault>, Result<usize, Fail>)
+where
+    R: Wait + Threads + Clock + Sync + Net<Stream = TcpStream>,
+{
     let rt = ready.rt;
     let clients = Clients {
         rt,
@@ -94,7 +98,7 @@ fn run_and_talk<R: Wait + Threads + Clock + Sync + Net<Stream = TcpStream>>(
     };
     thread::join(
         rt,
-        move || -> Result<Ran<Manual, KeepMany>, RunFault> { ready.run() },
+        move || -> Result<Ran<Manual, K>, RunFault> { ready.run() },
         move || clients.talk(),
     )
 }
@@ -136,8 +140,8 @@ pub(super) struct Outcome {
     pub(super) changes: usize,
 }
 
-fn outcome_of(
-    ran: &Result<Ran<Manual, KeepMany>, RunFault>,
+fn outcome_of<K: Keep>(
+    ran: &Result<Ran<Manual, K>, RunFault>,
     watched: Option<Slot>,
     told: usize,
 ) -> Result<Outcome, Fail> {
@@ -157,8 +161,34 @@ fn outcome_of(
     })
 }
 
+/// The loops that serve beside a talk. One alone has small buffers, so that all Watches are told a change before the next.
+fn place_of<R: Net<Listener = TcpListener, Stream = TcpStream> + Clock>(
+    rt: &R,
+    alloc: Global,
+    talk: Talk,
+) -> Result<Place, Fail> {
+    if !talk.has_small_buffers() {
+        return Place::new(rt, alloc, LOOPS);
+    }
+    let listener = small_listener(rt)?;
+    Place::over(rt, alloc, &listener, 1, LIMITS)
+}
+
 /// What a run comes to, set up by the script, beside which the clients talked.
 pub(super) fn run_beside<R>(
+    rt: &R,
+    alloc: Global,
+    script: &[u8],
+    talk: Talk,
+) -> Result<Outcome, Fail>
+where
+    R: Wait + Threads + Clock + Files + Sync + Net<Listener = TcpListener, Stream = TcpStream>,
+{
+    run_keeping::<R, KeepMany>(rt, alloc, script, talk)
+}
+
+/// The same, where the hall keeps so much.
+pub(super) fn run_keeping<R, K: Keep + Send>(
     rt: &R,
     alloc: Global,
     script: &[u8],
@@ -171,7 +201,7 @@ where
         servers,
         news,
         addr,
-    } = Place::new(rt, alloc, LOOPS)?;
+    } = place_of(rt, alloc, talk)?;
     let (control, sessions) = control_of(rt, alloc, &servers)?;
     let addresses = Addresses {
         calls: addr,
@@ -182,7 +212,7 @@ where
     } else {
         Some(control)
     };
-    let (made, _) = set_up(rt, alloc, script, u16::from(LOOPS) + 1 + MAX_SESSIONS)?;
+    let (made, _) = set_up::<R, K>(rt, alloc, script, u16::from(LOOPS) + 1 + SESSION_SEATS)?;
     let ready = Ready {
         rt,
         alloc,

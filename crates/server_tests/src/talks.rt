@@ -1,9 +1,13 @@
 //! What clients of a run say in sessions, and what they are answered.
 
 use crate::many::many;
+use crate::pouring::pouring;
 use crate::runs::ask;
 use crate::scenes::{Watcher, expect_checked};
 use crate::sessions::{Addresses, SCRIPT, run_beside};
+use crate::slots::slots;
+use crate::stalled::behind;
+use crate::stopping::stopping;
 use desk_core::Slot;
 use live_server::News;
 use std::alloc::Global;
@@ -50,6 +54,11 @@ impl Talker {
         Ok(())
     }
 
+    /// The same, where its session may be over by now.
+    pub(super) fn say_if_open(&mut self, bytes: &[u8]) {
+        let _ = self.stream.write_all(bytes);
+    }
+
     /// It has to be answered so next.
     pub(super) fn expect(&mut self, alloc: Global, answer: &[u8]) -> Result<(), Fail> {
         let mut bytes = vec![in alloc; 0u8; answer.len()]?;
@@ -69,8 +78,15 @@ impl Talker {
         Err(Fail::new("a long answer"))
     }
 
+    /// All that comes until its end.
+    pub(super) fn rest(&mut self, alloc: Global) -> Result<Vec<u8>, Fail> {
+        let mut bytes = Vec::new(alloc);
+        self.stream.read_to_end(&mut bytes)?;
+        Ok(bytes)
+    }
+
     /// Nothing more comes.
-    fn expect_end(&mut self) -> Result<(), Fail> {
+    pub(super) fn expect_end(&mut self) -> Result<(), Fail> {
         let found = match self.stream.read(&mut [0]) {
             Ok(count) => count == 0,
             Err(error) => error.kind() == ErrorKind::ConnectionReset,
@@ -92,8 +108,16 @@ pub(super) enum Talk {
     Same,
     /// Sessions in pieces, with bad lines, and one too many.
     Limits,
-    /// A session beside a hundred Watches, which all close.
+    /// A session beside two hundred Watches, which all close.
     Many,
+    /// Changes that a session pours, beside a Watch whose client takes nothing until much is forgotten.
+    Behind,
+    /// A change of each service of a full catalogue, beside a Watch of each.
+    Slots,
+    /// A session that says `stop` beside one whose answers wait.
+    Stopping,
+    /// A session that says hundreds of lines at once.
+    Pouring,
 }
 
 impl Talk {
@@ -112,7 +136,16 @@ impl Talk {
             Talk::Same => same_name(rt, alloc, addresses),
             Talk::Limits => limits(rt, alloc, addresses).map(|()| 0),
             Talk::Many => many(rt, alloc, addresses).map(|()| 0),
+            Talk::Behind => behind(rt, alloc, addresses).map(|()| 0),
+            Talk::Slots => slots(rt, alloc, addresses).map(|()| 0),
+            Talk::Stopping => stopping(rt, alloc, addresses.sessions).map(|()| 0),
+            Talk::Pouring => pouring(rt, alloc, addresses.sessions).map(|()| 0),
         }
+    }
+
+    /// Whether the sockets of calls hold little of what is sent.
+    pub(super) fn has_small_buffers(self) -> bool {
+        self == Talk::Behind
     }
 
     /// The service whose Watch counts what it is told.
@@ -142,19 +175,28 @@ const ROWS: [(&[u8], &[u8]); 13] = [
     (b"up \xff\n", b"bad line\n"),
     (
         b"stats\n",
-        b"entries 7 kept 7 connections 1 watches 1 sessions 1 calls 1 given_up 0 behind 0\n",
+        b"entries 7 kept 7 connections 1 watches 1 sessions 2 calls 2 given_up 1 behind 0\n",
     ),
 ];
 
-/// A session of all kinds of lines, beside a Watch that is told each change.
+/// A client that leaves in the middle of its request.
+fn break_off<R: Net<Stream = TcpStream>>(rt: &R, addr: SocketAddr) -> Result<(), Fail> {
+    let mut stream = TcpStream::connect(rt, addr)?;
+    stream.write_all(&CHECK_OF_A[..20])?;
+    Ok(())
+}
+
+/// A session of all kinds of lines, beside a Watch that is told each change and a session that says nothing.
 fn rows<R: Wait + Clock + Net<Stream = TcpStream>>(
     rt: &R,
     alloc: Global,
     addresses: Addresses,
 ) -> Result<(), Fail> {
     expect_checked(rt, alloc, addresses.calls, CHECK_OF_A)?;
+    break_off(rt, addresses.calls)?;
     let mut watcher = Watcher::open(rt, addresses.calls, WATCH_OF_A)?;
     watcher.expect(&[1])?;
+    let mut silent = Talker::open(rt, addresses.sessions)?;
     let mut talker = Talker::open(rt, addresses.sessions)?;
     for (line, answer) in &ROWS {
         if line.starts_with(b"stats") {
@@ -169,6 +211,7 @@ fn rows<R: Wait + Clock + Net<Stream = TcpStream>>(
     talker.say(b"stop\ndown a\n")?;
     talker.expect(alloc, b"stopping\n")?;
     talker.expect_end()?;
+    silent.expect_end()?;
     watcher.expect_ended(alloc)
 }
 
@@ -285,7 +328,7 @@ fn limits<R: Wait + Clock + Net<Stream = TcpStream>>(
     seventeen(rt, alloc, addr)
 }
 
-/// Sixteen sessions, and one more.
+/// Sixteen sessions, and one more, which has said a line before it is told so, and whose socket stays open.
 fn seventeen<R: Wait + Clock + Net<Stream = TcpStream>>(
     rt: &R,
     alloc: Global,
@@ -301,10 +344,11 @@ fn seventeen<R: Wait + Clock + Net<Stream = TcpStream>>(
         talkers.push(talker)?;
     }
     let mut other = Talker::open(rt, addr)?;
+    other.say(b"check a\n")?;
+    thread::sleep(rt, Duration::from_millis(50));
     other.expect(alloc, b"too many sessions\n")?;
     other.expect_end()?;
     drop(talkers.pop());
-    thread::sleep(rt, Duration::from_millis(300));
     let mut next = Talker::open(rt, addr)?;
     next.say(b"down a\n")?;
     next.expect(alloc, b"done\n")

@@ -1,5 +1,6 @@
 -- How far a call has come.
 use Rattle.std.specs.Prelude.{ℕ, ◌≤◌, Bool, true, false, ◌||◌, is_some, Option, None, Some, List, vec_len, length, nat_eq, if◌then◌else◌}
+use Rattle.std.specs.Int.{from_bool}
 use Rattle.desk_core.specs.declared.entry.Entry.{Entry}
 use Rattle.desk_core.specs.Changes.{changes_of}
 use Rattle.desk_core.specs.Watch.{IsBehind}
@@ -71,6 +72,16 @@ starves Starved = true
 -- an allocation failed
 abbrev pub is_starved : Call → Bool
 is_starved call = starves call.stage
+
+abbrev pub asks : Stage → ℕ
+asks (Reading intake) = from_bool (reading.is_open intake.reading || reading.is_whole intake.reading)
+asks (Watching watch) = 0
+asks (Ending outcome) = 0
+asks Starved = 0
+
+-- how often the door may still be asked for the request: once until it is answered, or an allocation fails
+abbrev pub may_ask : Call → ℕ
+may_ask call = asks call.stage
 
 abbrev pub answers : Stage → Bool
 answers (Reading intake) = false

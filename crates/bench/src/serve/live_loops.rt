@@ -1,13 +1,14 @@
 use crate::serve::request::HOST;
-use live_server::{EventServer, Limits, News};
+use live_server::{Acceptor, EventServer, Limits, News, Places};
 use std::alloc::Global;
 use std::net::{Net, TcpListener, TcpStream};
+use std::sync::Arc;
 use std::time::Clock;
 
 /// How many event loops share the socket.
 pub const LOOPS: u16 = 2;
 
-/// More connections than a process with 20,000 descriptors has, of which all may be Watches.
+/// Places for more connections than a process with 20,000 descriptors has, of which all may be Watches.
 const LIMITS: Limits = Limits {
     connections: 20_000,
     watches: 20_000,
@@ -29,11 +30,13 @@ impl LiveLoops {
         let listener = TcpListener::bind(rt, (HOST, 0u16)).ok()?;
         listener.set_nonblocking(true).ok()?;
         let port = listener.local_addr().ok()?.port();
+        let places = Arc::new(alloc, Places::new(LIMITS)).ok()?;
         let mut servers = Vec::new(alloc);
         let mut wakers = Vec::new(alloc);
         for _ in 0..LOOPS {
             let shared = mio::net::TcpListener::from_std(listener.try_clone().ok()?);
-            let server = EventServer::new(rt, alloc, shared, LIMITS).ok()?;
+            let places = places.clone().ok()?;
+            let server = EventServer::new(rt, alloc, Acceptor::new(shared), places).ok()?;
             wakers.push(server.waker().ok()?).ok()?;
             servers.push(server).ok()?;
         }

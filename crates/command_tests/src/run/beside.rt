@@ -6,13 +6,14 @@ ghost use Rattle.probe_core.specs.Made.{IsAsked};
 ghost use Rattle.commands.specs.Run.{IsWhollySetUp};
 
 use crate::asking::ask_at;
+use crate::run::filled::{Late, ask_behind};
 use crate::run::ready::Ready;
 use client::Told;
 use commands::fault::Fault;
 use commands::run::{Begun, control_at, control_loop, event_loops, listen, remove_socket, set_up};
 use commands::run_failure::RunFailure;
 use control::{ControlClient, Place, connect};
-use control_server::MAX_SESSIONS;
+use control_server::SESSION_SEATS;
 use desk_core::KeepMany;
 use live_run::Ran;
 use live_server::{Limits, News};
@@ -47,16 +48,10 @@ register - manual
 down b
 ";
 
-const LIMITS: [Limits; 2] = [
-    Limits {
-        connections: 2,
-        watches: 1,
-    },
-    Limits {
-        connections: 1,
-        watches: 1,
-    },
-];
+const LIMITS: Limits = Limits {
+    connections: 3,
+    watches: 2,
+};
 
 /// What is answered to a Watch at once, where its service is serving.
 const FIRST: &[u8] = b"HTTP/1.1 200 OK\r\n\
@@ -138,6 +133,7 @@ enum Beside {
     Asked(Answers),
     Heard(Heard),
     Left,
+    Waited(Late),
     Failed(io::Error),
 }
 
@@ -145,6 +141,8 @@ enum Beside {
 enum Client<'a> {
     /// There is no control place.
     Asks,
+    /// Nor is there one for a client that takes all places for connections.
+    Fills,
     /// The control place is at this path.
     Hears(&'a str),
     Leaves(&'a str),
@@ -153,7 +151,7 @@ enum Client<'a> {
 impl<'a> Client<'a> {
     fn path(self) -> Option<&'a str> {
         match self {
-            Client::Asks => None,
+            Client::Asks | Client::Fills => None,
             Client::Hears(path) | Client::Leaves(path) => Some(path),
         }
     }
@@ -161,6 +159,10 @@ impl<'a> Client<'a> {
     fn go<R: Net<Stream = TcpStream>>(self, rt: &R, alloc: Global, port: u16) -> Beside {
         match self {
             Client::Asks => Beside::Asked(ask_all(rt, alloc, port)),
+            Client::Fills => match ask_behind(rt, alloc, port, LIMITS.connections) {
+                Ok(late) => Beside::Waited(late),
+                Err(error) => Beside::Failed(error),
+            },
             Client::Hears(path) => match hear(rt, alloc, port, path) {
                 Ok(heard) => Beside::Heard(heard),
                 Err(error) => Beside::Failed(error),
@@ -186,7 +188,7 @@ impl<R: AllocGlobal + Net<Stream = TcpStream>> Visitor<'_, R> {
     fn go(self) -> Beside {
         let beside = self.client.go(self.rt, self.rt.alloc(), self.port);
         match &beside {
-            Beside::Asked(_) | Beside::Failed(_) => self.news.end(),
+            Beside::Asked(_) | Beside::Waited(_) | Beside::Failed(_) => self.news.end(),
             Beside::Heard(_) | Beside::Left => {}
         }
         beside
@@ -238,7 +240,7 @@ where
 {
     let alloc = rt.alloc();
     let control = control_at(rt, alloc, made, place)?;
-    let (servers, news) = event_loops(rt, alloc, listener, LIMITS.as_slice())?;
+    let (servers, news) = event_loops(rt, alloc, listener, LIMITS, 2)?;
     let control = control_loop(rt, alloc, control, &servers)?;
     Ok(Begun {
         servers,
@@ -279,7 +281,7 @@ where
     requires { F.makes_asked make }
 {
     let maker = FnMaker::new(make);
-    let made = set_up(rt, rt.alloc(), &maker, script, 3 + MAX_SESSIONS)?;
+    let made = set_up(rt, rt.alloc(), &maker, script, 3 + SESSION_SEATS)?;
     let listener = listen(rt, &made, SocketAddr::from(([127, 0, 0, 1], 0)))?;
     let port = listener.local_addr()?.port();
     let Begun {
@@ -350,6 +352,22 @@ fn serves_until_it_is_told_to_end(rt: HostRuntime) -> Result<(), Fail> {
     expect_status(&answers.of_a, 1)?;
     expect_status(&answers.of_all, 1)?;
     expect_status(&answers.of_b, 2)
+}
+
+#[test]
+fn two_loops_share_the_places_for_connections(rt: HostRuntime) -> Result<(), Fail> {
+    let (entries, beside) = run_beside(&rt, PARTED, Client::Fills)?;
+    same(&entries, &Some(4), &"entries")?;
+    let Beside::Waited(late) = beside else {
+        return Err(Fail::new("another client"));
+    };
+    same(&late.at_once, &false, &"answered at once")?;
+    let answer = late.answer.as_slice();
+    same(
+        &answer.ends_with(b"grpc-status:0\r\n"),
+        &true,
+        &"the answer",
+    )
 }
 
 /// A path of this test's own in the folder for temporary files, where nothing stands.

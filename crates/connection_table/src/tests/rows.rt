@@ -8,7 +8,7 @@ pub enum Step {
     Get(usize),
     /// Changes what a key holds.
     Change(usize, u32),
-    MayAdmit(usize),
+    IsAdmitted(usize),
     Admit(usize),
     Remove(usize),
     NextKey(usize),
@@ -46,7 +46,7 @@ fn make(table: &mut Table<u32>, step: Step) -> Answer {
         },
         Step::Get(key) => Answer::Holds(table.get(key).copied()),
         Step::Change(key, connection) => Answer::Is(change(table, key, connection)),
-        Step::MayAdmit(key) => Answer::Is(table.may_admit(key)),
+        Step::IsAdmitted(key) => Answer::Is(table.is_admitted(key)),
         Step::Admit(key) => Answer::Is(table.admit(key)),
         Step::Remove(key) => Answer::Holds(table.remove(key)),
         Step::NextKey(from) => Answer::Next(table.next_key(from)),

@@ -2,7 +2,7 @@ use crate::tests::scenes::{Place, Scene, client, rest};
 use std::io::Write;
 use std::net::{Net, Shutdown, TcpStream};
 use std::test::Fail;
-use std::time::Clock;
+use std::time::{Clock, Duration, Instant};
 use test_support::requests::{CHECK_OF_EMPTY, WATCH_OF_EMPTY};
 use test_support::same;
 
@@ -137,4 +137,37 @@ fn accepts_none_once_all_is_to_end(rt: HostRuntime) -> Result<(), Fail> {
     let scene = Scene::new(rt.alloc())?;
     let mut place = Place::new(&rt, rt.alloc(), 10, 10)?;
     come_late(&rt, &mut place, &scene)
+}
+
+/// A request that is half there when all is to end has its ten seconds, and what is left thirty seconds behind that end is given up.
+fn give_up_what_is_left<R: Net<Stream = TcpStream> + Clock>(
+    rt: &R,
+    place: &mut Place,
+    scene: &Scene,
+) -> Result<(), Fail> {
+    let half = client(rt, place, b"POST")?;
+    place.rounds(rt, scene)?;
+    let begun = Instant::now(rt)?;
+    place.news.end();
+    place.rounds(rt, scene)?;
+    same(&place.server.connections(), &1, &"still read")?;
+    let now = Instant::now(rt)?;
+    for (from, seconds, is_before) in [(begun, 30, true), (now, 30, false)] {
+        let end = from.checked_add(Duration::from_secs(seconds));
+        let found = end.is_some_and(|end| place.server.ends_at >= Some(end));
+        same(&found, &is_before, &"its time")?;
+    }
+    place.server.ends_at = Some(now);
+    place.rounds(rt, scene)?;
+    let found = (place.server.connections(), place.server.counts().given_up);
+    same(&found, &(0, 1), &"given up")?;
+    drop(half);
+    Ok(())
+}
+
+#[test]
+fn what_is_left_thirty_seconds_behind_the_end_is_given_up(rt: HostRuntime) -> Result<(), Fail> {
+    let scene = Scene::new(rt.alloc())?;
+    let mut place = Place::new(&rt, rt.alloc(), 2, 2)?;
+    give_up_what_is_left(&rt, &mut place, &scene)
 }

@@ -1,10 +1,11 @@
 //! A registry, a loop over a socket of 127.0.0.1, and clients, all in one thread.
 
-use crate::{EventServer, Limits, News};
+use crate::{Acceptor, EventServer, Limits, News, Places};
 use mio::net::TcpListener;
 use std::alloc::Global;
 use std::io::{Read, Write};
 use std::net::{Net, SocketAddr, TcpStream};
+use std::sync::Arc;
 use std::test::Fail;
 use std::time::{Clock, Duration};
 pub(super) use web_call::staged::Staged as Scene;
@@ -36,7 +37,8 @@ impl Place {
         let any = SocketAddr::from(([127, 0, 0, 1], 0));
         let listener = TcpListener::bind(rt, any)?;
         let addr = listener.local_addr()?;
-        let server = EventServer::new(rt, alloc, listener, limits)?;
+        let places = Arc::new(alloc, Places::new(limits))?;
+        let server = EventServer::new(rt, alloc, Acceptor::new(listener), places)?;
         let mut wakers = Vec::new(alloc);
         wakers.push(server.waker()?)?;
         let news = News::new(wakers);
@@ -50,10 +52,14 @@ impl Place {
 
     /// Lets the loop make some rounds.
     pub(super) fn rounds<R: Clock>(&mut self, rt: &R, scene: &Scene) -> Result<(), Fail> {
-        let mut door = scene.door();
         for _ in 0..ROUNDS {
-            self.server.round(rt, &mut door, &self.news)?;
+            self.round(rt, scene)?;
         }
+        Ok(())
+    }
+
+    pub(super) fn round<R: Clock>(&mut self, rt: &R, scene: &Scene) -> Result<(), Fail> {
+        self.server.round(rt, &mut scene.door(), &self.news)?;
         Ok(())
     }
 }

@@ -1,6 +1,7 @@
 use crate::tests::scenes::{Place, Scene, client, rest, sent};
 use desk_core::Setting;
 use std::alloc::Global;
+use std::io::Write;
 use std::net::{Net, TcpStream};
 use std::test::Fail;
 use std::time::Clock;
@@ -75,4 +76,40 @@ fn watchers_are_told_each_change(rt: HostRuntime) -> Result<(), Fail> {
     let mut scene = Scene::new(rt.alloc())?;
     let mut place = Place::new(&rt, rt.alloc(), 10, 10)?;
     tell_changes(&rt, &mut place, &mut scene)
+}
+
+/// How often a service goes down and up again: so many changes take several turns.
+const TIMES: usize = 50;
+
+/// A Watch whose client sends a byte while all is to end.
+fn tell_before_the_end<R: Net<Stream = TcpStream> + Clock>(
+    rt: &R,
+    place: &mut Place,
+    scene: &mut Scene,
+) -> Result<(), Fail> {
+    let mut stream = client(rt, place, WATCH_OF_EMPTY)?;
+    place.rounds(rt, scene)?;
+    let found = sent(place.alloc, &mut stream)?;
+    same(&found.ends_with(UP), &true, &"open")?;
+    let mut expected = Vec::new(place.alloc);
+    for _ in 0..TIMES {
+        scene.set(Setting::Down);
+        expected.extend_from_slice(DOWN)?;
+        scene.set(Setting::Up);
+        expected.extend_from_slice(UP)?;
+    }
+    stream.write_all(b"x")?;
+    place.news.end();
+    place.rounds(rt, scene)?;
+    place.rounds(rt, scene)?;
+    let found = rest(place.alloc, &mut stream)?;
+    same(&found.starts_with(&expected), &true, &"each change")?;
+    same(&found.ends_with(b"\r\n0\r\n\r\n"), &true, &"the end")
+}
+
+#[test]
+fn a_watch_is_told_all_changes_before_its_end(rt: HostRuntime) -> Result<(), Fail> {
+    let mut scene = Scene::new(rt.alloc())?;
+    let mut place = Place::new(&rt, rt.alloc(), 10, 10)?;
+    tell_before_the_end(&rt, &mut place, &mut scene)
 }

@@ -1,7 +1,7 @@
 ghost use Rattle.std.specs.Prelude.{◌≡◌, ◌≤◌, ◌<◌, ◌+◌, ℕ, List, length, take, true, false, nat_lt, IfOk};
 ghost use Rattle.web_call.specs.Answer.{Source};
 ghost use Rattle.web_call.specs.Past.{Stands, Carries, begun, with_received, with_sent};
-ghost use Rattle.web_call.specs.Stages.{is_open, is_whole, is_watching, is_starved, is_answered, wanted_by, owed, to_send, being_sent, ending_of, outcome_of, is_done, frames_of};
+ghost use Rattle.web_call.specs.Stages.{is_open, is_whole, is_watching, is_starved, is_answered, wanted_by, owed, to_send, being_sent, ending_of, outcome_of, is_done, frames_of, may_ask};
 
 use super::{Call, Stage};
 use crate::intake::{Intake, Reading};
@@ -97,6 +97,8 @@ impl Call {
         ensures ending { ending_of self.new ≡ ending_of self.old }
         ensures answered { is_answered self.new ≡ is_answered self.old }
         ensures text { being_sent self.new ≡ being_sent self.old }
+        ensures reads { (is_open self.new ≡ is_open self.old)
+            × (may_ask self.new ≡ may_ask self.old) }
     {
         self.outgoing.advance(count);
     }

@@ -1,5 +1,6 @@
 use Rattle.std.proofs.Common.{◌≡◌, length}
+use Rattle.commands.specs.Run.{AreLoopsOf}
 use Rattle.commands.proofs.run.loops_with.Given as goal
 
-abbrev pub invariant-loop-limits : goal.invariant-loop-limits
-invariant-loop-limits g l = length l.servers.items ≡ l.limits-index
+abbrev pub invariant-loop : goal.invariant-loop
+invariant-loop g l = (length l.servers.items ≡ l.counter) × AreLoopsOf l.fn.limits l.servers.items

@@ -1,11 +1,12 @@
+use Rattle.std.proofs.Common.{refl}
 use Rattle.control.proofs.MeetingLemmas.{listed, told, stopped}
 use Rattle.control.proofs.meeting.meet.Goals as goal
 
 pub returns-in-List-clause-met : goal.returns-in-List-clause-met
-returns-in-List-clause-met g c = listed _ _ _ _ _ _ _ _ c.in-List.is c.board.ensures.looks c.board.ensures.board
+returns-in-List-clause-met g c = listed _ _ _ _ _ _ _ _ _ _ c.in-List.is (record { looked = c.board.ensures.looks; server = refl }) c.board.ensures.board
 
 pub returns-in-Stats-clause-met : goal.returns-in-Stats-clause-met
-returns-in-Stats-clause-met g c = told _ _ _ _ _ _ _ _ c.in-Stats.is c.stats.ensures.looks c.stats.ensures.entries
+returns-in-Stats-clause-met g c = told _ _ _ _ _ _ _ _ _ _ c.in-Stats.is (record { looked = c.stats.ensures.looks; server = refl }) c.stats.ensures.tells
 
 pub returns-in-Stop-clause-met : goal.returns-in-Stop-clause-met
-returns-in-Stop-clause-met g c = stopped _ _ _ _ _ _ _ c.in-Stop.is c.stop.ensures
+returns-in-Stop-clause-met g c = stopped _ _ _ _ _ _ _ _ _ c.in-Stop.is (record { console = refl; server = c.stop.ensures })

@@ -1,5 +1,6 @@
 use Rattle.std.proofs.Common.{refl, arith, sym, ◌∙◌}
-use Rattle.crew.proofs.CarryingOut.{order_more, run_begins, run_done, met_ours}
+use Rattle.hall.proofs.CarryingOut.{met_ours}
+use Rattle.crew.proofs.Orders.{order_more, run_begins, run_done}
 use Rattle.crew.proofs.command_run.run.Goals as goal
 
 pub loop-order-init : goal.loop-order-init

@@ -1,7 +1,7 @@
 use Rattle.std.proofs.Common.{◌≤◌, map, vec_capacity, length}
 use Rattle.desk_core.specs.Order.{ordered}
 use Rattle.hall.specs.Seats.{IsOf}
-use Rattle.crew.proofs.CarryingOut.{IsUnderWay}
+use Rattle.crew.proofs.Orders.{IsUnderWay}
 use Rattle.crew.proofs.command_run.run.Given as goal
 
 abbrev pub invariant-loop-order : goal.invariant-loop-order

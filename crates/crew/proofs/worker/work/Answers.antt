@@ -1,4 +1,4 @@
-use Rattle.crew.proofs.LookingLemmas.{looked_on}
+use Rattle.hall.proofs.LookingLemmas.{looked_on}
 use Rattle.crew.proofs.worker.work.Goals as goal
 
 pub loop-preserved : goal.loop-preserved

@@ -1,4 +1,4 @@
-use Rattle.crew.specs.Looking.{HasLooked}
+use Rattle.hall.specs.Looking.{HasLooked}
 use Rattle.crew.proofs.worker.work.Given as goal
 
 abbrev pub invariant-loop : goal.invariant-loop

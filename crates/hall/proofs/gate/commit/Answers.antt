@@ -1,4 +1,4 @@
-use Rattle.std.proofs.Common.{◌≡◌, ◌<◌, ◌∷◌, length, sym, refl, ap, subst, arith, ◌∙◌, ℕ}
+use Rattle.std.proofs.Common.{◌≡◌, ◌<◌, ◌∷◌, length, sym, refl, ap, subst, arith, ℕ}
 use Rattle.std.proofs.lemmas.List.{length-reverse}
 use Rattle.atomic_table.specs.Table.{Allows}
 use Rattle.desk_core.specs.declared.entry.Entry.{Entry}

@@ -1,4 +1,4 @@
-use Rattle.std.proofs.Common.{lit<, refl}
+use Rattle.std.proofs.Common.{lit<}
 use Rattle.std.proofs.lemmas.Str.Pattern.{starts_char}
 use Rattle.script.proofs.LineCuts.{no_hash}
 use Rattle.script.proofs.text_lines.uncommented.Goals as goal

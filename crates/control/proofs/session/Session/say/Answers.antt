@@ -1,4 +1,5 @@
-use Rattle.std.proofs.Common.{arith}
+use Rattle.std.proofs.Common.{ap, arith, length}
+use Rattle.control.specs.Session.{SessionState}
 use Rattle.control.specs.Text.IsTold.{AsItIs}
 use Rattle.control.proofs.TextLemmas.{was_long}
 use Rattle.control.proofs.session.Session.say.Goals as goal
@@ -8,4 +9,4 @@ returns-then-is_ok-clause-told c = AsItIs
 
 pub returns-clause-told : goal.returns-clause-told
 returns-clause-told c = was_long _ c.write_answer.result c.is_ok.result _ c.is_ok.ensures.value c.if-is_ok.false c.write_answer.ensures.long
-    (omega (arith, c.clear.ensures.len, c.clear.ensures.capacity, c.self.invariant.3))
+    (omega (arith, ap (λ (session : SessionState). length session.waiting) c.self.view_is, ap length c.requires.sent, c.self.inside.waiting.ok.0, c.self.invariant.2))

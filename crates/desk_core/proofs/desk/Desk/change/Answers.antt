@@ -2,7 +2,7 @@ use Rattle.std.proofs.Common.{◌<◌, [], ◌∷◌, ◌++◌, length, refl, sy
 use Rattle.desk_core.specs.Mutation.{entry_of}
 use Rattle.desk_core.specs.Past.{past}
 use Rattle.desk_core.specs.Reply.{reply_to}
-use Rattle.desk_core.proofs.DeskLemmas.{has_answered, unanswered, is_desk_changed, is_desk_room}
+use Rattle.desk_core.proofs.DeskLemmas.{has_answered, shows_newest, unanswered, is_desk_changed, is_desk_room}
 use Rattle.desk_core.proofs.KeptLemmas.{room_left}
 use Rattle.desk_core.proofs.desk.Desk.change.Goals as goal
 
@@ -17,8 +17,8 @@ invariant_of-self-in_default-append g c = (
   c.append.ensures.kept.1 ∙ c.self.invariant.2,
 )
 
-pub show-requires-clause-few : goal.show-requires-clause-few
-show-requires-clause-few g c =
+pub show-shows-requires-clause-few : goal.show-shows-requires-clause-few
+show-shows-requires-clause-few g c =
     room_left _ _ _ _ c.self.invariant.0.told c.append.ensures.changes c.self.invariant.0.parts.room c.self.invariant.0.parts.limit
 
 pub returns-in_default-append-clause-answered : goal.returns-in_default-append-clause-answered
@@ -29,15 +29,20 @@ invariant_of-self-2 g c =
     let lawful = c.in_default.ensures.none.0 in
     let room : length c.self.inside.history.journal.items < c.self.inside.max_entries = subst (λ state. length state.journal < state.max_entries) (sym c.self.view_is) c.in_default.ensures.none.1 in (
       is_desk_changed _ _ _ _ _ _ _ _ _ _ _ _ _ _ _ _ _ _ _ _ c.args.call c.reply_to-reply.result c.self.invariant.0 c.reserve.ensures.same room lawful
-          (c.reply_to-reply.ensures ∙ ap (λ state. reply_to (past state.journal) c.args.call) (sym c.self.view_is)) c.in-Ok-append.ensures.ok.1 c.show.ensures.journal
+          (c.reply_to-reply.ensures ∙ ap (λ state. reply_to (past state.journal) c.args.call) (sym c.self.view_is)) c.in-Ok-append.ensures.ok.1 c.show-shows.ensures.journal
           c.in-Ok-append.ensures.ok.0 c.append.ensures.changes (ap (λ cache. cache.statuses) c.append.ensures.cache) (ap (λ cache. cache.dependents) c.append.ensures.cache)
-          c.apply-old.ensures.applied c.shut_after-self-inside.ensures c.show.ensures.dependents c.show.ensures.statuses c.show.ensures.changes,
-      c.show.ensures.kept.0 ∙ (c.append.ensures.kept.0 ∙ c.self.invariant.1),
-      c.show.ensures.kept.1 ∙ (c.append.ensures.kept.1 ∙ c.self.invariant.2),
+          c.apply-old.ensures.applied c.shut_after-self-inside.ensures c.show-shows.ensures.dependents c.show-shows.ensures.statuses c.show-shows.ensures.changes,
+      c.show-shows.ensures.kept.0 ∙ (c.append.ensures.kept.0 ∙ c.self.invariant.1),
+      c.show-shows.ensures.kept.1 ∙ (c.append.ensures.kept.1 ∙ c.self.invariant.2),
     )
 
 pub returns-clause-answered : goal.returns-clause-answered
 returns-clause-answered g c =
     has_answered _ _ c.args.seat c.args.call _ c.in_default.ensures.none.0 c.in_default.ensures.none.1 c.reply_to-reply.ensures
-    (c.show.ensures.journal ∙ c.in-Ok-append.ensures.ok.1 ∙ ap (λ state. state.journal ++ entry_of c.args.seat c.args.call c.reply_to-reply.result ∷ []) c.self.view_is)
+    (c.show-shows.ensures.journal ∙ c.in-Ok-append.ensures.ok.1 ∙ ap (λ state. state.journal ++ entry_of c.args.seat c.args.call c.reply_to-reply.result ∷ []) c.self.view_is)
     (ap (λ state. state.max_entries) c.self.view_is)
+
+pub returns-clause-shows : goal.returns-clause-shows
+returns-clause-shows g c =
+    shows_newest _ _ _ _ _ _ (c.show-shows.ensures.journal ∙ c.in-Ok-append.ensures.ok.1) (c.append.ensures.changes ∙ c.self.invariant.0.told) (invariant_of-self-2 g c).0.told
+    c.show-shows.ensures.shows

@@ -5,7 +5,7 @@ use Rattle.desk_core.specs.Legal.{IsLegal}
 use Rattle.desk_core.specs.Mutation.{entry_of}
 use Rattle.hall.specs.Seats.{SeatState}
 use Rattle.hall.specs.Steps.{HasDesk, seen_in}
-use Rattle.hall.proofs.Taken.{may_commit, may_count, may_leave, carried_out, not_carried_out, newest, unchanged, before_newest, seat_taken, seat_kept, own_entry}
+use Rattle.hall.proofs.Taken.{may_commit, may_count, may_leave, carried_out, not_carried_out, newest, unchanged, before_newest, seat_taken, seat_kept, shows_seen, own_entry}
 use Rattle.hall.proofs.hall.Hall.change.Goals as goal
 
 pub returns-in_default-clause-answered : goal.returns-in_default-clause-answered
@@ -22,7 +22,7 @@ finish-requires-clause-desk g c =
 
 pub finish-requires-clause-newest : goal.finish-requires-clause-newest
 finish-requires-clause-newest g c =
-    newest _ _ _ _ _ c.in-Ok.ensures.answered ∙ ap (λ (h : List Entry). entry_of c.seat.inside.number c.in-Some.call c.in-Ok.reply ∷ h) (sym (ap seen_in c.enter-desk.ensures.desk.1))
+    newest _ _ _ _ _ c.in-Ok.ensures.answered ∙ ap (λ (h : List Entry). entry_of c.seat.inside.number c.in-Some.call c.in-Ok.made.reply ∷ h) (sym (ap seen_in c.enter-desk.ensures.desk.1))
     ∙ ap (λ e. e ∷ seen_in c.enter-desk.new.place.me) (sym (own_entry _ _ c.seat.inside.number _ _ c.entry-entry.ensures (omega arith)))
 
 pub finish-requires-clause-limit : goal.finish-requires-clause-limit
@@ -52,7 +52,7 @@ pub returns-in-Ok-clause-answered : goal.returns-in-Ok-clause-answered
 returns-in-Ok-clause-answered g c =
     rw c.in-Some.is
     (carried_out c.args.seat.now c.seat.inside.place.table_id c.finish.new.place.table_id c.seat.inside.place.me c.enter-desk.new.place.me c.finish.new.place.me c.seat.inside.number c.seat.inside.made
-    c.entry-entry.result.seat c.enter-desk.result c.change.new.self c.in-Some.call (Ok c.in-Ok.reply) c.seat.view_is
+    c.entry-entry.result.seat c.enter-desk.result c.change.new.self c.in-Some.call (Ok c.in-Ok.made.reply) c.seat.view_is
     (record { seat = c.seat.invariant; limit = c.enter-desk.ensures.limit; has = c.enter-desk.ensures.desk; follows = c.enter-desk.ensures.follows })
     (c.finish.ensures.place ∙ c.enter-desk.ensures.place) c.in-Ok.ensures.answered c.finish.ensures.rests)
 
@@ -62,7 +62,7 @@ returns-in-Ok-clause-old g c =
     (c.in-Ok.ensures.old
     ∙ ap (λ (h : List Entry). probe_of h c.in-Some.call)
     (sym (before_newest c.finish.new.place.me c.entry-entry.result.seat c.seat.inside.number c.enter-desk.result c.change.new.self c.in-Some.call
-    c.in-Ok.reply c.in-Ok.ensures.answered c.finish.ensures.rests)))
+    c.in-Ok.made.reply c.in-Ok.ensures.answered c.finish.ensures.rests)))
 
 pub returns-in-Err-clause-answered : goal.returns-in-Err-clause-answered
 returns-in-Err-clause-answered g c =
@@ -71,3 +71,6 @@ returns-in-Err-clause-answered g c =
     _ c.enter-desk.result c.change.new.self c.in-Some.call (Err c.in-Err.refused.0) c.seat.view_is
     (record { seat = c.seat.invariant; limit = c.enter-desk.ensures.limit; has = c.enter-desk.ensures.desk; follows = c.enter-desk.ensures.follows })
     (c.leave.ensures.place ∙ c.enter-desk.ensures.place) c.in-Err.ensures.answered c.leave.ensures.rests)
+
+pub returns-in-Ok-clause-shows : goal.returns-in-Ok-clause-shows
+returns-in-Ok-clause-shows g c = shows_seen _ _ _ c.change.new.self c.in-Ok.ensures.shows c.finish.ensures.rests

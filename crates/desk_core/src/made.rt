@@ -1,0 +1,49 @@
+use crate::refusal::Refusal;
+use crate::reply::Reply;
+use probe_core::Probe;
+
+/// A change that was made.
+#[derive(Drop)]
+pub struct Made<P: Probe> {
+    pub reply: Reply,
+    /// The probe that it took out.
+    pub old: Option<P>,
+    /// Whether it changed what is shown of a service.
+    pub shows: bool,
+}
+
+/// What came of a change that a registrar was asked for.
+#[derive(Clone, Copy, Debug, PartialEq, Eq)]
+pub struct Effect {
+    pub result: Result<Reply, Refusal>,
+    /// Whether it changed what is shown of a service.
+    pub shows: bool,
+}
+
+impl<P: Probe> Made<P> {
+    ghost use Rattle.std.specs.Prelude.{◌≡◌, Ok};
+
+    /// The same without the probe, which is dropped.
+    pub fn effect(self) -> Effect
+        ensures { result ≡ record { result = Ok self.reply; shows = self.shows } }
+    {
+        Effect {
+            result: Ok(self.reply),
+            shows: self.shows,
+        }
+    }
+}
+
+impl Effect {
+    ghost use Rattle.std.specs.Prelude.{◌≡◌, Err, false};
+
+    /// A change that was refused, which shows nothing.
+    pub fn of_refusal(refusal: Refusal) -> Effect
+        ensures { result ≡ record { result = Err refusal; shows = false } }
+    {
+        Effect {
+            result: Err(refusal),
+            shows: false,
+        }
+    }
+}

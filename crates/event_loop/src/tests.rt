@@ -1,6 +1,0 @@
-mod behind;
-mod calls;
-mod ends;
-mod memory;
-mod streams;
-mod watches;

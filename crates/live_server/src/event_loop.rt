@@ -1,0 +1,30 @@
+use crate::acceptor::Acceptor;
+use crate::conversations::Conversations;
+use crate::queue::Queue;
+use crate::tally::Tally;
+use mio::net::TcpStream;
+use mio::{Events, Poll};
+use reactor::Machine;
+use std::sync::Arc;
+use std::time::Instant;
+use web_call::Call;
+
+/// A loop of a server, which holds some of the connections that come to a socket, each with its conversation.
+#[derive(Drop)]
+pub struct EventLoop<A, S, M: Machine> {
+    pub(crate) poll: Poll,
+    pub(crate) events: Events,
+    pub(crate) acceptor: A,
+    pub(crate) queue: Queue,
+    /// Whether no place was free when it last wanted to accept.
+    pub(crate) lacks_place: bool,
+    /// When it last looked for conversations whose time is up.
+    pub(crate) swept: Instant,
+    /// When what is left is given up, once all is to end.
+    pub(crate) ends_at: Option<Instant>,
+    pub(crate) conversations: Conversations<S, M>,
+    pub(crate) tally: Arc<Tally>,
+}
+
+/// A loop over the calls that come to a socket.
+pub type EventServer = EventLoop<Acceptor, TcpStream, Call>;

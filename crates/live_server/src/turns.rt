@@ -1,0 +1,343 @@
+//! The turns that a loop's connections take.
+
+ghost use Rattle.std.specs.Prelude.{◌≡◌, true, IsFalse};
+ghost use Rattle.connection_table.specs.Table.{place_at};
+ghost use Rattle.live_server.specs.Held.{held_in};
+ghost use Rattle.live_server.specs.Settled.{AreSettled, AreSettledBut, KeepsAccount, is_settled};
+
+use crate::conversations::{Conversations, Counts};
+use crate::handler::Handler;
+use crate::held::Held;
+use crate::news::News;
+use crate::places::{Taken, Vacancy};
+use connection_table::Table;
+use mio::{Registry, Token};
+use reactor::{Connection, End, Left, MOST_TAKEN, Machine, Occasion, Ready, Socket};
+use std::alloc::{AllocError, Global};
+use std::time::Instant;
+use web_call::{Turn, Why};
+
+/// The token of the first key.
+pub(crate) const FIRST_TOKEN: usize = 2;
+
+/// How many keys are looked at in a row. A turn does 64 pieces of work at most, so that a Check waits for some thousand of them.
+const SLICE: usize = 16;
+
+/// When a round of a loop is, how many changes there were by then, and whether all is to end.
+#[derive(Clone, Copy, Debug)]
+pub(crate) struct Round {
+    pub(crate) now: Instant,
+    pub(crate) changes: u64,
+    pub(crate) ends: bool,
+}
+
+impl Round {
+    /// What the news are now.
+    pub(crate) fn new(now: Instant, news: &News) -> Round {
+        Round {
+            now,
+            changes: news.changes(),
+            ends: news.has_ended(),
+        }
+    }
+}
+
+/// Whether a key holds an open Watch.
+fn is_watching<S, M: Machine>(table: &Table<Connection<S, M>>, key: usize) -> bool
+    ensures { IsFalse result → is_settled M.watches M.waiting (place_at table.now key) ≡ true }
+{
+    match table.get(key) {
+        Some(connection) => connection.is_watching(),
+        None => false,
+    }
+}
+
+/// The end of a conversation, which is counted.
+fn remove<S: Socket, M: Machine>(held: &mut Held<S, M>, counts: &mut Counts, key: usize, end: End)
+    ensures account { KeepsAccount (held_in held.old) (held_in held.new) }
+    ensures settled { AreSettledBut M.watches M.waiting key (held_in held.old)
+        → AreSettled M.watches M.waiting (held_in held.new) }
+{
+    let Some(connection) = held.remove(key) else {
+        return;
+    };
+    match end {
+        End::GivenUp(_) => counts.given_up = counts.given_up.saturating_add(1),
+        End::Done if connection.machine().is_behind() => {
+            counts.behind = counts.behind.saturating_add(1);
+        }
+        End::Done | End::PeerLeft => {}
+    }
+}
+
+impl<S: Socket, M: Machine> Conversations<S, M> {
+    ghost use Rattle.std.specs.Prelude.{◌≡◌, IfOk};
+    ghost use Rattle.live_server.specs.Loop.{empty_table, table_of};
+    ghost use Rattle.live_server.specs.Places.{limits_behind, taken_with};
+    ghost use Rattle.live_server.specs.Settled.{AreSettled, KeepsAccount};
+
+    pub(crate) fn new(alloc: Global, taken: Taken) -> Result<Conversations<S, M>, AllocError>
+        requires none { taken ≡ taken_with taken 0 0 }
+        ensures { IfOk result (λ conversations. table_of conversations ≡ empty_table (limits_behind taken)) }
+    {
+        Ok(Conversations {
+            alloc,
+            held: Held::new(alloc, taken),
+            counts: Counts {
+                given_up: 0,
+                behind: 0,
+            },
+            seen: 0,
+            looks_from: None,
+            buffer: Box::new(alloc, [0; MOST_TAKEN])?,
+        })
+    }
+
+    pub(crate) fn table(&self) -> &Table<Connection<S, M>>
+        ensures table { result.now ≡ table_of self.now }
+        ensures settled { AreSettled M.watches M.waiting result.now }
+    {
+        self.held.table()
+    }
+
+    /// Takes a place for a connection. Where none is free, all loops are woken once one is.
+    pub(crate) fn vacancy(&self) -> Option<Vacancy> {
+        self.held.vacancy()
+    }
+
+    /// Gives a place back for which no connection is held.
+    pub(crate) fn leave(&self, vacancy: Vacancy) {
+        self.held.leave(vacancy);
+    }
+
+    /// Whether a loop waits for a place for a connection, and one is free. It tells so once.
+    pub(crate) fn is_waited_for(&self) -> bool {
+        self.held.is_waited_for()
+    }
+
+    pub(crate) fn counts(&self) -> Counts {
+        self.counts
+    }
+
+    /// Whether a look for changes is not at its end.
+    pub(crate) fn is_looking(&self) -> bool {
+        self.looks_from.is_some()
+    }
+
+    /// A turn of what a key holds, which is removed where it is over.
+    fn turn_of<H: Handler<S, M>>(
+        &mut self,
+        handler: &mut H,
+        key: usize,
+        round: Round,
+        ready: Option<Ready>,
+    ) -> Option<Left>
+        requires ready { H.is_ready handler.old }
+        ensures account { KeepsAccount (table_of self.old) (table_of self.new) }
+        ensures ready { H.is_ready handler.new }
+        ensures stays { H.stays handler.old handler.new }
+    {
+        let mut occasion = Occasion {
+            now: round.now,
+            then: if round.ends { Turn::End } else { Turn::Look },
+            ready,
+        };
+        let held = &mut self.held;
+        let left = held.turn(key, self.alloc, handler, &mut *self.buffer, occasion)?;
+        if let Left::Over(end) = left {
+            remove(held, &mut self.counts, key, end);
+            return Some(left);
+        }
+        if round.ends || !is_watching(held.table(), key) || held.admit(key) {
+            return Some(left);
+        }
+        // It was told its status, and ends for want of a place.
+        occasion.then = Turn::End;
+        occasion.ready = None;
+        let left = held.turn(key, self.alloc, handler, &mut *self.buffer, occasion)?;
+        if let Left::Over(end) = left {
+            remove(held, &mut self.counts, key, end);
+        }
+        Some(left)
+    }
+
+    /// A turn of a registered connection, for what was reported of its socket, or for a change. An open Watch is ended only where it
+    /// has been told all changes.
+    pub(crate) fn turn<H: Handler<S, M>>(
+        &mut self,
+        registry: &Registry,
+        handler: &mut H,
+        key: usize,
+        round: Round,
+        ready: Option<Ready>,
+    )
+        requires ready { H.is_ready handler.old }
+        ensures account { KeepsAccount (table_of self.old) (table_of self.new) }
+        ensures ready { H.is_ready handler.new }
+        ensures stays { H.stays handler.old handler.new }
+    {
+        if !round.ends || !is_watching(self.table(), key) {
+            return self.turn_once(registry, handler, key, round, ready);
+        }
+        let waited_for = if self.may_look(key) { None } else { ready };
+        let still = Round {
+            ends: false,
+            ..round
+        };
+        self.turn_once(registry, handler, key, still, waited_for);
+        if !self.is_told(key) {
+            return;
+        }
+        self.turn_once(registry, handler, key, round, ready);
+    }
+
+    fn turn_once<H: Handler<S, M>>(
+        &mut self,
+        registry: &Registry,
+        handler: &mut H,
+        key: usize,
+        round: Round,
+        ready: Option<Ready>,
+    )
+        requires ready { H.is_ready handler.old }
+        ensures account { KeepsAccount (table_of self.old) (table_of self.new) }
+        ensures ready { H.is_ready handler.new }
+        ensures stays { H.stays handler.old handler.new }
+    {
+        match self.turn_of(handler, key, round, ready) {
+            Some(Left::Ready) => self.report(registry, key),
+            Some(Left::Waits | Left::Over(_)) | None => {}
+        }
+    }
+
+    /// Takes in a connection that was accepted, in this place, and takes its first turn; where it is not over it is registered. Where it
+    /// can't be taken in, it is closed, its place is given back, and it counts as no conversation.
+    pub(crate) fn take_in<H: Handler<S, M>>(
+        &mut self,
+        registry: &Registry,
+        handler: &mut H,
+        stream: S,
+        vacancy: Vacancy,
+        round: Round,
+    ) -> bool
+        requires ready { H.is_ready handler.old }
+        ensures account { KeepsAccount (table_of self.old) (table_of self.new) }
+        ensures ready { H.is_ready handler.new }
+        ensures stays { H.stays handler.old handler.new }
+    {
+        let talking = self.held.talking();
+        let Some(connection) = handler.open(self.alloc, stream, round.now, talking) else {
+            self.held.leave(vacancy);
+            return false;
+        };
+        let Some(key) = self.held.insert(connection, vacancy) else {
+            return false;
+        };
+        match self.turn_of(handler, key, round, None) {
+            Some(Left::Waits | Left::Ready) => self.report(registry, key),
+            Some(Left::Over(_)) | None => {}
+        }
+        true
+    }
+
+    /// Looks for what has changed, in slices. A look that comes to its end behind a change begins anew. Once all is to end each
+    /// connection has a turn for that.
+    pub(crate) fn look<H: Handler<S, M>>(
+        &mut self,
+        registry: &Registry,
+        handler: &mut H,
+        round: Round,
+    )
+        requires ready { H.is_ready handler.old }
+        ensures account { KeepsAccount (table_of self.old) (table_of self.new) }
+        ensures ready { H.is_ready handler.new }
+        ensures stays { H.stays handler.old handler.new }
+    {
+        self.begin_look(round);
+        for _ in 0..SLICE {
+            let Some(key) = self.next_look() else {
+                break;
+            };
+            if round.ends || self.may_look(key) {
+                self.turn(registry, handler, key, round, None);
+            }
+        }
+        self.begin_look(round);
+    }
+
+    /// Begins a look where none is under way and something has changed since the last began.
+    fn begin_look(&mut self, round: Round)
+        ensures { table_of self.new ≡ table_of self.old }
+    {
+        if self.looks_from.is_none() && round.changes != self.seen {
+            self.seen = round.changes;
+            self.looks_from = Some(0);
+        }
+    }
+
+    /// The next key of a look that holds a connection.
+    fn next_look(&mut self) -> Option<usize>
+        ensures { table_of self.new ≡ table_of self.old }
+    {
+        let key = self.table().next_key(self.looks_from?);
+        self.looks_from = key.and_then(|key| key.checked_add(1));
+        key
+    }
+
+    /// Whether a key holds an open Watch to which all is sent.
+    fn may_look(&self, key: usize) -> bool {
+        match self.table().get(key) {
+            Some(connection) => connection.may_look(),
+            None => false,
+        }
+    }
+
+    /// Whether a key holds an open Watch that has been told all changes.
+    fn is_told(&self, key: usize) -> bool {
+        match self.table().get(key) {
+            Some(connection) => connection.may_look() && !connection.gave_way(),
+            None => false,
+        }
+    }
+
+    /// Ends the conversations whose time is up, or all of them.
+    pub(crate) fn sweep(&mut self, now: Instant, is_over: bool)
+        ensures account { KeepsAccount (table_of self.old) (table_of self.new) }
+    {
+        let mut from = 0;
+        for _ in 0..self.table().len() {
+            let Some(key) = self.table().next_key(from) else {
+                return;
+            };
+            self.end_if_late(key, now, is_over);
+            from = key.saturating_add(1);
+        }
+    }
+
+    fn end_if_late(&mut self, key: usize, now: Instant, is_over: bool)
+        ensures account { KeepsAccount (table_of self.old) (table_of self.new) }
+    {
+        if let Some(connection) = self.table().get(key) {
+            if is_over || connection.is_late(now) {
+                let end = connection.late_end();
+                self.end(key, end);
+            }
+        }
+    }
+
+    /// Has the poll report the connection's socket. Where that fails its conversation is given up, as one that can't read.
+    fn report(&mut self, registry: &Registry, key: usize)
+        ensures account { KeepsAccount (table_of self.old) (table_of self.new) }
+    {
+        let token = Token(key.saturating_add(FIRST_TOKEN));
+        if self.held.report(registry, key, token).is_err() {
+            self.end(key, End::GivenUp(Why::Read));
+        }
+    }
+
+    fn end(&mut self, key: usize, end: End)
+        ensures account { KeepsAccount (table_of self.old) (table_of self.new) }
+    {
+        remove(&mut self.held, &mut self.counts, key, end);
+    }
+}

@@ -1,0 +1,5 @@
+pub mod CallingLemmas
+pub mod ConnectionLemmas
+pub mod MovedLemmas
+pub mod TalkingLemmas
+pub mod TurnLemmas

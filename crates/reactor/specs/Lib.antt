@@ -1,0 +1,9 @@
+pub mod Attendant
+pub mod Calling
+pub mod CallingLaws
+pub mod Connection
+pub mod Link
+pub mod Moved
+pub mod Talking
+pub mod TalkingLaws
+pub mod Turn

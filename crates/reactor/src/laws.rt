@@ -1,0 +1,28 @@
+ghost use Rattle.desk_core.specs.Watch.{IsOlder};
+ghost use Rattle.reactor.specs.Calling.{IsTransitive};
+ghost use Rattle.reactor.specs.Moved.{Moved, followed_by, nothing_moved};
+ghost use Rattle.web_call.specs.declared.bell.Turn.{Turn};
+
+use crate::host::Host;
+use crate::machine::Machine;
+
+/// Turn upon turn of a machine comes to one conversation, whatever others made of its host between its turns.
+///
+/// Of a call over a door whose histories are transitive (`HasSpanned`) it says, with `whole_calls` of `web_call`, what was sent: a front
+/// of the answer to the request, or all of it, at histories that the door had, in turn. Of a session (`HasSaid`) it says that its lines
+/// are those of the bytes that came, each met with its answer, and what was sent the lines of these.
+pub fn turns_chain<M: Machine, H: Host<M>>()
+    ensures begins { (host : H) (machine : M) → H.spans host host machine machine nothing_moved }
+    ensures waits { (first now later : H) (machine machine_now : M) (moved : Moved)
+        → H.spans first now machine machine_now moved → H.stays now later
+        → H.spans first later machine machine_now moved }
+    ensures goes_on { (turn : Turn) (first now later : H) (machine mid machine_now : M)
+        (moved more : Moved) → H.spans first now machine mid moved
+        → H.goes turn now later mid machine_now more
+        → H.spans first later machine machine_now (followed_by moved more) }
+{}
+
+/// A history that goes on from one that goes on from another goes on from that one too, as many turns of a call ask it of its door.
+pub fn histories_chain()
+    ensures { IsTransitive IsOlder }
+{}

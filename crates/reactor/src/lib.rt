@@ -1,0 +1,51 @@
+//! Conversations over connections, each taken as far as it goes without waiting, so that one thread holds thousands of them.
+//!
+//! # A caller
+//!
+//! ```rust
+//! #![tactic(auto)]
+//!
+//! ghost use Rattle.std.specs.Prelude.{◌≡◌};
+//!
+//! use reactor::{Fate, Link, Stream, turn};
+//! use std::alloc::Global;
+//! use web_call::{Call, Door, Turn};
+//!
+//! /// Takes a call as far as it goes without waiting. It says whether its connection is to be closed.
+//! pub fn is_over<S: Stream, D: Door>(
+//!     alloc: Global,
+//!     link: &mut Link<S>,
+//!     door: &mut D,
+//!     call: &mut Call,
+//! ) -> bool
+//!     ensures names { D.names door.new ≡ D.names door.old }
+//! {
+//!     let mut buffer = [0u8; 512];
+//!     link.renew();
+//!     let turned = turn(alloc, link, door, call, &mut buffer, Turn::Look);
+//!     matches!(turned.fate, Fate::Done | Fate::GivenUp(_))
+//! }
+//! ```
+#![tactic(auto)]
+
+mod calling;
+mod connection;
+mod host;
+mod laws;
+mod link;
+mod machine;
+mod socket;
+mod stream;
+mod talking;
+mod turning;
+
+pub use calling::MOST_TAKEN;
+pub use connection::{Connection, End, Left, Occasion, Ready};
+pub use host::{Host, Step};
+pub use laws::{histories_chain, turns_chain};
+pub use link::{Last, Link};
+pub use machine::Machine;
+pub use socket::Socket;
+pub use stream::Stream;
+pub use talking::Attendant;
+pub use turning::{Fate, Turned, turn};

@@ -1,0 +1,72 @@
+use crate::sessions::tended;
+use crate::streams::Pair;
+use crate::turns::turn_once;
+use control::Session;
+use control::one_thread::OneThread;
+use reactor::{Fate, Host, Link, Machine};
+use std::alloc::Global;
+use std::io::ErrorKind;
+use std::test::Fail;
+use test_support::requests::CHECK_OF_EMPTY;
+use test_support::{Fault, FaultyReader, FaultyWriter, same};
+use web_call::staged::Staged;
+use web_call::{Call, Turn, Why};
+
+/// The faulty read, or else the faulty write, counted from 1, what it does, and the fate of a call and of a session, each with how many
+/// bytes were sent.
+type Row = (usize, usize, Fault, (Fate, usize), (Fate, usize));
+
+const RESET: Fault = Fault::Error(ErrorKind::ConnectionReset);
+
+const WAITS: Fault = Fault::Error(ErrorKind::WouldBlock);
+
+const INTERRUPTED: Fault = Fault::Error(ErrorKind::Interrupted);
+
+const NO_READ: Fate = Fate::GivenUp(Why::Read);
+
+const NO_WRITE: Fate = Fate::GivenUp(Why::Write);
+
+/// A session has answered two lines by its second read, and one by its second write.
+const ROWS: [Row; 8] = [
+    (2, 0, Fault::Nothing, (NO_READ, 0), (Fate::Done, 20)),
+    (2, 0, RESET, (NO_READ, 0), (NO_READ, 20)),
+    (2, 0, WAITS, (Fate::Rests, 0), (Fate::Rests, 20)),
+    (2, 0, INTERRUPTED, (Fate::GoesOn, 0), (Fate::GoesOn, 20)),
+    (0, 2, Fault::Nothing, (NO_WRITE, 10), (NO_WRITE, 10)),
+    (0, 2, RESET, (NO_WRITE, 10), (NO_WRITE, 10)),
+    (0, 2, WAITS, (Fate::Rests, 10), (Fate::Rests, 10)),
+    (0, 2, INTERRUPTED, (Fate::GoesOn, 10), (Fate::GoesOn, 10)),
+];
+
+/// The fate of the machine in its first turn, and how many bytes it sent in writes of ten at most.
+fn first_turn<M: Machine, H: Host<M>>(
+    alloc: Global,
+    bytes: &[u8],
+    row: &Row,
+    host: &mut H,
+    machine: &mut M,
+) -> (Fate, usize) {
+    let mut link = Link::new(Pair {
+        reader: FaultyReader::new(bytes, row.0, row.2),
+        writer: FaultyWriter::new(alloc, 10, row.1, row.2),
+    });
+    let fate = turn_once(alloc, &mut link, host, machine, Turn::Look).fate;
+    (fate, link.stream().writer.written().len())
+}
+
+#[test]
+fn a_turn_ends_with_its_reader_and_its_writer(rt: HostRuntime) -> Result<(), Fail> {
+    let alloc = rt.alloc();
+    let staged = Staged::new(alloc)?;
+    for row in &ROWS {
+        let mut call = Call::new(alloc)?;
+        let called = first_turn(alloc, CHECK_OF_EMPTY, row, &mut staged.door(), &mut call);
+        let mut session = Session::new(alloc)?;
+        let mut console = OneThread::new(alloc)?;
+        let mut host = tended(&mut console);
+        let lines = b"check a\ncheck a\n";
+        let talked = first_turn(alloc, lines, row, &mut host, &mut session);
+        same(&(called, talked), &(row.3, row.4), row)?;
+    }
+    Ok(())
+}

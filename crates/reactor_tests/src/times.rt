@@ -1,0 +1,54 @@
+//! The time that a connection has.
+
+use crate::streams::{Manner, filled, wire};
+use reactor::{Connection, End, MOST_TAKEN, Occasion};
+use std::test::Fail;
+use std::time::{Duration, Instant};
+use test_support::requests::WATCH_OF_EMPTY;
+use test_support::same;
+use web_call::staged::Staged;
+use web_call::{Call, Turn, Why};
+
+/// What came of a request by the one turn of a connection, whether its peer takes nothing, how many milliseconds later it is looked at,
+/// and whether it is late by then.
+const TIMES: [(&[u8], bool, u64, bool); 7] = [
+    (b"", false, 9_999, false),
+    (b"", false, 10_000, true),
+    (b"POST /", true, 9_999, false),
+    (b"POST /", true, 10_000, true),
+    (WATCH_OF_EMPTY, true, 29_999, false),
+    (WATCH_OF_EMPTY, true, 30_000, true),
+    (WATCH_OF_EMPTY, false, 86_400_000, false),
+];
+
+#[test]
+fn a_request_has_ten_seconds_and_a_peer_that_takes_nothing_thirty(
+    rt: HostRuntime,
+) -> Result<(), Fail> {
+    let alloc = rt.alloc();
+    let staged = Staged::new(alloc)?;
+    let mut buffer = [0u8; MOST_TAKEN];
+    let now = Instant::now(&rt)?;
+    for (bytes, is_full, millis, is_late) in TIMES {
+        let link = filled(wire(alloc, bytes, Manner::WHOLE, Manner::WHOLE)?, is_full);
+        let mut connection = Connection::new(link.into_stream(), Call::new(alloc)?, now);
+        let occasion = Occasion {
+            now,
+            then: Turn::Look,
+            ready: None,
+        };
+        let _ = connection.turn(alloc, &mut staged.door(), &mut buffer, occasion);
+        let then = now.checked_add(Duration::from_millis(millis));
+        let found = then.map(|then| connection.is_late(then));
+        same(&found, &Some(is_late), &millis)?;
+        let why = if bytes == WATCH_OF_EMPTY {
+            Why::Write
+        } else {
+            Why::Read
+        };
+        if is_late {
+            same(&connection.late_end(), &End::GivenUp(why), &millis)?;
+        }
+    }
+    Ok(())
+}

@@ -1,0 +1,130 @@
+//! Watches over a registry that forgets.
+
+use crate::streams::{Manner, Wire, filled, wire};
+use crate::turns::turn_once;
+use desk_core::{Catalogue, Desk, Keep, Setting, Slot};
+use probe_core::Manual;
+use reactor::Fate;
+use std::alloc::{AllocError, Global};
+use std::test::Fail;
+use test_support::requests::WATCH_OF_EMPTY;
+use test_support::same;
+use web_call::{Call, DeskDoor, Outcome, Turn};
+
+/// The last sixteen: in tests much is soon forgotten.
+#[derive(Drop)]
+struct KeepSixteen;
+
+impl Keep for KeepSixteen {
+    ghost use Rattle.std.specs.Prelude.{Some};
+
+    ghost kept = { Some 16 };
+
+    fn kept() -> Option<u32> {
+        Some(16)
+    }
+}
+
+/// A registry of the empty name, and a Watch of that.
+#[derive(Drop)]
+struct Scene {
+    alloc: Global,
+    catalogue: Catalogue,
+    desk: Desk<Manual, KeepSixteen>,
+    call: Call,
+}
+
+impl Scene {
+    /// The name is serving, and nothing is read yet.
+    fn new(alloc: Global) -> Result<Scene, Fail> {
+        let mut names = Vec::new(alloc);
+        names.push(String::new(alloc))?;
+        let mut scene = Scene {
+            alloc,
+            catalogue: Catalogue::new(alloc, names)?,
+            desk: Desk::new(alloc, 1_000),
+            call: Call::new(alloc)?,
+        };
+        if let Some(slot) = Slot::new(0) {
+            let _ = scene.desk.register(0, slot, Manual::new());
+        }
+        scene.set(Setting::Up);
+        Ok(scene)
+    }
+
+    fn wire(&self) -> Result<Wire<'static>, AllocError> {
+        wire(self.alloc, WATCH_OF_EMPTY, Manner::WHOLE, Manner::WHOLE)
+    }
+
+    fn set(&mut self, setting: Setting) {
+        if let Some(slot) = Slot::new(0) {
+            let _ = self.desk.set(0, slot, setting);
+        }
+    }
+
+    fn turn(&mut self, wire: &mut Wire<'_>, then: Turn) -> Fate {
+        let mut door = DeskDoor::new(&self.desk, &self.catalogue);
+        turn_once(self.alloc, wire, &mut door, &mut self.call, then).fate
+    }
+}
+
+/// What is set before a turn of an open Watch, what the turn may do, its fate, and how many messages were sent whole by then.
+type Step = (Setting, Turn, Fate, u32);
+
+/// An open Watch rests with nothing to be told, is told each change, and is ended at a turn of its end.
+const STEPS: [Step; 6] = [
+    (Setting::Up, Turn::Look, Fate::Rests, 1),
+    (Setting::Up, Turn::Look, Fate::Rests, 1),
+    (Setting::Down, Turn::Look, Fate::Rests, 2),
+    (Setting::Down, Turn::Look, Fate::Rests, 2),
+    (Setting::Up, Turn::Look, Fate::Rests, 3),
+    // a change that comes with the end is not looked for, and the trailers are a frame
+    (Setting::Down, Turn::End, Fate::Done, 4),
+];
+
+#[test]
+fn a_watch_is_told_each_change_by_turns(rt: HostRuntime) -> Result<(), Fail> {
+    let mut scene = Scene::new(rt.alloc())?;
+    let mut link = scene.wire()?;
+    for (setting, then, fate, frames) in STEPS {
+        scene.set(setting);
+        let found = scene.turn(&mut link, then);
+        same(&(found, scene.call.frames()), &(fate, frames), &frames)?;
+    }
+    let expected = Some(Outcome::Watched { messages: 3 });
+    same(&scene.call.outcome(), &expected, &"the end")
+}
+
+/// The first three statuses, and the one that waited for its client, are told; the end is that of any Watch.
+const TOLD: &[u8] = b"HTTP/1.1 200 OK\r\nconnection: close\r\n\
+    content-type: application/grpc-web+proto\r\ntransfer-encoding: chunked\r\n\r\n\
+    7\r\n\0\0\0\0\x02\x08\x01\r\n\
+    7\r\n\0\0\0\0\x02\x08\x02\r\n\
+    7\r\n\0\0\0\0\x02\x08\x01\r\n\
+    7\r\n\0\0\0\0\x02\x08\x02\r\n\
+    2f\r\n\x80\0\0\0\x2agrpc-status:14\r\ngrpc-message:watch ended\r\n\r\n0\r\n\r\n";
+
+#[test]
+fn a_watch_whose_client_takes_nothing_is_behind_once_it_takes_again(
+    rt: HostRuntime,
+) -> Result<(), Fail> {
+    let mut scene = Scene::new(rt.alloc())?;
+    let mut link = scene.wire()?;
+    for number in 0..103u8 {
+        if number == 3 {
+            link = filled(link, true);
+        }
+        same(&scene.turn(&mut link, Turn::Look), &Fate::Rests, &number)?;
+        scene.set(if number % 2 == 0 {
+            Setting::Down
+        } else {
+            Setting::Up
+        });
+    }
+    link = filled(link, false);
+    let fate = scene.turn(&mut link, Turn::Look);
+    let expected = (Fate::Done, Some(Outcome::Behind { messages: 4 }));
+    same(&(fate, scene.call.outcome()), &expected, &"its end")?;
+    let told = link.stream().writer.taken.as_slice();
+    same(&told, &TOLD, &"what it was told")
+}
