@@ -1,3 +1,4 @@
+pub mod CopyLemmas
 pub mod GatherLemmas
 pub mod NewSeats
 pub mod NotingLemmas

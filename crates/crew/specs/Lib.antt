@@ -1,4 +1,5 @@
 pub mod CommandRun
+pub mod CopyingDoor
 pub mod CrewWhy
 pub mod Answering
 pub mod Gather

@@ -1,11 +1,12 @@
 ghost use Rattle.hall.specs.Seats.{IsOf};
 
 use desk_core::{
-    Behind, Call, Catalogue, Console, Effect, Extent, Keep, KeepAll, Registrar, Watch,
+    Behind, Call, Catalogue, Console, Effect, Extent, Keep, KeepAll, Registrar, Transcript, Watch,
 };
 use hall::{Hall, Seat};
 use health_wire::Serving;
 use probe_core::Probe;
+use std::alloc::AllocError;
 use std::sync::Wait;
 use web_call::Door;
 
@@ -19,9 +20,13 @@ pub struct HallDoor<'a, R: Wait, P: Probe, K: Keep = KeepAll> {
 }
 
 impl<'a, R: Wait, P: Probe, K: Keep> HallDoor<'a, R, P, K> {
-    ghost use Rattle.std.specs.Prelude.{◌≡◌};
+    ghost use Rattle.std.specs.Prelude.{◌≡◌, List, OnOk, OnErr};
+    ghost use Rattle.desk_core.specs.declared.change.Change.{Change};
+    ghost use Rattle.desk_core.specs.Changes.{changes_of};
+    ghost use Rattle.desk_core.specs.Legal.{IsLegal};
+    ghost use Rattle.desk_core.specs.Transcript.{IsCopy, IsCopyWithin};
     ghost use Rattle.hall.specs.Seats.{IsOf};
-    ghost use Rattle.crew.specs.HallDoor.{door_hall, door_seat};
+    ghost use Rattle.crew.specs.HallDoor.{door_hall, door_seat, StaysAt};
 
     /// The seat is one of this hall's. A Check and `board` wait for nobody; `open`, `step`, `change` and `extent` wait for the seat's turn.
     pub fn new(rt: &'a R, hall: &'a Hall<P, K>, seat: &'a mut Seat<P, K>) -> HallDoor<'a, R, P, K>
@@ -32,15 +37,31 @@ impl<'a, R: Wait, P: Probe, K: Keep> HallDoor<'a, R, P, K> {
     {
         HallDoor { rt, hall, seat }
     }
+
+    /// How many changes of its seat got a reply. The seat keeps that its history is legal, and here a caller learns it.
+    pub(crate) fn made(&self) -> u64
+        ensures { IsLegal (door_seat self.now).seen }
+    {
+        self.seat.made()
+    }
+
+    /// Takes over into the copy what the status changes are by now. It waits for the seat's turn.
+    pub(crate) fn copy_to(&mut self, copy: &mut Transcript<K>) -> Result<(), AllocError>
+        requires { IsCopyWithin copy.old (changes_of (door_seat self.old).seen) }
+        ensures stays { StaysAt self.old self.new }
+        ensures legal { IsLegal (door_seat self.new).seen }
+        ensures copied { OnOk result
+            (IsCopy copy.new (changes_of (door_seat self.new).seen)) }
+        ensures left { (changes : List Change) → IsCopy copy.old changes
+            → OnErr result (IsCopy copy.new changes) }
+    {
+        self.hall.copy_to(self.rt, self.seat, copy)
+    }
 }
 
 impl<'a, R: Wait, P: Probe, K: Keep> Door for HallDoor<'a, R, P, K> {
-    ghost use Rattle.std.specs.Prelude.{[], ◌++◌, refl};
-    ghost use Rattle.std.proofs.Common.{ap, sym, ◌∙◌};
-    ghost use Rattle.std.proofs.lemmas.List.{append_assoc};
     ghost use Rattle.desk_core.specs.Watch.{IsOlder};
-    ghost use Rattle.hall.specs.Seats.{with_seen};
-    ghost use Rattle.crew.specs.HallDoor.{door_hall, door_seat, StaysAt};
+    ghost use Rattle.crew.specs.HallDoor.{door_hall, door_seat, StaysAt, stays_same, stays_then};
 
     ghost names = { λ door. (door_hall door).names };
 
@@ -52,27 +73,9 @@ impl<'a, R: Wait, P: Probe, K: Keep> Door for HallDoor<'a, R, P, K> {
 
     ghost stays = { StaysAt };
 
-    ghost stays_self = { λ a. record {
-      reference = refl;
-      hall = refl;
-      looked = record { same = refl; begins = record { newer = []; is = refl }; own = refl };
-    } };
+    ghost stays_self = { stays_same };
 
-    ghost stays_on = { λ a b c p q.
-        let early = p.looked.begins in
-        let late = q.looked.begins in
-        record {
-          reference = q.reference ∙ p.reference;
-          hall = q.hall ∙ p.hall;
-          looked = record {
-            same = q.looked.same ∙ ap (λ seat. with_seen seat (door_seat c).seen) p.looked.same;
-            begins = record {
-              newer = late.newer ++ early.newer;
-              is = late.is ∙ (ap (λ older. late.newer ++ older) early.is ∙ sym (append_assoc late.newer early.newer (door_seat a).seen));
-            };
-            own = q.looked.own ∙ p.looked.own;
-          };
-        } };
+    ghost stays_on = { stays_then };
 
     fn check(&mut self, name: &str) -> Option<Serving> {
         self.hall.check(self.seat, name).status

@@ -51,6 +51,7 @@
 
 mod call_end;
 mod command_run;
+mod copying_door;
 mod crew_why;
 mod door;
 mod gathering;
@@ -65,6 +66,7 @@ mod worker;
 
 pub use call_end::CallEnd;
 pub use command_run::carry_out;
+pub use copying_door::CopyingDoor;
 pub use crew_why::CrewWhy;
 pub use door::HallDoor;
 pub use gathering::gather;

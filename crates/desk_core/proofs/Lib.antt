@@ -16,4 +16,5 @@ pub mod RefreshLemmas
 pub mod SlotLemmas
 pub mod StatusLemmas
 pub mod ToldLemmas
+pub mod TranscriptLemmas
 pub mod WatchLemmas

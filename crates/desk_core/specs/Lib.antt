@@ -16,4 +16,5 @@ pub mod Seats
 pub mod Shut
 pub mod Slots
 pub mod Status
+pub mod Transcript
 pub mod Watch

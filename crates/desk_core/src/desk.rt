@@ -14,10 +14,11 @@ use crate::reply::{Reply, reply_to_event, reply_to_register, reply_to_retire};
 use crate::slot::Slot;
 use crate::slots::Slots;
 use crate::status_word::StatusWord;
+use crate::transcript::Transcript;
 use crate::watch::{Behind, Watch};
 use health_wire::Serving;
 use probe_core::{Probe, Rule};
-use std::alloc::Global;
+use std::alloc::{AllocError, Global};
 use std::marker::{Model, PhantomData};
 
 /// The registry of one thread: it owns the probes of sixteen slots, and the journal of all changes, of which it keeps as many as
@@ -55,7 +56,8 @@ impl<P: Probe, K: Keep> Model for Desk<P, K> {
 }
 
 impl<P: Probe, K: Keep> Desk<P, K> {
-    ghost use Rattle.std.specs.Prelude.{◌≡◌, ◌≢◌, ◌<◌, ◌≤◌, ◌↔◌, ℕ, length, None, Ok, Err, IfSome, IfNone, IfOk, IfErr, IsErr, IsTrue, OnOk, OnErr, MatchResult};
+    ghost use Rattle.desk_core.specs.declared.change.Change.{Change};
+    ghost use Rattle.std.specs.Prelude.{◌≡◌, ◌≢◌, ◌<◌, ◌≤◌, ◌↔◌, ℕ, List, length, None, Ok, Err, IfSome, IfNone, IfOk, IfErr, IsErr, IsTrue, OnOk, OnErr, MatchResult};
     ghost use Rattle.std.specs.Option.{option_map};
     ghost use Rattle.desk_core.specs.Past.{past};
     ghost use Rattle.desk_core.specs.Mutation.{rule_of};
@@ -64,6 +66,7 @@ impl<P: Probe, K: Keep> Desk<P, K> {
     ghost use Rattle.desk_core.specs.Legal.{IsLegal, IsLawfulCall};
     ghost use Rattle.desk_core.specs.Status.{checked, shown};
     ghost use Rattle.desk_core.specs.Changes.{Shows, changes_of};
+    ghost use Rattle.desk_core.specs.Transcript.{IsCopy, IsCopyWithin};
     ghost use Rattle.desk_core.specs.Watch.{IsBehind, opened, stepped};
     ghost use Rattle.tail.specs.Tail.{kept_of, most_held};
     ghost use Rattle.desk_core.specs.Board.{board_of};
@@ -322,6 +325,18 @@ impl<P: Probe, K: Keep> Desk<P, K> {
         ensures legal { IsLegal (past self.now.journal) }
     {
         watch.step(self.history.changes())
+    }
+
+    /// Takes over into the copy what has changed since it was made. Where memory runs out, the copy is still of what it was.
+    pub fn copy_to(&self, copy: &mut Transcript<K>) -> Result<(), AllocError>
+        requires { IsCopyWithin copy.old (changes_of (past self.now.journal)) }
+        ensures copied { OnOk result
+            (IsCopy copy.new (changes_of (past self.now.journal))) }
+        ensures left { (changes : List Change) → IsCopy copy.old changes
+            → OnErr result (IsCopy copy.new changes) }
+        ensures legal { IsLegal (past self.now.journal) }
+    {
+        copy.follow(self.history.changes())
     }
 }
 

@@ -50,6 +50,7 @@ mod slot;
 mod slots;
 mod status;
 mod status_word;
+mod transcript;
 mod watch;
 
 pub use board::{board_entries, board_status};
@@ -75,4 +76,5 @@ pub use registrar::{Registrar, carry_out};
 pub use registration::{Handed, Registered};
 pub use reply::Reply;
 pub use slot::Slot;
+pub use transcript::Transcript;
 pub use watch::{Behind, Watch};

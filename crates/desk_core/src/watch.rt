@@ -30,7 +30,8 @@ impl Model for Watch {
 }
 
 impl Watch {
-    ghost use Rattle.std.specs.Prelude.{◌≡◌, ◌↔◌, length, IsErr, IfOk, OnOk, OnErr};
+    ghost use Rattle.std.specs.Prelude.{◌≡◌, ◌+◌, ◌<◌, ◌^◌, ◌↔◌, List, drop, length, IsErr, IsNone, IsSome, IfOk, IfSome, OnOk, OnErr};
+    ghost use Rattle.desk_core.specs.declared.change.Change.{Change};
     ghost use Rattle.desk_core.specs.Watch.{IsBehind, opened, answer_of, stepped};
 
     pub(crate) fn new(changes: &Tail<Change>, slot: Option<Slot>) -> Watch
@@ -71,12 +72,31 @@ impl Watch {
         ensures behind { IsErr result ↔ IsBehind changes.now.keep changes.now.items self.old }
         ensures stays { OnErr result (self.new ≡ self.old) }
     {
-        let len = changes.len();
+        self.pass(changes.since(self.cursor), changes.len())
+    }
+
+    /// The same as `step` over what the changes are from the cursor on, where none of those is forgotten, of so many in all.
+    pub(crate) fn pass(
+        &mut self,
+        rest: Option<&[Change]>,
+        len: u64,
+    ) -> Result<Option<Serving>, Behind>
+        requires few { IfSome rest (λ r. 0 < length r.now
+            → self.old.cursor + length r.now < 2 ^ 63) }
+        ensures status { (changes : List Change) → IfSome rest.entry (λ r.
+            r.now ≡ drop self.old.cursor changes)
+            → IfOk result (λ status. status ≡ answer_of changes self.old) }
+        ensures watch { (changes : List Change) → len ≡ length changes → IfSome rest.entry (λ r.
+            r.now ≡ drop self.old.cursor changes)
+            → OnOk result (self.new ≡ (stepped changes self.old).1) }
+        ensures behind { IsErr result ↔ (IsSome self.old.slot × IsNone rest.entry) }
+        ensures stays { OnErr result (self.new ≡ self.old) }
+    {
         let Some(slot) = self.slot else {
             self.cursor = self.cursor.max(len);
             return Ok(None);
         };
-        let Some(rest) = changes.since(self.cursor) else {
+        let Some(rest) = rest else {
             return Err(Behind);
         };
         match first_of(rest, slot) {

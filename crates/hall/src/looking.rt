@@ -9,18 +9,23 @@ use crate::hall::Hall;
 use crate::note::Note;
 use crate::seat::Seat;
 use crate::steps::{Look, Meet, Tell};
-use desk_core::{Behind, Extent, Keep, KeepAll, Slot, Watch, board_entries, board_status};
+use desk_core::{
+    Behind, Extent, Keep, KeepAll, Slot, Transcript, Watch, board_entries, board_status,
+};
 use health_wire::Serving;
 use probe_core::Probe;
+use std::alloc::AllocError;
 use std::sync::Wait;
 
 /// The calls that change nothing.
 impl<P: Probe, K: Keep> Hall<P, K> {
-    ghost use Rattle.std.specs.Prelude.{◌≡◌, ◌-◌, ◌↔◌, length, IfOk, IsErr, OnOk, OnErr};
+    ghost use Rattle.std.specs.Prelude.{◌≡◌, ◌-◌, ◌↔◌, List, length, IfOk, IsErr, OnOk, OnErr};
+    ghost use Rattle.desk_core.specs.declared.change.Change.{Change};
     ghost use Rattle.desk_core.specs.Board.{board_of};
     ghost use Rattle.desk_core.specs.Catalogue.{slot_of};
     ghost use Rattle.desk_core.specs.Changes.{changes_of};
     ghost use Rattle.desk_core.specs.Status.{shown, status_map};
+    ghost use Rattle.desk_core.specs.Transcript.{IsCopy, IsCopyWithin};
     ghost use Rattle.desk_core.specs.Watch.{IsBehind, IsOlder, opened, stepped};
     ghost use Rattle.hall.specs.Seats.{IsOf, GoesOn, own_calls};
     ghost use Rattle.tail.specs.Tail.{forgotten};
@@ -107,6 +112,28 @@ impl<P: Probe, K: Keep> Hall<P, K> {
         let status = desk.step_kept(watch);
         leave(&self.table.shared, &mut seat.place, desk);
         status
+    }
+
+    /// Takes over into the copy what the status changes are by now. Where memory runs out, the copy is still of what it was. It waits
+    /// for the seat's turn.
+    pub fn copy_to<R: Wait>(
+        &self,
+        rt: &R,
+        seat: &mut Seat<P, K>,
+        copy: &mut Transcript<K>,
+    ) -> Result<(), AllocError>
+        requires seat { IsOf self.now seat.old }
+        requires copy { IsCopyWithin copy.old (changes_of seat.old.seen) }
+        ensures goes_on { GoesOn seat.old seat.new }
+        ensures kept { own_calls seat.new ≡ own_calls seat.old }
+        ensures copied { OnOk result (IsCopy copy.new (changes_of seat.new.seen)) }
+        ensures left { (changes : List Change) → IsCopy copy.old changes
+            → OnErr result (IsCopy copy.new changes) }
+    {
+        let desk = enter(rt, &self.table.shared, &mut seat.place);
+        let copied = desk.copy_to(copy);
+        leave(&self.table.shared, &mut seat.place, desk);
+        copied
     }
 
     /// Writes down what the seat has seen, for another seat.

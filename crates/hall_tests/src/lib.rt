@@ -6,6 +6,8 @@ mod changes;
 #[cfg(test)]
 mod closes;
 #[cfg(test)]
+mod copies;
+#[cfg(test)]
 mod crews;
 #[cfg(test)]
 mod doors;

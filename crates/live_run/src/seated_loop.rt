@@ -2,8 +2,8 @@ ghost use Rattle.std.specs.List.{All};
 ghost use Rattle.hall.specs.Seats.{IsOf};
 ghost use Rattle.live_run.specs.Loops.{HasServed, HaveServed};
 
-use crew::HallDoor;
-use desk_core::{Keep, KeepAll};
+use crew::{CopyingDoor, HallDoor};
+use desk_core::{Keep, KeepAll, Transcript};
 use hall::{Hall, Seat};
 use live_server::{EventServer, News};
 use probe_core::Probe;
@@ -29,7 +29,9 @@ fn serve_loop<R: Wait + Clock, P: Probe, K: Keep>(
     requires { IsOf hall.now seated.old.seat }
     ensures { HasServed seated.old seated.new }
 {
-    let mut door = HallDoor::new(rt, hall, &mut seated.seat);
+    let mut copy = Transcript::new(seated.server.allocator());
+    let door = HallDoor::new(rt, hall, &mut seated.seat);
+    let mut door = CopyingDoor::new(door, &mut copy);
     seated.server.run(rt, &mut door, news);
 }
 

@@ -36,6 +36,10 @@ impl<D: Door> Handler<TcpStream, Call> for D {
         connection.turn(alloc, self, buffer, visit.occasion)
     }
 
+    fn renew(&mut self) {
+        Door::renew(self);
+    }
+
     ghost stays_self = { λ a. (refl, D.stays_self a) };
 
     ghost stays_on = { λ a b c p q. (q.0 ∙ p.0, D.stays_on a b c p.1 q.1) };

@@ -52,6 +52,13 @@ pub trait Handler<S, M: Machine> {
         ensures ended { visit.occasion.then ≡ Turn.End → is_over result ≡ false
             → may_look_at M.watches M.waiting (state_of connection.new) ≡ false };
 
+    /// Lets the looks behind it see what has changed by then.
+    fn renew(&mut self)
+        requires ready { is_ready self.old }
+        ensures ready { is_ready self.new }
+        ensures stays { stays self.old self.new }
+    {}
+
     ghost stays_self: { (a : Self) → stays a a };
 
     ghost stays_on: { (a b c : Self) → stays a b → stays b c → stays a c };

@@ -79,6 +79,11 @@ impl<A: Accept<S>, S: Socket, M: Machine> EventLoop<A, S, M> {
         self.tally.clone()
     }
 
+    /// Where it takes its memory.
+    pub fn allocator(&self) -> Global {
+        self.conversations.alloc
+    }
+
     /// The socket that connections come to.
     pub fn acceptor(&self) -> &A {
         &self.acceptor
@@ -145,8 +150,9 @@ impl<A: Accept<S>, S: Socket, M: Machine> EventLoop<A, S, M> {
         });
     }
 
-    /// Waits for events, and does what they ask for. It accepts last, so that no key is used again among the events of one round. Where
-    /// the poll fails there are none, and the rest is done all the same.
+    /// Waits for events, and does what they ask for. Watches come behind all others, so that no Check and no line is answered between
+    /// their looks. It accepts last, so that no key is used again among the events of one round. Where the poll fails there are none,
+    /// and the rest is done all the same.
     pub fn round<R: Clock, H: Handler<S, M>>(
         &mut self,
         rt: &R,
@@ -162,15 +168,33 @@ impl<A: Accept<S>, S: Socket, M: Machine> EventLoop<A, S, M> {
         let polled = self.poll.poll(&mut self.events, Some(timeout));
         let now = Instant::now(rt).unwrap_or(self.swept);
         self.report(now);
-        let round = Round::new(now, news);
-        let registry = self.poll.registry();
-        let conversations = &mut self.conversations;
-        if take_events(&self.events, registry, conversations, handler, round) {
+        if is_waiting(&self.events) {
             self.queue = self.queue.reported();
         }
+        let round = Round::new(now, news);
+        let events = &self.events;
+        let registry = self.poll.registry();
+        let conversations = &mut self.conversations;
+        take_events(
+            events,
+            Named::Others,
+            registry,
+            conversations,
+            handler,
+            round,
+        );
         // What was made in a turn is looked at at once, and an end is begun.
         let round = Round::new(now, news);
-        self.conversations.look(registry, handler, round);
+        handler.renew();
+        take_events(
+            events,
+            Named::Watches,
+            registry,
+            conversations,
+            handler,
+            round,
+        );
+        conversations.look(registry, handler, round);
         self.sweep(round.now);
         self.accept(handler, round);
         if self.conversations.is_waited_for() {
@@ -273,28 +297,41 @@ impl<A: Accept<S>, S: Socket, M: Machine> EventLoop<A, S, M> {
     }
 }
 
-/// Has the connections take turns that events name, and tells whether connections wait to be accepted.
+/// Whether connections wait to be accepted.
+fn is_waiting(events: &Events) -> bool {
+    events.iter().any(|event| event.token() == LISTENER)
+}
+
+/// Which of the connections that events name take their turns.
+#[derive(Clone, Copy, Debug, PartialEq, Eq)]
+enum Named {
+    /// Those with an open Watch.
+    Watches,
+    Others,
+}
+
+/// Has connections take turns that events name.
 fn take_events<S: Socket, M: Machine, H: Handler<S, M>>(
     events: &Events,
+    named: Named,
     registry: &Registry,
     conversations: &mut Conversations<S, M>,
     handler: &mut H,
     round: Round,
-) -> bool
+)
     requires ready { H.is_ready handler.old }
     ensures account { KeepsAccount (table_of conversations.old) (table_of conversations.new) }
     ensures ready { H.is_ready handler.new }
     ensures stays { H.stays handler.old handler.new }
 {
-    let mut is_waiting = false;
     for event in events.iter() {
         let Token(token) = event.token();
-        if event.token() == LISTENER {
-            is_waiting = true;
-        } else if token >= FIRST_TOKEN {
-            let ready = Some(Ready::of(event));
-            conversations.turn(registry, handler, token - FIRST_TOKEN, round, ready);
+        if token >= FIRST_TOKEN {
+            let key = token - FIRST_TOKEN;
+            if conversations.is_watching(key) == (named == Named::Watches) {
+                let ready = Some(Ready::of(event));
+                conversations.turn(registry, handler, key, round, ready);
+            }
         }
     }
-    is_waiting
 }

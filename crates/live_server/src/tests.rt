@@ -2,6 +2,7 @@ mod bounds;
 mod calls;
 mod descriptors;
 mod ends;
+mod order;
 mod places;
 mod queues;
 mod scenes;

@@ -284,6 +284,11 @@ impl<S: Socket, M: Machine> Conversations<S, M> {
         key
     }
 
+    /// Whether a key holds an open Watch.
+    pub(crate) fn is_watching(&self, key: usize) -> bool {
+        is_watching(self.table(), key)
+    }
+
     /// Whether a key holds an open Watch to which all is sent.
     fn may_look(&self, key: usize) -> bool {
         match self.table().get(key) {

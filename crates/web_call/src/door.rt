@@ -59,4 +59,12 @@ pub trait Door {
             (watch.new ≡ (stepped (changes_of (seen self.new)) watch.old).1) }
         ensures behind { IsErr result ↔ IsBehind kept (changes_of (seen self.new)) watch.old }
         ensures left { OnErr result (watch.new ≡ watch.old) };
+
+    /// Lets the steps behind it see what has changed by then. A door may tell steps in a row of what it took over at the first of them,
+    /// so whoever has Watches step at any door has to renew it between their looks.
+    fn renew(&mut self)
+        ensures names { names self.new ≡ names self.old }
+        ensures seen { seen self.new ≡ seen self.old }
+        ensures stays { stays self.old self.new }
+    {}
 }
