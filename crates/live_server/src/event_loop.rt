@@ -20,7 +20,9 @@ pub struct EventLoop<A, S, M: Machine> {
     pub(crate) lacks_place: bool,
     /// When it last looked for conversations whose time is up.
     pub(crate) swept: Instant,
-    /// When what is left is given up, once all is to end.
+    /// When those that have sent nothing are given up, once all is to end.
+    pub(crate) silence_ends_at: Option<Instant>,
+    /// When what is left is given up then.
     pub(crate) ends_at: Option<Instant>,
     pub(crate) conversations: Conversations<S, M>,
     pub(crate) tally: Arc<Tally>,

@@ -12,7 +12,7 @@ use crate::news::News;
 use crate::places::{Places, Taken};
 use crate::queue::{Queue, RETRY_MILLIS};
 use crate::tally::{Tallied, Tally};
-use crate::turns::{FIRST_TOKEN, Round};
+use crate::turns::{Ending, FIRST_TOKEN, Round};
 use mio::{Events, Poll, Registry, Token, Waker};
 use reactor::{Machine, Ready, Socket};
 use std::alloc::{AllocError, Global};
@@ -31,7 +31,10 @@ const WAKER: Token = Token(1);
 /// are short.
 const TICK_MILLIS: u64 = 100;
 
-/// How many milliseconds what is left may take, once all is to end.
+/// How many milliseconds a connection that has sent nothing has, once all is to end.
+const SILENCE_MILLIS: u64 = 200;
+
+/// How many milliseconds what is left may take then.
 const END_MILLIS: u64 = 30_000;
 
 /// The most connections that are accepted in a round.
@@ -63,6 +66,7 @@ impl<A: Accept<S>, S: Socket, M: Machine> EventLoop<A, S, M> {
             queue: Queue::Waiting,
             lacks_place: false,
             swept: Instant::now(rt)?,
+            silence_ends_at: None,
             ends_at: None,
             conversations: Conversations::new(alloc, Taken::new(places))?,
             tally: Arc::new(alloc, Tally::new())?,
@@ -203,12 +207,14 @@ impl<A: Accept<S>, S: Socket, M: Machine> EventLoop<A, S, M> {
         polled
     }
 
-    /// Accepts no more: clients that come are refused. What is left has thirty seconds.
+    /// Accepts no more: clients that come are refused. Those that have sent nothing have two tenths of a second, and what is left has
+    /// thirty seconds.
     fn close(&mut self, now: Instant)
         ensures { held_by self.new ≡ held_by self.old }
     {
         if !self.acceptor.is_closed() {
             self.acceptor.close(&self.poll, LISTENER);
+            self.silence_ends_at = now.checked_add(Duration::from_millis(SILENCE_MILLIS));
             self.ends_at = now.checked_add(Duration::from_millis(END_MILLIS));
         }
         self.queue = Queue::Empty;
@@ -246,8 +252,14 @@ impl<A: Accept<S>, S: Socket, M: Machine> EventLoop<A, S, M> {
         let next = self.swept.checked_add(Duration::from_millis(TICK_MILLIS));
         if next.is_none_or(|next| next <= now) {
             self.swept = now;
-            let is_over = self.ends_at.is_some_and(|end| end <= now);
-            self.conversations.sweep(now, is_over);
+            let left = if self.ends_at.is_some_and(|end| end <= now) {
+                Ending::All
+            } else if self.silence_ends_at.is_some_and(|end| end <= now) {
+                Ending::Silent
+            } else {
+                Ending::Late
+            };
+            self.conversations.sweep(now, left);
         }
     }
 

@@ -20,7 +20,8 @@ use web_call::{Turn, Why};
 /// The token of the first key.
 pub(crate) const FIRST_TOKEN: usize = 2;
 
-/// How many keys are looked at in a row. A turn does 64 pieces of work at most, so that a Check waits for some thousand of them.
+/// How many keys are looked at in a row. A turn does 64 pieces of work at most, so that a Check waits for some thousand of them, besides
+/// the turns of Watches that events name.
 const SLICE: usize = 16;
 
 /// When a round of a loop is, how many changes there were by then, and whether all is to end.
@@ -40,6 +41,16 @@ impl Round {
             ends: news.has_ended(),
         }
     }
+}
+
+/// Which conversations are given up.
+#[derive(Clone, Copy, Debug, PartialEq, Eq)]
+pub(crate) enum Ending {
+    /// Those whose time is up.
+    Late,
+    /// Those too whose peer has sent nothing.
+    Silent,
+    All,
 }
 
 /// Whether a key holds an open Watch.
@@ -305,8 +316,8 @@ impl<S: Socket, M: Machine> Conversations<S, M> {
         }
     }
 
-    /// Ends the conversations whose time is up, or all of them.
-    pub(crate) fn sweep(&mut self, now: Instant, is_over: bool)
+    /// Gives conversations up.
+    pub(crate) fn sweep(&mut self, now: Instant, ending: Ending)
         ensures account { KeepsAccount (table_of self.old) (table_of self.new) }
     {
         let mut from = 0;
@@ -314,15 +325,20 @@ impl<S: Socket, M: Machine> Conversations<S, M> {
             let Some(key) = self.table().next_key(from) else {
                 return;
             };
-            self.end_if_late(key, now, is_over);
+            self.end_if_late(key, now, ending);
             from = key.saturating_add(1);
         }
     }
 
-    fn end_if_late(&mut self, key: usize, now: Instant, is_over: bool)
+    fn end_if_late(&mut self, key: usize, now: Instant, ending: Ending)
         ensures account { KeepsAccount (table_of self.old) (table_of self.new) }
     {
         if let Some(connection) = self.table().get(key) {
+            let is_over = match ending {
+                Ending::Late => false,
+                Ending::Silent => connection.is_silent(),
+                Ending::All => true,
+            };
             if is_over || connection.is_late(now) {
                 let end = connection.late_end();
                 self.end(key, end);

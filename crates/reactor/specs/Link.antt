@@ -17,6 +17,10 @@ link_reads link = link.reads
 abbrev pub link_writes : {S : Type 0} → Link S → Last
 link_writes link = link.writes
 
+-- a read has given bytes
+abbrev pub link_has_read : {S : Type 0} → Link S → Bool
+link_has_read link = link.has_read
+
 -- the last call moved no byte
 abbrev pub has_stopped : Last → Bool
 has_stopped Went = false

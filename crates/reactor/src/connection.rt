@@ -195,6 +195,11 @@ impl<S, M: Machine> Connection<S, M> {
         self.gave_way
     }
 
+    /// Whether nothing that its peer sent was read.
+    pub fn is_silent(&self) -> bool {
+        !self.link.has_read()
+    }
+
     /// Whether its time is up.
     pub fn is_late(&self, now: Instant) -> bool {
         self.until.is_some_and(|until| until <= now)
@@ -312,7 +317,7 @@ impl<S: Socket, M: Machine> Connection<S, M> {
     }
 
     /// Whether a read finds nothing, and none did before.
-    fn is_silent(&mut self, buffer: &mut [u8]) -> bool
+    fn finds_none(&mut self, buffer: &mut [u8]) -> bool
         requires room { 0 < length buffer.old }
         ensures state { state_of self.new ≡ state_of self.old }
         ensures thrown { (thrown : List ℕ)
@@ -384,7 +389,7 @@ impl<S: Socket, M: Machine> Connection<S, M> {
         if self.is_followed || self.machine.may_be_sent_more() {
             return true;
         }
-        !self.is_silent(buffer)
+        !self.finds_none(buffer)
     }
 
     /// All is sent. Where its peer may still be sending, that sees the end, while what it sends can be read.

@@ -1,6 +1,6 @@
-ghost use Rattle.std.specs.Prelude.{◌≡◌, ◌≤◌, ◌<◌, [], length, take, IfOk, IfSome, IfNone, is_none, true, Ok};
+ghost use Rattle.std.specs.Prelude.{◌≡◌, ◌≤◌, ◌<◌, [], length, take, IfOk, IfSome, IfNone, is_none, is_some, ◌||◌, true, Ok};
 ghost use Rattle.std.specs.Io.KnownBytes.{Appends, Consumes, IsAtEnd};
-ghost use Rattle.reactor.specs.Link.{link_reads, link_stream, link_writes, has_stopped};
+ghost use Rattle.reactor.specs.Link.{link_has_read, link_reads, link_stream, link_writes, has_stopped};
 
 use crate::socket::Socket;
 use crate::stream::Stream;
@@ -29,6 +29,8 @@ pub struct Link<S> {
     stream: S,
     reads: Last,
     writes: Last,
+    /// Whether a read has given bytes.
+    has_read: bool,
 }
 
 fn last_of(kind: ErrorKind) -> Last
@@ -67,6 +69,7 @@ impl<S> Link<S> {
             stream,
             reads: Last::Went,
             writes: Last::Went,
+            has_read: false,
         }
     }
 
@@ -92,6 +95,13 @@ impl<S> Link<S> {
         ensures { result ≡ link_writes self.now }
     {
         self.writes
+    }
+
+    /// Whether a read over it has given bytes.
+    pub fn has_read(&self) -> bool
+        ensures { result ≡ link_has_read self.now }
+    {
+        self.has_read
     }
 
     /// The stream behind it.
@@ -125,9 +135,11 @@ impl<S: Stream> Link<S> {
         ensures writes { link_writes self.new ≡ link_writes self.old }
         ensures contents { S.contents (link_stream self.new) ≡ S.contents (link_stream self.old) }
         ensures len { length buffer.new ≡ length buffer.old }
+        ensures has_read { link_has_read self.new ≡ link_has_read self.old || is_some result }
     {
         let (last, count) = note(self.stream.read(buffer));
         self.reads = last;
+        self.has_read |= count.is_some();
         count
     }
 

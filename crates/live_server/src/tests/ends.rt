@@ -171,3 +171,62 @@ fn what_is_left_thirty_seconds_behind_the_end_is_given_up(rt: HostRuntime) -> Re
     let mut place = Place::new(&rt, rt.alloc(), 2, 2)?;
     give_up_what_is_left(&rt, &mut place, &scene)
 }
+
+/// Lets a loop make rounds until it holds so many connections.
+fn rounds_until<R: Net<Stream = TcpStream> + Clock>(
+    rt: &R,
+    place: &mut Place,
+    scene: &Scene,
+    connections: usize,
+) -> Result<(), Fail> {
+    for _ in 0..8u8 {
+        if place.server.connections() == connections {
+            return Ok(());
+        }
+        place.round(rt, scene)?;
+    }
+    same(&place.server.connections(), &connections, &"connections")
+}
+
+/// Once all is to end one client has sent half a request, one sends a whole one then, and one sends nothing.
+fn end_beside_silence<R: Net<Stream = TcpStream> + Clock>(
+    rt: &R,
+    place: &mut Place,
+    scene: &Scene,
+) -> Result<(), Fail> {
+    let half = client(rt, place, b"POST")?;
+    let mut later = client(rt, place, b"")?;
+    let mut silent = client(rt, place, b"")?;
+    place.rounds(rt, scene)?;
+    let begun = Instant::now(rt)?;
+    place.news.end();
+    place.round(rt, scene)?;
+    same(&place.server.connections(), &3, &"all are held")?;
+    later.write_all(CHECK_OF_EMPTY)?;
+    rounds_until(rt, place, scene, 2)?;
+    let found = rest(place.alloc, &mut later)?;
+    same(&found.ends_with(b"grpc-status:0\r\n"), &true, &"the Check")?;
+    rounds_until(rt, place, scene, 1)?;
+    let now = Instant::now(rt)?;
+    for (millis, is_past) in [(200, true), (600, false)] {
+        let then = begun.checked_add(Duration::from_millis(millis));
+        let found = then.is_some_and(|then| then <= now);
+        same(&found, &is_past, &millis)?;
+    }
+    same(
+        &rest(place.alloc, &mut silent)?.is_empty(),
+        &true,
+        &"closed",
+    )?;
+    drop(half);
+    Ok(())
+}
+
+#[test]
+fn who_sends_nothing_has_two_tenths_of_a_second_behind_the_end(
+    rt: HostRuntime,
+) -> Result<(), Fail> {
+    let scene = Scene::new(rt.alloc())?;
+    let mut place = Place::new(&rt, rt.alloc(), 10, 10)?;
+    end_beside_silence(&rt, &mut place, &scene)
+}
