@@ -1,6 +1,7 @@
 use crate::tests::scenes::{Place, Scene, client, sent};
 use desk_core::{Behind, Setting, Watch};
 use health_wire::Serving;
+use std::alloc::Global;
 use std::io::Write;
 use std::net::{Net, TcpStream};
 use std::test::Fail;
@@ -14,13 +15,13 @@ const MOST: usize = 16;
 
 /// A door that takes down what it is asked: a Check as `c`, an opening as `o`, a step as `s`, and that it is renewed as `r`.
 #[derive(Drop)]
-struct Recorder<D: Door> {
-    door: D,
+struct Recorder<'a, D: Door> {
+    door: &'a mut D,
     asked: [u8; MOST],
     count: usize,
 }
 
-impl<D: Door> Recorder<D> {
+impl<D: Door> Recorder<'_, D> {
     ghost use Rattle.std.specs.Prelude.{◌≡◌};
 
     fn note(&mut self, asked: u8)
@@ -33,20 +34,20 @@ impl<D: Door> Recorder<D> {
     }
 }
 
-impl<D: Door> Door for Recorder<D> {
-    ghost names = { λ recorder. D.names recorder.door };
+impl<D: Door> Door for Recorder<'_, D> {
+    ghost names = { λ recorder. D.names recorder.door.now };
 
-    ghost seen = { λ recorder. D.seen recorder.door };
+    ghost seen = { λ recorder. D.seen recorder.door.now };
 
     ghost follows = { D.follows };
 
     ghost kept = { D.kept };
 
-    ghost stays = { λ a b. D.stays a.door b.door };
+    ghost stays = { λ a b. D.stays a.door.now b.door.now };
 
-    ghost stays_self = { λ a. D.stays_self a.door };
+    ghost stays_self = { λ a. D.stays_self a.door.now };
 
-    ghost stays_on = { λ a b c. D.stays_on a.door b.door c.door };
+    ghost stays_on = { λ a b c. D.stays_on a.door.now b.door.now c.door.now };
 
     fn check(&mut self, name: &str) -> Option<Serving> {
         self.note(b'c');
@@ -69,6 +70,33 @@ impl<D: Door> Door for Recorder<D> {
     }
 }
 
+/// What a loop asks its door in a round.
+fn round_of<R: Net<Stream = TcpStream> + Clock, D: Door>(
+    rt: &R,
+    place: &mut Place,
+    door: &mut D,
+) -> Result<[u8; MOST], Fail> {
+    let mut recorder = Recorder {
+        door,
+        asked: [b'.'; MOST],
+        count: 0,
+    };
+    place.server.round(rt, &mut recorder, &place.news)?;
+    Ok(recorder.asked)
+}
+
+fn is_sent_some(alloc: Global, stream: &mut TcpStream) -> Result<(), Fail> {
+    same(&sent(alloc, stream)?.is_empty(), &false, &"what was sent")
+}
+
+fn recorded<R: Net<Stream = TcpStream> + Clock>(
+    rt: &R,
+    place: &mut Place,
+    scene: &Scene,
+) -> Result<[u8; MOST], Fail> {
+    round_of(rt, place, &mut scene.door())
+}
+
 /// More changes than a Watch is told in one turn.
 const CHANGES: usize = 40;
 
@@ -89,17 +117,11 @@ fn asked_in_a_round<R: Net<Stream = TcpStream> + Clock>(
     place.news.change();
     place.round(rt, scene)?;
     check.write_all(CHECK_OF_EMPTY)?;
-    let mut recorder = Recorder {
-        door: scene.door(),
-        asked: [b'.'; MOST],
-        count: 0,
-    };
-    place.server.round(rt, &mut recorder, &place.news)?;
-    for stream in [&mut first, &mut second, &mut check] {
-        let found = sent(place.alloc, stream)?;
-        same(&found.is_empty(), &false, &"what was sent")?;
-    }
-    Ok(recorder.asked)
+    let asked = recorded(rt, place, scene)?;
+    is_sent_some(place.alloc, &mut first)?;
+    is_sent_some(place.alloc, &mut second)?;
+    is_sent_some(place.alloc, &mut check)?;
+    Ok(asked)
 }
 
 #[test]
