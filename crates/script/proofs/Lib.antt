@@ -1,4 +1,7 @@
 pub mod ChangeLemmas
+pub mod ComplaintLemmas
+pub mod DoubleLemmas
+pub mod ExplanationLemmas
 pub mod LineCuts
 pub mod LineLemmas
 pub mod LineRunLemmas
@@ -7,6 +10,7 @@ pub mod NumberLemmas
 pub mod OneLine
 pub mod OneScript
 pub mod OpeningLemmas
+pub mod QuotedLemmas
 pub mod ReplayLemmas
 pub mod RuleLemmas
 pub mod ScriptLemmas

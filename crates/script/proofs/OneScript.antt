@@ -1,18 +1,20 @@
 -- Bytes are one script, or have one fault.
-use Rattle.std.proofs.Common.{ℕ, ◌≡◌, ◌==◌, List, [], ◌∷◌, codes, map, None, Some, refl, sym, ap, ◌∙◌, subst, ◌<◌, ◌≤◌, length, arith}
+use Rattle.std.proofs.Common.{ℕ, ◌≡◌, ◌≢◌, ◌==◌, List, [], ◌∷◌, codes, map, None, Some, refl, sym, ap, ◌∙◌, subst, ◌<◌, ◌≤◌, length, arith}
 use Rattle.std.specs.List.{slice_split}
 use Rattle.desk_core.specs.declared.order.Order.{Order as OrderOf}
 use Rattle.desk_core.specs.Fault.{fault_in}
 use Rattle.script.specs.declared.line.Line.{Line}
 use Rattle.script.specs.declared.script.Mode.{Mode}
+use Rattle.script.specs.declared.script.Mode.TheVariants.{Run}
 use Rattle.script.specs.declared.script_fault.ScriptFault.{ScriptFault}
 use Rattle.script.specs.declared.script_fault.ScriptFault.TheVariants.{BadLine, Catalogue}
 use Rattle.script.specs.Line.{IsLine}
 use Rattle.script.specs.Line.IsLine.{OrderLine}
 use Rattle.script.specs.TextLines.{Left, left_from, with_line, first_numbers}
-use Rattle.script.specs.Opening.{IsCatalogueLine, IsMaxLine, TakesCatalogue, TakesMax, IsCatalogueFault, IsMaxFault}
+use Rattle.script.specs.Opening.{IsCatalogueLine, IsMaxLine, TakesCatalogue, TakesMax, TakesMaxLine, IsCatalogueFault, IsMaxFault}
 use Rattle.script.specs.Opening.IsCatalogueFault.{NoLine, OtherLine, BadNames}
 use Rattle.script.specs.Opening.IsMaxFault.{NoMaxLine, OtherMaxLine}
+use Rattle.script.specs.Opening.TakesMax.{SaysMax, LeavesMaxOut}
 use Rattle.script.specs.Script.{ScriptParts, watches_after, IsNextLine, IsGo, TakesLines, IsLinesFault, AreOrders, IsOrdersFault, IsText, Opens, IsScript, IsScriptFault}
 use Rattle.script.specs.Script.TakesLines.{AtEnd, AtGo, NextLine}
 use Rattle.script.specs.Script.IsLinesFault.{BadHere, BadLater}
@@ -33,7 +35,7 @@ same_head : {A : Type 0} (x y : A) (xs ys : List A) → x ∷ xs ≡ y ∷ ys �
 same_head x y xs ys same = cc
 
 -- the next line is one, and so is the rest
-one_next : (left right rest more : Left) (m n : ℕ) (line other : List ℕ) → left ≡ right → left ≡ with_line (m, line) rest → right ≡ with_line (n, other) more → (m ≡ n) × (line ≡ other) × (rest ≡ more)
+pub one_next : (left right rest more : Left) (m n : ℕ) (line other : List ℕ) → left ≡ right → left ≡ with_line (m, line) rest → right ≡ with_line (n, other) more → (m ≡ n) × (line ≡ other) × (rest ≡ more)
 one_next left right rest more m n line other same parts others =
     let all : with_line (m, line) rest ≡ with_line (n, other) more = sym parts ∙ same ∙ others in
     let lines : (m, line) ∷ rest.lines ≡ (n, other) ∷ more.lines = ap (λ (left : Left). left.lines) all in
@@ -59,13 +61,19 @@ one_catalogue left a b rest more is_a is_b =
     let same = one_next left left rest more is_a.number is_b.number is_a.line is_b.line refl is_a.parts is_b.parts in
     (one_names is_a.line a b is_a.is (subst (λ (line : List ℕ). IsCatalogueLine line b) (sym same.1) is_b.is), same.2)
 
-one_most : (left : Left) (m n : ℕ) (rest more : Left) → TakesMax left m rest → TakesMax left n more → (m ≡ n) × (rest ≡ more)
-one_most left m n rest more is_m is_n =
+one_said : (left : Left) (m n : ℕ) (rest more : Left) → TakesMaxLine left m rest → TakesMaxLine left n more → (m ≡ n) × (rest ≡ more)
+one_said left m n rest more is_m is_n =
     let same = one_next left left rest more is_m.number is_n.number is_m.line is_n.line refl is_m.parts is_n.parts in
     (one_max is_m.line m n is_m.is (subst (λ (line : List ℕ). IsMaxLine line n) (sym same.1) is_n.is), same.2)
 
+one_most : (mode : Mode) (left : Left) (m n : ℕ) (rest more : Left) → TakesMax mode left m rest → TakesMax mode left n more → (m ≡ n) × (rest ≡ more)
+one_most mode left m n rest more (SaysMax k others is) (SaysMax l ends is_n) = one_said left m n rest more is is_n
+one_most mode left m n rest more (SaysMax k others is) (LeavesMaxOut runs none) = absurd (none m rest is)
+one_most mode left m n rest more (LeavesMaxOut runs none) (SaysMax l ends is) = absurd (none n more is)
+one_most mode left m n rest more (LeavesMaxOut runs none) (LeavesMaxOut runs_n none_n) = (refl, refl)
+
 -- a line that is there
-none_left : (left right rest : Left) (line : ℕ × List ℕ) → left ≡ right → right ≡ with_line line rest → left.lines ≡ [] → ⊥
+pub none_left : (left right rest : Left) (line : ℕ × List ℕ) → left ≡ right → right ≡ with_line line rest → left.lines ≡ [] → ⊥
 none_left left right rest line same parts none =
     let all : left.lines ≡ line ∷ rest.lines = ap (λ (left : Left). left.lines) (same ∙ parts) in
     let both : [] ≡ line ∷ rest.lines = sym none ∙ all in
@@ -82,11 +90,15 @@ catalogue_or_fault left right rest names fault same is (BadNames n line more oth
     let both : Some f ≡ None = sym found ∙ ap fault_in equal ∙ is.faultless in
     cc
 
-max_or_fault : (left right rest : Left) (max : ℕ) (fault : ScriptFault) → left ≡ right → TakesMax right max rest → IsMaxFault left fault → ⊥
-max_or_fault left right rest max fault same is (NoMaxLine l none) = none_left left right rest (is.number, is.line) same is.parts none
-max_or_fault left right rest max fault same is (OtherMaxLine n line more none) =
+said_or_fault : (left right rest : Left) (max : ℕ) (fault : ScriptFault) → left ≡ right → TakesMaxLine right max rest → IsMaxFault left fault → ⊥
+said_or_fault left right rest max fault same is (NoMaxLine l none) = none_left left right rest (is.number, is.line) same is.parts none
+said_or_fault left right rest max fault same is (OtherMaxLine n line more none) =
     let one = one_next left right more rest n is.number line is.line same refl is.parts in
     none max (subst (λ (text : List ℕ). IsMaxLine text max) (sym one.1) is.is)
+
+max_or_fault : (mode : Mode) (left right rest : Left) (max : ℕ) (fault : ScriptFault) → left ≡ right → TakesMax mode right max rest → mode ≢ Run → IsMaxFault left fault → ⊥
+max_or_fault mode left right rest max fault same (SaysMax m others is) needed wrong = said_or_fault left right rest max fault same is wrong
+max_or_fault mode left right rest max fault same (LeavesMaxOut runs none) needed wrong = needed runs
 
 one_catalogue_fault : (left right : Left) (f g : ScriptFault) → left ≡ right → IsCatalogueFault left f → IsCatalogueFault right g → f ≡ g
 one_catalogue_fault left right f g same (NoLine l none) (NoLine r other) = ap (λ (left : Left). BadLine left.end) same
@@ -181,7 +193,7 @@ one_orders_fault body f g (NotLater n text order rest h is later) (NotLater m sa
 one_opening : (mode : Mode) (bytes : List ℕ) (a b : List (List ℕ)) (m n : ℕ) (body other : Left) → Opens mode bytes a m body → Opens mode bytes b n other → (a ≡ b) × (m ≡ n) × (body ≡ other)
 one_opening mode bytes a b m n body other is_a is_b =
     let names = one_catalogue (left_from mode 1 bytes) a b is_a.behind_catalogue is_b.behind_catalogue is_a.catalogue is_b.catalogue in
-    let most = one_most is_a.behind_catalogue m n body other is_a.most (subst (λ (left : Left). TakesMax left n other) (sym names.1) is_b.most) in
+    let most = one_most mode is_a.behind_catalogue m n body other is_a.most (subst (λ (left : Left). TakesMax mode left n other) (sym names.1) is_b.most) in
     (names.0, most.0, most.1)
 
 -- the lines of an opened script
@@ -229,16 +241,16 @@ opens_or_catalogue : (mode : Mode) (bytes : List ℕ) (names : List (List ℕ)) 
 opens_or_catalogue mode bytes names max body fault is wrong = catalogue_or_fault (left_from mode 1 bytes) (left_from mode 1 bytes) is.behind_catalogue names fault refl is.catalogue wrong
 
 opens_or_max : (mode : Mode) (bytes : List ℕ) (names others : List (List ℕ)) (max : ℕ) (body rest : Left) (fault : ScriptFault)
-    → Opens mode bytes names max body → TakesCatalogue (left_from mode 1 bytes) others rest → IsMaxFault rest fault → ⊥
-opens_or_max mode bytes names others max body rest fault is takes wrong =
+    → Opens mode bytes names max body → TakesCatalogue (left_from mode 1 bytes) others rest → mode ≢ Run → IsMaxFault rest fault → ⊥
+opens_or_max mode bytes names others max body rest fault is takes needed wrong =
     let same = one_catalogue (left_from mode 1 bytes) others names rest is.behind_catalogue takes is.catalogue in
-    max_or_fault rest is.behind_catalogue body max fault same.1 is.most wrong
+    max_or_fault mode rest is.behind_catalogue body max fault same.1 is.most needed wrong
 
 pub script_or_fault : (mode : Mode) (bytes : List ℕ) (a : ScriptParts) (fault : ScriptFault) → IsScript mode bytes a → ¬ IsScriptFault mode bytes fault
 script_or_fault mode bytes a fault is (Long long) = let short : length bytes ≤ 65536 = is.opens.is_text.short in omega arith
 script_or_fault mode bytes a fault is (NoText short not) = not is.opens.is_text.text
 script_or_fault mode bytes a fault is (InCatalogue f text wrong) = opens_or_catalogue mode bytes a.names a.max is.body f is.opens wrong
-script_or_fault mode bytes a fault is (InMax names rest f text takes wrong) = opens_or_max mode bytes a.names names a.max is.body rest f is.opens takes wrong
+script_or_fault mode bytes a fault is (InMax names rest f text takes needed wrong) = opens_or_max mode bytes a.names names a.max is.body rest f is.opens takes needed wrong
 script_or_fault mode bytes a fault is (InLines names max body f opens wrong) =
     lines_or_fault mode a.names 0 is.body.lines a.lines is.behind_go f is.lines (same_fault mode bytes a.names names a.max max is.body body f is.opens opens wrong)
 script_or_fault mode bytes a fault is (InOrders names max body lines rest f opens takes wrong) =
@@ -253,33 +265,33 @@ pub one_fault : (mode : Mode) (bytes : List ℕ) (f g : ScriptFault) → IsScrip
 one_fault mode bytes f g (Long long) (Long other) = refl
 one_fault mode bytes f g (Long long) (NoText short not) = absurd (omega arith)
 one_fault mode bytes f g (Long long) (InCatalogue k text wrong) = absurd (long_or_text bytes long text)
-one_fault mode bytes f g (Long long) (InMax names rest k text takes wrong) = absurd (long_or_text bytes long text)
+one_fault mode bytes f g (Long long) (InMax names rest k text takes needed wrong) = absurd (long_or_text bytes long text)
 one_fault mode bytes f g (Long long) (InLines names max body k opens wrong) = absurd (long_or_text bytes long opens.is_text)
 one_fault mode bytes f g (Long long) (InOrders names max body lines rest k opens takes wrong) = absurd (long_or_text bytes long opens.is_text)
 one_fault mode bytes f g (NoText short not) (Long long) = absurd (omega arith)
 one_fault mode bytes f g (NoText short not) (NoText other none) = refl
 one_fault mode bytes f g (NoText short not) (InCatalogue k text wrong) = absurd (not text.text)
-one_fault mode bytes f g (NoText short not) (InMax names rest k text takes wrong) = absurd (not text.text)
+one_fault mode bytes f g (NoText short not) (InMax names rest k text takes needed wrong) = absurd (not text.text)
 one_fault mode bytes f g (NoText short not) (InLines names max body k opens wrong) = absurd (not opens.is_text.text)
 one_fault mode bytes f g (NoText short not) (InOrders names max body lines rest k opens takes wrong) = absurd (not opens.is_text.text)
 one_fault mode bytes f g (InCatalogue h text wrong) (Long long) = absurd (long_or_text bytes long text)
 one_fault mode bytes f g (InCatalogue h text wrong) (NoText short not) = absurd (not text.text)
 one_fault mode bytes f g (InCatalogue h text wrong) (InCatalogue k other bad) = one_catalogue_fault (left_from mode 1 bytes) (left_from mode 1 bytes) h k refl wrong bad
-one_fault mode bytes f g (InCatalogue h text wrong) (InMax names rest k other takes bad) = absurd (catalogue_or_fault (left_from mode 1 bytes) (left_from mode 1 bytes) rest names h refl takes wrong)
+one_fault mode bytes f g (InCatalogue h text wrong) (InMax names rest k other takes needed bad) = absurd (catalogue_or_fault (left_from mode 1 bytes) (left_from mode 1 bytes) rest names h refl takes wrong)
 one_fault mode bytes f g (InCatalogue h text wrong) (InLines names max body k opens bad) = absurd (opens_or_catalogue mode bytes names max body h opens wrong)
 one_fault mode bytes f g (InCatalogue h text wrong) (InOrders names max body lines rest k opens takes bad) = absurd (opens_or_catalogue mode bytes names max body h opens wrong)
-one_fault mode bytes f g (InMax names rest h text takes wrong) (Long long) = absurd (long_or_text bytes long text)
-one_fault mode bytes f g (InMax names rest h text takes wrong) (NoText short not) = absurd (not text.text)
-one_fault mode bytes f g (InMax names rest h text takes wrong) (InCatalogue k other bad) = absurd (catalogue_or_fault (left_from mode 1 bytes) (left_from mode 1 bytes) rest names k refl takes bad)
-one_fault mode bytes f g (InMax names rest h text takes wrong) (InMax others more k other takes_o bad) =
+one_fault mode bytes f g (InMax names rest h text takes needed wrong) (Long long) = absurd (long_or_text bytes long text)
+one_fault mode bytes f g (InMax names rest h text takes needed wrong) (NoText short not) = absurd (not text.text)
+one_fault mode bytes f g (InMax names rest h text takes needed wrong) (InCatalogue k other bad) = absurd (catalogue_or_fault (left_from mode 1 bytes) (left_from mode 1 bytes) rest names k refl takes bad)
+one_fault mode bytes f g (InMax names rest h text takes needed wrong) (InMax others more k other takes_o needed_o bad) =
     one_max_fault rest more h k (one_catalogue (left_from mode 1 bytes) names others rest more takes takes_o).1 wrong bad
-one_fault mode bytes f g (InMax names rest h text takes wrong) (InLines others max body k opens bad) = absurd (opens_or_max mode bytes others names max body rest h opens takes wrong)
-one_fault mode bytes f g (InMax names rest h text takes wrong) (InOrders others max body lines behind k opens found bad) =
-    absurd (opens_or_max mode bytes others names max body rest h opens takes wrong)
+one_fault mode bytes f g (InMax names rest h text takes needed wrong) (InLines others max body k opens bad) = absurd (opens_or_max mode bytes others names max body rest h opens takes needed wrong)
+one_fault mode bytes f g (InMax names rest h text takes needed wrong) (InOrders others max body lines behind k opens found bad) =
+    absurd (opens_or_max mode bytes others names max body rest h opens takes needed wrong)
 one_fault mode bytes f g (InLines names max body h opens wrong) (Long long) = absurd (long_or_text bytes long opens.is_text)
 one_fault mode bytes f g (InLines names max body h opens wrong) (NoText short not) = absurd (not opens.is_text.text)
 one_fault mode bytes f g (InLines names max body h opens wrong) (InCatalogue k text bad) = absurd (opens_or_catalogue mode bytes names max body k opens bad)
-one_fault mode bytes f g (InLines names max body h opens wrong) (InMax others rest k text takes bad) = absurd (opens_or_max mode bytes names others max body rest k opens takes bad)
+one_fault mode bytes f g (InLines names max body h opens wrong) (InMax others rest k text takes needed bad) = absurd (opens_or_max mode bytes names others max body rest k opens takes needed bad)
 one_fault mode bytes f g (InLines names max body h opens wrong) (InLines others most left k opens_o bad) =
     one_lines_fault mode names 0 body.lines h k wrong (same_fault mode bytes names others max most body left k opens opens_o bad)
 one_fault mode bytes f g (InLines names max body h opens wrong) (InOrders others most left lines rest k opens_o takes bad) =
@@ -287,8 +299,8 @@ one_fault mode bytes f g (InLines names max body h opens wrong) (InOrders others
 one_fault mode bytes f g (InOrders names max body lines rest h opens takes wrong) (Long long) = absurd (long_or_text bytes long opens.is_text)
 one_fault mode bytes f g (InOrders names max body lines rest h opens takes wrong) (NoText short not) = absurd (not opens.is_text.text)
 one_fault mode bytes f g (InOrders names max body lines rest h opens takes wrong) (InCatalogue k text bad) = absurd (opens_or_catalogue mode bytes names max body k opens bad)
-one_fault mode bytes f g (InOrders names max body lines rest h opens takes wrong) (InMax others behind k text found bad) =
-    absurd (opens_or_max mode bytes names others max body behind k opens found bad)
+one_fault mode bytes f g (InOrders names max body lines rest h opens takes wrong) (InMax others behind k text found needed bad) =
+    absurd (opens_or_max mode bytes names others max body behind k opens found needed bad)
 one_fault mode bytes f g (InOrders names max body lines rest h opens takes wrong) (InLines others most left k opens_o bad) =
     absurd (lines_or_fault mode names 0 body.lines lines rest k takes (same_fault mode bytes names others max most body left k opens opens_o bad))
 one_fault mode bytes f g (InOrders names max body lines rest h opens takes wrong) (InOrders others most left found behind k opens_o takes_o bad) =

@@ -1,12 +1,15 @@
 -- The opening of a script, line by line.
-use Rattle.std.proofs.Common.{ℕ, ◌≡◌, ◌≢◌, List, [], ◌∷◌, codes, Option, None, Some, Result, Ok, Err, IfErr, Bor, refl, sym, ◌∙◌, subst}
+use Rattle.std.proofs.Common.{ℕ, ◌≡◌, ◌≢◌, List, [], ◌∷◌, codes, Option, None, Some, Result, Ok, Err, IfOk, IfErr, Bor, refl, sym, ap, ◌∙◌, subst, unwrap_or}
 use Rattle.std.specs.Option.{option_map}
 use Rattle.desk_core.specs.declared.catalogue.CatalogueFault.{CatalogueFault}
 use Rattle.desk_core.specs.Fault.{fault_in}
 use Rattle.script.specs.declared.script_fault.ScriptFault.{ScriptFault}
 use Rattle.script.specs.declared.script_fault.ScriptFault.TheVariants.{BadLine, Catalogue, NoMemory}
 use Rattle.script.specs.TextLines.{Left, with_line, AreWords, texts}
-use Rattle.script.specs.Opening.{IsCatalogueLine, IsMaxLine, IsCatalogueFault, IsMaxFault}
+use Rattle.script.specs.declared.script.Mode.{Mode}
+use Rattle.script.specs.declared.script.Mode.TheVariants.{Run}
+use Rattle.script.specs.Opening.{IsCatalogueLine, IsMaxLine, IsCatalogueFault, IsMaxFault, TakesMax, TakesMaxLine, HasNoMaxLine, IsMaxSaid}
+use Rattle.script.specs.Opening.TakesMax.{SaysMax, LeavesMaxOut}
 use Rattle.script.specs.Opening.IsCatalogueFault.{NoLine, OtherLine, BadNames}
 use Rattle.script.specs.Opening.IsMaxFault.{NoMaxLine, OtherMaxLine}
 use Rattle.script.specs.Reading.{IsReading}
@@ -59,3 +62,33 @@ pub names_fault : {A : Type 0} (left rest : Left) (number : ℕ) (line : List �
     → IfErr result (λ fault. fault ≢ NoMemory → option_map Catalogue (fault_in names) ≡ Some fault) → IfErr result (λ fault. fault ≢ NoMemory → IsCatalogueFault left fault)
 names_fault left rest number line names (Ok value) parts is told = told
 names_fault left rest number line names (Err fault) parts is told = λ other. bad_names left rest number line names fault (fault_in names) parts is refl (told other)
+
+-- what a script to run says, or 2 ^ 32 - 1
+pub said_or_all : (left rest : Left) (found : Option ℕ) → IsMaxSaid left found rest → TakesMax Run left (unwrap_or found 4294967295) rest
+said_or_all left rest None is = rw is.1 (LeavesMaxOut refl is.0)
+said_or_all left rest (Some max) is = SaysMax max rest is
+
+-- where no line is left none says a number
+pub none_says_max : (left : Left) → left.lines ≡ [] → HasNoMaxLine left
+none_says_max left none = λ max rest is.
+    let all : left.lines ≡ (is.number, is.line) ∷ rest.lines = ap (λ (all : Left). all.lines) is.parts in
+    let both : [] ≡ (is.number, is.line) ∷ rest.lines = sym none ∙ all in
+    cc
+
+-- another line says none
+pub other_says_no_max : (left rest : Left) (number : ℕ) (line : List ℕ) → left ≡ with_line (number, line) rest → ((max : ℕ) → ¬ IsMaxLine line max) → HasNoMaxLine left
+other_says_no_max left rest number line parts none = λ max behind is.
+    let all : (number, line) ∷ rest.lines ≡ (is.number, is.line) ∷ behind.lines = ap (λ (all : Left). all.lines) (sym parts ∙ is.parts) in
+    let pairs : (is.number, is.line) ≡ (number, line) = cc in
+    none max (subst (λ (text : List ℕ). IsMaxLine text max) (ap (λ (pair : ℕ × List ℕ). pair.1) pairs) is.is)
+
+-- a line that has to say the number is taken, in a script of any mode
+pub needed_ok : (mode : Mode) (left rest : Left) (result : Result ℕ ScriptFault) → IfOk result (λ max. TakesMaxLine left max rest) → IfOk result (λ max. TakesMax mode left max rest)
+needed_ok mode left rest (Ok max) is = SaysMax max rest is
+needed_ok mode left rest (Err fault) is = is
+
+-- and its fault is one where the script is not one to run
+pub needed_fault : (mode : Mode) (left : Left) (result : Result ℕ ScriptFault) → mode ≢ Run → IfErr result (λ fault. fault ≢ NoMemory → IsMaxFault left fault)
+    → IfErr result (λ fault. fault ≢ NoMemory → (mode ≢ Run) × IsMaxFault left fault)
+needed_fault mode left (Ok max) needed is = is
+needed_fault mode left (Err fault) needed is = λ other. (needed, is other)

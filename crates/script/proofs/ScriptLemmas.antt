@@ -1,5 +1,5 @@
 -- The lines of a script, one after another, and its faults.
-use Rattle.std.proofs.Common.{ℕ, suc, sym, ◌≡◌, ◌≤◌, ◌↔◌, Bool, true, false, IsTrue, List, [], ◌∷◌, ◌++◌, length, append_assoc, length-append, map, take, ap, ◌∙◌, subst, arith}
+use Rattle.std.proofs.Common.{ℕ, suc, sym, ◌≡◌, ◌≢◌, ◌≤◌, ◌↔◌, Bool, true, false, IsTrue, List, [], ◌∷◌, ◌++◌, length, append_assoc, length-append, map, take, ap, ◌∙◌, subst, arith}
 use Rattle.std.proofs.lemmas.List.{append-nil, take-map}
 use Rattle.std.proofs.Math.Seq.{take-append_seam}
 use Rattle.std.specs.Str.{IsUtf8}
@@ -177,7 +177,7 @@ begun mode bytes text start short utf8 same is = record { is_text = record { sho
 
 -- a script opens
 pub opened : (mode : Mode) (bytes : List ℕ) (start behind body : Left) (names : List (List ℕ)) (max : ℕ) → Begun mode bytes start
-    → TakesCatalogue start names behind → TakesMax behind max body → Opens mode bytes names max body
+    → TakesCatalogue start names behind → TakesMax mode behind max body → Opens mode bytes names max body
 opened mode bytes start behind body names max so_far catalogue most =
     record { is_text = so_far.is_text; behind_catalogue = behind; catalogue = subst (λ (left : Left). TakesCatalogue left names behind) so_far.is catalogue; most = most }
 
@@ -185,27 +185,27 @@ opened mode bytes start behind body names max so_far catalogue most =
 pub in_catalogue : (mode : Mode) (bytes : List ℕ) (start : Left) (fault : ScriptFault) → Begun mode bytes start → IsCatalogueFault start fault → IsScriptFault mode bytes fault
 in_catalogue mode bytes start fault so_far is = InCatalogue fault so_far.is_text (subst (λ (left : Left). IsCatalogueFault left fault) so_far.is is)
 
-pub in_max : (mode : Mode) (bytes : List ℕ) (start behind : Left) (names : List (List ℕ)) (fault : ScriptFault) → Begun mode bytes start → TakesCatalogue start names behind → IsMaxFault behind fault
-    → IsScriptFault mode bytes fault
+pub in_max : (mode : Mode) (bytes : List ℕ) (start behind : Left) (names : List (List ℕ)) (fault : ScriptFault) → Begun mode bytes start → TakesCatalogue start names behind
+    → (mode ≢ Run) × IsMaxFault behind fault → IsScriptFault mode bytes fault
 in_max mode bytes start behind names fault so_far catalogue is =
-    InMax names behind fault so_far.is_text (subst (λ (left : Left). TakesCatalogue left names behind) so_far.is catalogue) is
+    InMax names behind fault so_far.is_text (subst (λ (left : Left). TakesCatalogue left names behind) so_far.is catalogue) is.0 is.1
 
 pub in_lines : (mode : Mode) (bytes : List ℕ) (start behind body : Left) (names : List (List ℕ)) (max : ℕ) (fault : ScriptFault)
-    → Begun mode bytes start → TakesCatalogue start names behind → TakesMax behind max body
+    → Begun mode bytes start → TakesCatalogue start names behind → TakesMax mode behind max body
     → IsLinesFault mode names 0 body.lines fault → IsScriptFault mode bytes fault
 in_lines mode bytes start behind body names max fault so_far catalogue most is =
     InLines names max body fault (opened mode bytes start behind body names max so_far catalogue most) is
 
 pub in_orders : (mode : Mode) (bytes : List ℕ) (start behind body : Left) (names : List (List ℕ)) (max : ℕ) (lines : List Line)
     (rest : List (ℕ × List ℕ)) (fault : ScriptFault) → Begun mode bytes start
-    → TakesCatalogue start names behind → TakesMax behind max body → TakesLines mode names 0 body.lines lines rest → IsOrdersFault rest fault → IsScriptFault mode bytes fault
+    → TakesCatalogue start names behind → TakesMax mode behind max body → TakesLines mode names 0 body.lines lines rest → IsOrdersFault rest fault → IsScriptFault mode bytes fault
 in_orders mode bytes start behind body names max lines rest fault so_far catalogue most takes is =
     InOrders names max body lines rest fault (opened mode bytes start behind body names max so_far catalogue most) takes is
 
 -- all parts of a script
 pub whole : (mode : Mode) (bytes : List ℕ) (start behind body : Left) (names : List (List ℕ)) (max : ℕ) (lines : List Line) (numbers : List ℕ)
     (rest : List (ℕ × List ℕ)) (orders : List OrderOf) (script : ScriptParts) → Begun mode bytes start
-    → TakesCatalogue start names behind → TakesMax behind max body → TakesLines mode names 0 body.lines lines rest → numbers ≡ first_numbers (length lines) body.lines → AreOrders rest orders
+    → TakesCatalogue start names behind → TakesMax mode behind max body → TakesLines mode names 0 body.lines lines rest → numbers ≡ first_numbers (length lines) body.lines → AreOrders rest orders
     → script ≡ record { names = names; max = max; lines = lines; numbers = numbers; orders = orders } → IsScript mode bytes script
 whole mode bytes start behind body names max lines numbers rest orders script so_far catalogue most takes numbered are is =
     rw is (record { body = body; behind_go = rest; opens = opened mode bytes start behind body names max so_far catalogue most; lines = takes; numbers = numbered; orders = are })

@@ -28,7 +28,7 @@ three_words (word ∷ second ∷ third ∷ []) default last least most is = ap (
 three_words (word ∷ second ∷ third ∷ fourth ∷ words) default last least most is = absurd (omega arith)
 
 -- all of them
-all_of : (words : List (Bor (List ℕ))) (n : ℕ) → n ≡ length words → texts words ≡ texts (take n words)
+pub all_of : (words : List (Bor (List ℕ))) (n : ℕ) → n ≡ length words → texts words ≡ texts (take n words)
 all_of words n is = rw (is, take-length words) refl
 
 -- a word and any others

@@ -1,6 +1,10 @@
+pub mod CatalogueComplaint
 pub mod Change
+pub mod Complaint
+pub mod Explanation
 pub mod Line
 pub mod Opening
+pub mod Quoted
 pub mod Reading
 pub mod Rules
 pub mod Run

@@ -1,5 +1,5 @@
 -- What a script says.
-use Rattle.std.specs.Prelude.{ℕ, suc, ◌≡◌, ◌<◌, ◌≤◌, List, [], ◌∷◌, length, codes}
+use Rattle.std.specs.Prelude.{ℕ, suc, ◌≡◌, ◌≢◌, ◌<◌, ◌≤◌, List, [], ◌∷◌, length, codes}
 use Rattle.std.specs.Str.{IsUtf8}
 use Rattle.desk_core.specs.declared.order.Order.{Order as OrderOf}
 use Rattle.script.specs.declared.line.Line.{Line}
@@ -107,12 +107,12 @@ pub record IsText (bytes : List ℕ) : Type 0 where
   pub short : length bytes ≤ 65536
   pub text : IsUtf8 bytes
 
--- the text opens with a catalogue and the most entries, and this is left behind them
+-- the text opens with a catalogue, and with how many entries there may be, and this is left behind them
 pub record Opens (mode : Mode) (bytes : List ℕ) (names : List (List ℕ)) (max : ℕ) (body : Left) : Type 0 where
   pub is_text : IsText bytes
   pub behind_catalogue : Left
   pub catalogue : TakesCatalogue (left_from mode 1 bytes) names behind_catalogue
-  pub most : TakesMax behind_catalogue max body
+  pub most : TakesMax mode behind_catalogue max body
 
 -- the bytes are this script
 pub record IsScript (mode : Mode) (bytes : List ℕ) (script : ScriptParts) : Type 0 where
@@ -131,9 +131,9 @@ pub data IsScriptFault (mode : Mode) (bytes : List ℕ) : ScriptFault → Type 0
   NoText : length bytes ≤ 65536 → ¬ IsUtf8 bytes → IsScriptFault mode bytes NotText
   -- a fault of the first line
   InCatalogue : (fault : ScriptFault) → IsText bytes → IsCatalogueFault (left_from mode 1 bytes) fault → IsScriptFault mode bytes fault
-  -- a fault of the second line, behind a catalogue
+  -- a fault of the second line, behind a catalogue, where it has to say how many entries there may be
   InMax : (names : List (List ℕ)) (rest : Left) (fault : ScriptFault) → IsText bytes → TakesCatalogue (left_from mode 1 bytes) names rest
-      → IsMaxFault rest fault → IsScriptFault mode bytes fault
+      → mode ≢ Run → IsMaxFault rest fault → IsScriptFault mode bytes fault
   -- a fault of a line behind the opening, up to `go`
   InLines : (names : List (List ℕ)) (max : ℕ) (body : Left) (fault : ScriptFault) → Opens mode bytes names max body
       → IsLinesFault mode names 0 body.lines fault → IsScriptFault mode bytes fault

@@ -30,6 +30,9 @@
 //! ```
 #![tactic(auto)]
 
+mod catalogue_complaint;
+mod complaint;
+mod explanation;
 mod laws;
 mod line;
 mod name;
@@ -38,6 +41,7 @@ mod opening;
 mod order;
 mod outcome;
 mod probes;
+mod quoted;
 mod reading;
 mod replay;
 mod rule;
@@ -49,6 +53,7 @@ mod text_lines;
 mod texts;
 mod words;
 
+pub use explanation::explain;
 pub use laws::{changes_in_place, one_script};
 pub use line::{Line, read_line};
 pub use probes::{probe_for, probes_for};

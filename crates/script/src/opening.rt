@@ -2,12 +2,14 @@ ghost use Rattle.std.specs.Prelude.{◌≡◌, ◌≢◌, map, string_bytes, IfO
 ghost use Rattle.std.specs.Option.{option_map};
 ghost use Rattle.desk_core.specs.Fault.{fault_in};
 ghost use Rattle.script.specs.TextLines.{texts};
-ghost use Rattle.script.specs.Opening.{IsCatalogueLine, IsMaxLine, TakesCatalogue, TakesMax, IsCatalogueFault, IsMaxFault};
+ghost use Rattle.script.specs.declared.script.Mode.TheVariants.{Run};
+ghost use Rattle.script.specs.Opening.{IsCatalogueLine, IsMaxLine, IsMaxSaid, TakesCatalogue, TakesMax, TakesMaxLine, IsCatalogueFault, IsMaxFault};
 ghost use Rattle.script.specs.Reading.{IsReading};
 ghost use Rattle.script.specs.Word.{name_of};
 
 use crate::name::name_of;
 use crate::number::number_of;
+use crate::script::Mode;
 use crate::script_fault::ScriptFault;
 use crate::text_lines::Lines;
 use crate::words::words_of;
@@ -31,9 +33,20 @@ pub(crate) fn read_catalogue(alloc: Global, lines: &mut Lines<'_>) -> Result<Cat
     }
 }
 
-/// Takes the line that says how many entries the journal may have.
-pub(crate) fn read_max(alloc: Global, lines: &mut Lines<'_>) -> Result<u32, ScriptFault>
-    ensures ok { IfOk result (λ max. TakesMax lines.old max lines.new) }
+/// Takes the line that says how many entries the journal may have. A script to run may lack it, and have as many as there can be.
+pub(crate) fn read_max(alloc: Global, mode: Mode, lines: &mut Lines<'_>) -> Result<u32, ScriptFault>
+    ensures ok { IfOk result (λ max. TakesMax mode lines.old max lines.new) }
+    ensures fault { IfErr result (λ fault. fault ≢ ScriptFault.NoMemory
+        → (mode ≢ Run) × IsMaxFault lines.old fault) }
+{
+    match mode {
+        Mode::Replay | Mode::Serve => needed_max(alloc, lines),
+        Mode::Run => Ok(said_max(alloc, lines)?.unwrap_or(u32::MAX)),
+    }
+}
+
+fn needed_max(alloc: Global, lines: &mut Lines<'_>) -> Result<u32, ScriptFault>
+    ensures ok { IfOk result (λ max. TakesMaxLine lines.old max lines.new) }
     ensures fault { IfErr result (λ fault. fault ≢ ScriptFault.NoMemory
         → IsMaxFault lines.old fault) }
 {
@@ -46,6 +59,21 @@ pub(crate) fn read_max(alloc: Global, lines: &mut Lines<'_>) -> Result<u32, Scri
         Ok(None) => Err(ScriptFault::BadLine(number)),
         Err(_) => Err(ScriptFault::NoMemory),
     }
+}
+
+/// Takes nothing where the next line says no number.
+fn said_max(alloc: Global, lines: &mut Lines<'_>) -> Result<Option<u32>, AllocError>
+    ensures { IfOk result (λ found. IsMaxSaid lines.old found lines.new) }
+{
+    let mut behind = lines.look_ahead();
+    let Ok((_, line)) = behind.next() else {
+        return Ok(None);
+    };
+    let Some(max) = max_in(alloc, line)? else {
+        return Ok(None);
+    };
+    *lines = behind;
+    Ok(Some(max))
 }
 
 fn catalogue_of(alloc: Global, names: Vec<String>) -> Result<Catalogue, ScriptFault>
@@ -63,7 +91,8 @@ fn catalogue_of(alloc: Global, names: Vec<String>) -> Result<Catalogue, ScriptFa
     }
 }
 
-fn names_in(alloc: Global, line: &str) -> Result<Option<Vec<String>>, AllocError>
+/// The names that a line lists, if it is one of a catalogue.
+pub(crate) fn names_in(alloc: Global, line: &str) -> Result<Option<Vec<String>>, AllocError>
     ensures { IfOk result (λ found. IsReading IsCatalogueLine line.now
         (option_map (λ names. map string_bytes names.items) found)) }
 {

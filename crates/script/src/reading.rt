@@ -12,7 +12,7 @@ use crate::text_lines::Lines;
 use desk_core::{Catalogue, Order};
 use std::alloc::{AllocError, Global};
 
-const MAX_LEN: usize = 65_536;
+pub(crate) const MAX_LEN: usize = 65_536;
 
 /// Reads the bytes as a script, up to the first fault.
 pub fn read_script(alloc: Global, bytes: &[u8], mode: Mode) -> Result<Script, ScriptFault>
@@ -31,7 +31,7 @@ pub fn read_script(alloc: Global, bytes: &[u8], mode: Mode) -> Result<Script, Sc
     };
     let mut lines = Lines::new(mode, text);
     let catalogue = read_catalogue(alloc, &mut lines)?;
-    let max = read_max(alloc, &mut lines)?;
+    let max = read_max(alloc, mode, &mut lines)?;
     let (steps, numbers) = read_lines(alloc, mode, &catalogue, &mut lines)?;
     let orders = read_orders(alloc, &mut lines)?;
     Ok(Script::new(catalogue, max, steps, numbers, orders))
@@ -75,7 +75,8 @@ fn is_go(mode: Mode, text: &str) -> bool
     mode == Mode::Serve && text == "go"
 }
 
-fn next_line(
+/// The line that a text gives, if it may stand behind lines that opened so many watches.
+pub(crate) fn next_line(
     alloc: Global,
     mode: Mode,
     catalogue: &Catalogue,

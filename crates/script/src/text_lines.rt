@@ -40,6 +40,17 @@ impl<'a> Lines<'a> {
         }
     }
 
+    /// The same lines, to look ahead in.
+    pub(crate) fn look_ahead(&self) -> Lines<'a>
+        ensures { result ≡ self.now }
+    {
+        Lines {
+            mode: self.mode,
+            rest: self.rest,
+            number: self.number,
+        }
+    }
+
     /// Takes the next line of which a byte is read, with its number. Where there is none it gives the number after the last line.
     pub(crate) fn next(&mut self) -> Result<(u32, &'a str), u32>
         ensures line { IfOk result (λ line. self.old ≡ with_line (line.0, line.1.now) self.new) }

@@ -2,6 +2,8 @@
 #![tactic(auto)]
 
 #[cfg(test)]
+mod explanation;
+#[cfg(test)]
 mod reading;
 #[cfg(test)]
 mod replay;

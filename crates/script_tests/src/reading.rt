@@ -145,7 +145,7 @@ static RUN: Read = Read {
     orders: &[],
 };
 
-static OTHERS: [Read; 16] = [
+static OTHERS: [Read; 20] = [
     // Sixteen names, and the largest numbers.
     Read {
         mode: Mode::Replay,
@@ -187,6 +187,35 @@ static OTHERS: [Read; 16] = [
         text: "catalogue a -\nmax 9\nup a",
         sizes: (2, 9),
         lines: &[(3, Said::Set("a", Setting::Up))],
+        orders: &[],
+    },
+    // Without `max` there may be as many entries as can be counted.
+    Read {
+        mode: Mode::Run,
+        text: "catalogue a -",
+        sizes: (2, 4_294_967_295),
+        lines: &[],
+        orders: &[],
+    },
+    Read {
+        mode: Mode::Run,
+        text: "catalogue a -\nup a\r\nresume",
+        sizes: (2, 4_294_967_295),
+        lines: &[(2, Said::Set("a", Setting::Up)), (3, Said::Resume)],
+        orders: &[],
+    },
+    Read {
+        mode: Mode::Run,
+        text: "# a\ncatalogue a -\r\n\n# max 9\n",
+        sizes: (2, 4_294_967_295),
+        lines: &[],
+        orders: &[],
+    },
+    Read {
+        mode: Mode::Run,
+        text: "catalogue a -\n\n# b\nmax 0\n\nup a",
+        sizes: (2, 0),
+        lines: &[(6, Said::Set("a", Setting::Up))],
         orders: &[],
     },
     Read {
@@ -457,6 +486,19 @@ const BAD_TO_RUN: [(&str, u32); 20] = [
     ("max 9", 4),
 ];
 
+/// What a script to run has behind the one line of its catalogue, and the line that is bad.
+const BAD_BEHIND_CATALOGUE: [(&str, u32); 9] = [
+    ("max", 2),
+    ("max x", 2),
+    ("max 9 9", 2),
+    ("max  9", 2),
+    ("max 4294967296", 2),
+    ("Max 9", 2),
+    ("# b\nmax 9\nmax 9", 4),
+    ("up a\nmax 9", 3),
+    ("\nup a\ngo", 4),
+];
+
 fn joined(alloc: Global, opening: &str, body: &str) -> Result<String, AllocError> {
     let mut text = String::from_str(alloc, opening)?;
     text.push_str(body)?;
@@ -485,17 +527,15 @@ fn refuses_each_bad_line(rt: HostRuntime) -> Result<(), Fail> {
     let opening = "catalogue a -\nmax 9\n";
     expect_bad(alloc, Mode::Serve, opening, &BAD_TO_SERVE)?;
     let opening = "catalogue a -\r\n# the most\nmax 9\n";
-    expect_bad(alloc, Mode::Run, opening, &BAD_TO_RUN)
+    expect_bad(alloc, Mode::Run, opening, &BAD_TO_RUN)?;
+    expect_bad(alloc, Mode::Run, "catalogue a -\n", &BAD_BEHIND_CATALOGUE)
 }
 
 /// Openings, and the fault of a script that goes no further, in each mode.
-const OPENINGS: [(&str, ScriptFault); 25] = [
+const OPENINGS: [(&str, ScriptFault); 22] = [
     ("", ScriptFault::BadLine(1)),
     ("\n", ScriptFault::BadLine(2)),
     ("\n\n", ScriptFault::BadLine(3)),
-    ("catalogue a -", ScriptFault::BadLine(2)),
-    ("catalogue a -\n", ScriptFault::BadLine(2)),
-    ("catalogue a -\n\n", ScriptFault::BadLine(3)),
     ("catalogue", ScriptFault::BadLine(1)),
     ("catalogue ", ScriptFault::BadLine(1)),
     ("catalogue  -", ScriptFault::BadLine(1)),
@@ -537,11 +577,10 @@ const OPENINGS: [(&str, ScriptFault); 25] = [
 ];
 
 /// Openings of scripts to run, behind comments and empty lines, and the fault of a script that goes no further.
-const OPENINGS_TO_RUN: [(&str, ScriptFault); 11] = [
+const OPENINGS_TO_RUN: [(&str, ScriptFault); 10] = [
     ("#", ScriptFault::BadLine(2)),
     ("\r", ScriptFault::BadLine(2)),
     ("# a\r\n\r\n", ScriptFault::BadLine(3)),
-    ("# a\ncatalogue a -\n# b\n", ScriptFault::BadLine(4)),
     ("# a\n\nmin 3", ScriptFault::BadLine(3)),
     ("#\n\ncatalogue -\n\r\n#\nmin 3", ScriptFault::BadLine(6)),
     ("catalogue a -\nmax\r9", ScriptFault::BadLine(2)),
@@ -558,7 +597,11 @@ const OPENINGS_TO_RUN: [(&str, ScriptFault); 11] = [
 ];
 
 /// What is bad in a script to replay or to serve, and not in one to run.
-const ELSEWHERE: [(&str, ScriptFault); 6] = [
+const ELSEWHERE: [(&str, ScriptFault); 10] = [
+    ("catalogue a -", ScriptFault::BadLine(2)),
+    ("catalogue a -\n", ScriptFault::BadLine(2)),
+    ("catalogue a -\n\n", ScriptFault::BadLine(3)),
+    ("catalogue a -\nresume", ScriptFault::BadLine(2)),
     ("# a\ncatalogue a -\nmax 9", ScriptFault::BadLine(1)),
     ("catalogue a -\nmax 9\n# up a", ScriptFault::BadLine(3)),
     ("catalogue a -\nmax 9\r\n", ScriptFault::BadLine(2)),
@@ -588,7 +631,7 @@ fn refuses_a_bad_opening(rt: HostRuntime) -> Result<(), Fail> {
 }
 
 #[test]
-fn has_comments_and_carriage_returns_only_to_run(rt: HostRuntime) -> Result<(), Fail> {
+fn has_comments_carriage_returns_and_no_max_only_to_run(rt: HostRuntime) -> Result<(), Fail> {
     let alloc = rt.alloc();
     expect_faults(alloc, Mode::Replay, &ELSEWHERE)?;
     expect_faults(alloc, Mode::Serve, &ELSEWHERE)?;

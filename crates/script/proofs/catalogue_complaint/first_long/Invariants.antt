@@ -1,0 +1,10 @@
+use Rattle.std.proofs.Common.{◌≡◌, length}
+use Rattle.script.specs.CatalogueComplaint.{first_long}
+use Rattle.script.specs.TextLines.{texts}
+use Rattle.script.proofs.catalogue_complaint.first_long.Given as goal
+
+abbrev pub invariant-words : goal.invariant-words
+invariant-words l = first_long (texts l.rest) ≡ first_long (texts l.fn.words)
+
+abbrev pub decreases-words : goal.decreases-words
+decreases-words l = length l.rest

@@ -1,0 +1,8 @@
+use Rattle.script.specs.Complaint.IsSoOf.{WithoutWords, WithWords}
+use Rattle.script.proofs.complaint.complaint_of.Goals as goal
+
+pub returns-in-Some-clause-so : goal.returns-in-Some-clause-so
+returns-in-Some-clause-so c = WithWords _ _ (rw c.in-Some.is at c.in_ok-words.ensures) (rw c.deref.ensures.value at c.line_complaint.ensures)
+
+pub returns-in-None-clause-so : goal.returns-in-None-clause-so
+returns-in-None-clause-so c = WithoutWords (rw c.in-None.is at c.in_ok-words.ensures)

@@ -1,0 +1,186 @@
+ghost use Rattle.std.specs.Prelude.{◌↔◌, ◌∷◌, ℕ, List, IsNone, IfOk, IfSome};
+ghost use Rattle.script.specs.declared.line.Line.{Line};
+ghost use Rattle.script.specs.declared.script.Mode.TheVariants.{Run};
+ghost use Rattle.script.specs.Complaint.{IsSo, IsSoOf};
+ghost use Rattle.script.specs.Script.{IsNextLine};
+ghost use Rattle.script.specs.TextLines.{texts};
+
+use crate::name::name_of;
+use crate::number::number_of;
+use crate::quoted::Quoted;
+use crate::reading::next_line;
+use crate::script::Mode;
+use crate::words::words_of;
+use desk_core::Catalogue;
+use std::alloc::{AllocError, Global};
+use std::fmt;
+
+/// What is wrong with a line of a script to run, in the words that a message has for it.
+#[derive(Clone, Copy, Debug, PartialEq, Eq)]
+pub(crate) enum Complaint<'a> {
+    /// The first line is another one.
+    NeedsCatalogue,
+    /// Two spaces stand together, or one at an end.
+    EmptyWord,
+    UnknownLine,
+    /// A script to replay or to serve may have the line.
+    OfOtherScripts,
+    NeedsRule,
+    UnknownRule,
+    NeedsCounts,
+    NeedsNames,
+    NotListed(&'a str),
+    NoNumber(&'a str),
+    /// The word has one name behind it.
+    NeedsName(&'a str),
+    StandsAlone(&'a str),
+    NeedsMax,
+    /// It stands behind other lines.
+    MaxTooLate,
+}
+
+impl fmt::Display for Complaint<'_> {
+    ghost use Rattle.std.specs.Prelude.{Some};
+    ghost use Rattle.script.specs.Complaint.{complaint_text};
+
+    ghost output = { λ complaint. Some (complaint_text complaint) };
+
+    fn fmt<W: fmt::Write>(&self, f: &mut fmt::Formatter<W>) -> fmt::Result {
+        match *self {
+            Complaint::NeedsCatalogue => f.write_str("expected catalogue and the names"),
+            Complaint::EmptyWord => f.write_str("an empty word, expected one space between words"),
+            Complaint::UnknownLine => f.write_str(
+                "no such line, expected register, retire, pass, fail, up, down, shutdown or resume",
+            ),
+            Complaint::OfOtherScripts => f.write_str("not in a script to run"),
+            Complaint::NeedsRule => {
+                f.write_str("expected register NAME and then threshold, manual or depends")
+            }
+            Complaint::UnknownRule => {
+                f.write_str("no such rule, expected threshold, manual or depends")
+            }
+            Complaint::NeedsCounts => {
+                f.write_str("expected threshold F, threshold F R or threshold F R unknown")
+            }
+            Complaint::NeedsNames => f.write_str("expected depends and names of the catalogue"),
+            Complaint::NotListed(word) => {
+                let word = Quoted(word);
+                write!(f, "{word} is not in the catalogue")
+            }
+            Complaint::NoNumber(word) => {
+                let word = Quoted(word);
+                write!(f, "{word} is no number from 0 to 4294967295")
+            }
+            Complaint::NeedsName(word) => write!(f, "expected {word} NAME"),
+            Complaint::StandsAlone(word) => write!(f, "expected {word} alone"),
+            Complaint::NeedsMax => f.write_str("expected max N"),
+            Complaint::MaxTooLate => f.write_str("expected max right after the catalogue"),
+        }
+    }
+}
+
+/// What is wrong with a line behind those that open a script to run, if anything is.
+pub(crate) fn complaint_of<'a>(
+    alloc: Global,
+    catalogue: &Catalogue,
+    text: &'a str,
+) -> Result<Option<Complaint<'a>>, AllocError>
+    ensures none { IfOk result (λ found.
+        IsNone found ↔ (line : Line) × IsNextLine Run catalogue.now 0 text.now line) }
+    ensures so { IfOk result (λ found. IfSome found (IsSoOf catalogue.now text.now)) }
+{
+    if next_line(alloc, Mode::Run, catalogue, 0, text)?.is_some() {
+        return Ok(None);
+    }
+    match words_of(alloc, text)? {
+        Some(words) => Ok(Some(line_complaint(catalogue, &words))),
+        None => Ok(Some(Complaint::EmptyWord)),
+    }
+}
+
+/// What is wrong with the words of a bad line.
+fn line_complaint<'a>(catalogue: &Catalogue, words: &[&'a str]) -> Complaint<'a>
+    ensures { IsSo catalogue.now (texts words.now) result }
+{
+    let [first, others @ ..] = words else {
+        return Complaint::UnknownLine;
+    };
+    match *first {
+        "register" => register_complaint(catalogue, others),
+        "max" => max_complaint(others),
+        word => word_complaint(word),
+    }
+}
+
+/// What is wrong with the words behind `register`.
+fn register_complaint<'a>(catalogue: &Catalogue, words: &[&'a str]) -> Complaint<'a>
+    ensures { IsSo catalogue.now (texts words.now) result }
+{
+    match words {
+        [_, rule @ ..] => rule_complaint(catalogue, rule),
+        [] => Complaint::NeedsRule,
+    }
+}
+
+/// What is wrong with a bad line that begins with the word.
+fn word_complaint<'a>(word: &'a str) -> Complaint<'a>
+    ensures { (names others : List (List ℕ)) → IsSo names (word.now ∷ others) result }
+{
+    match word {
+        "retire" | "pass" | "fail" | "up" | "down" => Complaint::NeedsName(word),
+        "shutdown" | "resume" => Complaint::StandsAlone(word),
+        "check" | "open" | "step" | "board" | "go" => Complaint::OfOtherScripts,
+        _ => Complaint::UnknownLine,
+    }
+}
+
+/// What is wrong with the words of a rule, which are none.
+fn rule_complaint<'a>(catalogue: &Catalogue, words: &[&'a str]) -> Complaint<'a>
+    ensures { IsSo catalogue.now (texts words.now) result }
+{
+    let [first, others @ ..] = words else {
+        return Complaint::NeedsRule;
+    };
+    match *first {
+        "threshold" => threshold_complaint(others),
+        "depends" => names_complaint(catalogue, others),
+        "manual" => Complaint::StandsAlone(first),
+        _ => Complaint::UnknownRule,
+    }
+}
+
+fn threshold_complaint<'a>(words: &[&'a str]) -> Complaint<'a>
+    ensures { (names : List (List ℕ)) → IsSo names (texts words.now) result }
+{
+    match words {
+        [fall] | [fall, _] | [fall, _, "unknown"] if number_of(fall).is_none() => {
+            Complaint::NoNumber(fall)
+        }
+        [_, rise] | [_, rise, "unknown"] if number_of(rise).is_none() => Complaint::NoNumber(rise),
+        _ => Complaint::NeedsCounts,
+    }
+}
+
+fn names_complaint<'a>(catalogue: &Catalogue, words: &[&'a str]) -> Complaint<'a>
+    ensures { IsSo catalogue.now (texts words.now) result }
+{
+    for word in words {
+        if catalogue.slot(name_of(word)).is_none() {
+            return Complaint::NotListed(word);
+        }
+    }
+    Complaint::NeedsNames
+}
+
+/// What is wrong with the words behind `max`, where they may not stand.
+fn max_complaint<'a>(words: &[&'a str]) -> Complaint<'a>
+    ensures { (names : List (List ℕ)) → IsSo names (texts words.now) result }
+{
+    match words {
+        [word] => match number_of(word) {
+            Some(_) => Complaint::MaxTooLate,
+            None => Complaint::NoNumber(word),
+        },
+        _ => Complaint::NeedsMax,
+    }
+}
