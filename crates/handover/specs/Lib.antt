@@ -1,0 +1,3 @@
+pub mod Address
+pub mod Numbers
+pub mod Sockets
