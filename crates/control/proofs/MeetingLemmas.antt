@@ -1,5 +1,5 @@
 -- Requests that were met.
-use Rattle.std.proofs.Common.{ℕ, ◌≡◌, ◌≢◌, List, subst, sym, true≢false}
+use Rattle.std.proofs.Common.{ℕ, ◌≡◌, ◌≢◌, ◌⊎◌, ⊎_elim, List, ap, subst, sym, ◌∙◌, true≢false}
 use Rattle.std.proofs.lemmas.Option.{none-some}
 use Rattle.std.specs.Prelude.{Option, None, Some, IfSome, IsSome, Result, refl}
 use Rattle.desk_core.specs.declared.call.Call.{Call}
@@ -12,14 +12,18 @@ use Rattle.health_wire.specs.declared.serving.Serving.{Serving}
 use Rattle.script.specs.declared.line.Line.{Line}
 use Rattle.script.specs.declared.line.Line.TheVariants.{Register, Retire, Order, Check, Open, Step, Board}
 use Rattle.script.specs.Change.{line_change}
+use Rattle.script.specs.TextLines.{without_cr}
 use Rattle.control.specs.declared.answer.Answer.{Answer}
 use Rattle.control.specs.declared.answer.Answer.TheVariants as answers
 use Rattle.control.specs.declared.request.Request.{Request}
 use Rattle.control.specs.declared.request.Request.TheVariants as requests
+use Rattle.control.specs.declared.rights.Rights.{Rights}
+use Rattle.control.specs.declared.rights.Rights.TheVariants.{All, Reports}
 use Rattle.control.specs.declared.stats.Stats.{Stats}
-use Rattle.control.specs.Request.{IsOffered}
-use Rattle.control.specs.Meeting.{IsMet, IsLineMet}
-use Rattle.control.specs.Meeting.IsLineMet.{IsTooLong, IsSkipped, IsNoText, IsNoRequest, IsUnread, IsAsked}
+use Rattle.control.specs.Request.{IsOffered, IsRequest}
+use Rattle.control.specs.Rights.{IsAllowed, unknown_line}
+use Rattle.control.specs.Meeting.{IsMet, IsLineMet, IsSaid}
+use Rattle.control.specs.Meeting.IsLineMet.{IsTooLong, IsSkipped, IsNoText, IsNoRequest, IsUnread, IsDenied, IsAsked}
 use Rattle.control.specs.Text.{IsTold, short_text}
 use Rattle.control.specs.Text.IsTold.{AsItIs, CutShort}
 use Rattle.control.specs.Meeting.IsMet.{Changes, Checks, Packs, Lists, Tells, Stops, Starves, StarvesTold}
@@ -89,20 +93,36 @@ long_met names seen looks changes tells stops old new request answer (Stops same
 long_met names seen looks changes tells stops old new request answer (Starves _ same) long = absurd (none-some _ (sym long))
 long_met names seen looks changes tells stops old new request answer (StarvesTold _ looked) long = absurd (none-some _ (sym long))
 
-cut_short : {S : Type 0} (names : List (List ℕ)) (seen : S → List Entry) (looks : S → S → Type 0)
+-- a line that is no request is answered by a text that is kept
+unknown_is_short : (rights : Rights) (answer : Answer) → answer ≡ unknown_line rights → short_text answer ≡ None → ⊥
+unknown_is_short All answer told none = none-some _ (sym none ∙ ap short_text told)
+unknown_is_short Reports answer told none = none-some _ (sym none ∙ ap short_text told)
+
+cut_short : {S : Type 0} (rights : Rights) (names : List (List ℕ)) (seen : S → List Entry) (looks : S → S → Type 0)
     (changes : S → S → Option Call → Result Reply Refusal → Type 0) (tells : S → Stats → Type 0) (stops : S → S → Type 0) (old new : S) (line : List ℕ) (answer : Answer)
-    → IsLineMet names seen looks changes tells stops old new line answer → short_text answer ≡ None → answer ≢ answers.Skipped → IsLineMet names seen looks changes tells stops old new line answers.OutOfMemory
-cut_short names seen looks changes tells stops old new line answer (IsTooLong long same) none skipped = absurd (none-some _ (sym none))
-cut_short names seen looks changes tells stops old new line answer (IsSkipped short blank same) none skipped = absurd (skipped refl)
-cut_short names seen looks changes tells stops old new line answer (IsNoText short wrong same) none skipped = absurd (none-some _ (sym none))
-cut_short names seen looks changes tells stops old new line answer (IsNoRequest said wrong same) none skipped = absurd (none-some _ (sym none))
-cut_short names seen looks changes tells stops old new line answer (IsUnread said same) none skipped = absurd (none-some _ (sym none))
-cut_short names seen looks changes tells stops old new line answer (IsAsked said request _ asks met) none skipped =
-    IsAsked said request answers.OutOfMemory asks (long_met names seen looks changes tells stops old new request answer met none)
+    → IsLineMet rights names seen looks changes tells stops old new line answer → short_text answer ≡ None → answer ≢ answers.Skipped → IsLineMet rights names seen looks changes tells stops old new line answers.OutOfMemory
+cut_short rights names seen looks changes tells stops old new line answer (IsTooLong long same) none skipped = absurd (none-some _ (sym none))
+cut_short rights names seen looks changes tells stops old new line answer (IsSkipped short blank same) none skipped = absurd (skipped refl)
+cut_short rights names seen looks changes tells stops old new line _ (IsNoText short wrong answer told same) none skipped = absurd (unknown_is_short rights answer told none)
+cut_short rights names seen looks changes tells stops old new line _ (IsNoRequest said wrong answer told same) none skipped = absurd (unknown_is_short rights answer told none)
+cut_short rights names seen looks changes tells stops old new line answer (IsUnread said same) none skipped = absurd (none-some _ (sym none))
+cut_short rights names seen looks changes tells stops old new line answer (IsDenied said request asks denied same) none skipped = absurd (none-some _ (sym none))
+cut_short rights names seen looks changes tells stops old new line answer (IsAsked said request _ asks allowed met) none skipped =
+    IsAsked said request answers.OutOfMemory asks allowed (long_met names seen looks changes tells stops old new request answer met none)
 
 -- what is told of an answer meets its line
-pub still_met : {S : Type 0} (names : List (List ℕ)) (seen : S → List Entry) (looks : S → S → Type 0)
+pub still_met : {S : Type 0} (rights : Rights) (names : List (List ℕ)) (seen : S → List Entry) (looks : S → S → Type 0)
     (changes : S → S → Option Call → Result Reply Refusal → Type 0) (tells : S → Stats → Type 0) (stops : S → S → Type 0) (old new : S) (line : List ℕ) (answer told : Answer)
-    → IsLineMet names seen looks changes tells stops old new line answer → IsTold answer told → IsLineMet names seen looks changes tells stops old new line told
-still_met names seen looks changes tells stops old new line answer told met AsItIs = met
-still_met names seen looks changes tells stops old new line answer told met (CutShort none skipped) = cut_short names seen looks changes tells stops old new line answer met none skipped
+    → IsLineMet rights names seen looks changes tells stops old new line answer → IsTold answer told → IsLineMet rights names seen looks changes tells stops old new line told
+still_met rights names seen looks changes tells stops old new line answer told met AsItIs = met
+still_met rights names seen looks changes tells stops old new line answer told met (CutShort none skipped) = cut_short rights names seen looks changes tells stops old new line answer met none skipped
+
+-- a line that says what may be asked for, or what may not
+pub met_or_denied : {S : Type 0} (rights : Rights) (names : List (List ℕ)) (seen : S → List Entry) (looks : S → S → Type 0)
+    (changes : S → S → Option Call → Result Reply Refusal → Type 0) (tells : S → Stats → Type 0) (stops : S → S → Type 0) (old new : S) (line : List ℕ) (request : Request) (answer : Answer)
+    → IsSaid line → IsRequest names (without_cr line) request
+    → (IsAllowed rights request × IsMet names seen looks changes tells stops old new request answer) ⊎ ((¬ IsAllowed rights request) × (answer ≡ answers.NotAllowed) × (new ≡ old))
+    → IsLineMet rights names seen looks changes tells stops old new line answer
+met_or_denied rights names seen looks changes tells stops old new line request answer said asks = ⊎_elim
+    (λ met. IsAsked said request answer asks met.0 met.1)
+    (λ denied. subst (λ a. IsLineMet rights names seen looks changes tells stops old new line a) (sym denied.1) (IsDenied said request asks denied.0 denied.2))

@@ -6,10 +6,12 @@ pub record IsRefusedChange (answer : List ℕ) : Type 0 where
   pub reason : List ℕ
   pub is : answer ≡ codes "refused " ++ reason
 
--- the answer is one of four texts
+-- the answer is one of six texts
 abbrev pub IsRefusal : List ℕ → Type 0
-IsRefusal answer = (answer ≡ codes "missing") ⊎ (answer ≡ codes "wrong kind") ⊎ (answer ≡ codes "bad line") ⊎ (answer ≡ codes "line too long")
+IsRefusal answer =
+    (answer ≡ codes "missing") ⊎ (answer ≡ codes "wrong kind") ⊎ (answer ≡ codes "ignored") ⊎ (answer ≡ codes "not allowed") ⊎ (answer ≡ codes "bad line")
+    ⊎ (answer ≡ codes "line too long")
 
--- a change was refused, or the answer is one of four texts
+-- a change was refused, or the answer is one of six texts
 abbrev pub IsRefused : List ℕ → Type 0
 IsRefused answer = IsRefusedChange answer ⊎ IsRefusal answer

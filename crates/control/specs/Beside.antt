@@ -8,6 +8,7 @@ use Rattle.desk_core.specs.Changes.{Shows}
 use Rattle.tail.specs.Tail.{forgotten}
 use Rattle.control.specs.declared.answer.Answer.{Answer}
 use Rattle.control.specs.declared.request.Request.{Request}
+use Rattle.control.specs.declared.terms.Terms.{Terms}
 use Rattle.control.specs.declared.stats.Counts.{Counts}
 use Rattle.control.specs.declared.stats.Stats.{Stats}
 use Rattle.control.specs.Meeting.{IsMet, IsLineMet}
@@ -27,31 +28,35 @@ pub record LooksBeside {C V : Type 0} (looks : C → C → Type 0) (old new : C 
   pub server : new.1 ≡ old.1
 
 -- The console makes a change, or refuses it. The server is told once that a status changed, exactly if the change shows
-pub record ChangesBeside {C V : Type 0} (seen : C → List Entry) (answers : C → C → Option Call → Result Reply Refusal → Type 0) (woken : V → V → Type 0)
+pub record ChangesBeside {C V : Type 0} (seen : C → List Entry) (answers : C → C → Option Call → Result Reply Refusal → Type 0) (terms : V → Terms) (woken : V → V → Type 0)
     (old new : C × V) (call : Option Call) (result : Result Reply Refusal) : Type 0 where
   pub answered : answers old.0 new.0 call result
   pub wakes : HasShown result (seen new.0) → woken old.1 new.1
   pub lets_wait : ¬ HasShown result (seen new.0) → new.1 ≡ old.1
+  pub terms_stay : terms new.1 ≡ terms old.1
 
--- the numbers are those of the history that the console has seen, of which so many entries are kept, and those that the server counts
-pub record TellsBeside {C V : Type 0} (seen : C → List Entry) (kept : Option ℕ) (counted : V → Counts → Type 0) (held : C × V) (stats : Stats) : Type 0 where
+-- the numbers are those of the history that the console has seen, of which so many entries are kept and to which so many may be added, and
+-- those that the server counts
+pub record TellsBeside {C V : Type 0} (seen : C → List Entry) (kept : Option ℕ) (terms : V → Terms) (counted : V → Counts → Type 0) (held : C × V) (stats : Stats) : Type 0 where
   pub entries : stats.entries ≡ length (seen held.0)
   pub in_memory : stats.kept ≡ length (seen held.0) - forgotten kept (length (seen held.0))
   pub counts : counted held.1 stats.counts
+  pub left : stats.left ≡ (terms held.1).most - stats.entries
 
 -- the server is told to end, and the console stays
-pub record StopsBeside {C V : Type 0} (stopped : V → V → Type 0) (old new : C × V) : Type 0 where
+pub record StopsBeside {C V : Type 0} (terms : V → Terms) (stopped : V → V → Type 0) (old new : C × V) : Type 0 where
   pub console : new.0 ≡ old.0
   pub server : stopped old.1 new.1
+  pub terms_stay : terms new.1 ≡ terms old.1
 
 -- how a request is met over both
 abbrev pub IsMetBeside : {C V : Type 0} → (C → List Entry) → Option ℕ → (C → C → Type 0) → (C → C → Option Call → Result Reply Refusal → Type 0)
-    → (V → Counts → Type 0) → (V → V → Type 0) → (V → V → Type 0) → List (List ℕ) → C × V → C × V → Request → Answer → Type 0
-IsMetBeside seen kept looks answers counted woken stopped names old new request answer =
-    IsMet names (seen_beside seen) (LooksBeside looks) (ChangesBeside seen answers woken) (TellsBeside seen kept counted) (StopsBeside stopped) old new request answer
+    → (V → Terms) → (V → Counts → Type 0) → (V → V → Type 0) → (V → V → Type 0) → List (List ℕ) → C × V → C × V → Request → Answer → Type 0
+IsMetBeside seen kept looks answers terms counted woken stopped names old new request answer =
+    IsMet names (seen_beside seen) (LooksBeside looks) (ChangesBeside seen answers terms woken) (TellsBeside seen kept terms counted) (StopsBeside terms stopped) old new request answer
 
--- how a line is met over both
+-- how a line is met over both, in a session with the rights of the server's terms
 abbrev pub IsLineMetBeside : {C V : Type 0} → (C → List Entry) → Option ℕ → (C → C → Type 0) → (C → C → Option Call → Result Reply Refusal → Type 0)
-    → (V → Counts → Type 0) → (V → V → Type 0) → (V → V → Type 0) → List (List ℕ) → C × V → C × V → List ℕ → Answer → Type 0
-IsLineMetBeside seen kept looks answers counted woken stopped names old new line answer =
-    IsLineMet names (seen_beside seen) (LooksBeside looks) (ChangesBeside seen answers woken) (TellsBeside seen kept counted) (StopsBeside stopped) old new line answer
+    → (V → Terms) → (V → Counts → Type 0) → (V → V → Type 0) → (V → V → Type 0) → List (List ℕ) → C × V → C × V → List ℕ → Answer → Type 0
+IsLineMetBeside seen kept looks answers terms counted woken stopped names old new line answer =
+    IsLineMet (terms old.1).rights names (seen_beside seen) (LooksBeside looks) (ChangesBeside seen answers terms woken) (TellsBeside seen kept terms counted) (StopsBeside terms stopped) old new line answer

@@ -5,6 +5,7 @@ pub mod Beside
 pub mod Meeting
 pub mod Place
 pub mod Request
+pub mod Rights
 pub mod Session
 pub mod Talk
 pub mod Tell

@@ -16,7 +16,9 @@ use Rattle.control.specs.declared.answer.Answer.TheVariants as answers
 use Rattle.control.specs.declared.request.Request.{Request}
 use Rattle.control.specs.declared.request.Request.TheVariants as requests
 use Rattle.control.specs.declared.stats.Stats.{Stats}
+use Rattle.control.specs.declared.rights.Rights.{Rights}
 use Rattle.control.specs.Request.{IsRequest}
+use Rattle.control.specs.Rights.{IsAllowed, unknown_line}
 
 -- The request is met with this answer, between two states. `changes` says how a change that was asked for comes out, `looks` that the
 -- state has at most seen more, and `seen` is the history that it has seen, the newest entry first; `tells` says what it counts, and `stops`
@@ -41,13 +43,17 @@ pub record IsSaid (line : List ℕ) : Type 0 where
   pub text : IsUtf8 line
   pub some : without_cr line ≢ []
 
--- The line is met with this answer. Its CR at the end is no part of what it says
-pub data IsLineMet {S : Type 0} (names : List (List ℕ)) (seen : S → List Entry) (looks : S → S → Type 0)
+-- The line is met with this answer in a session with these rights. Its CR at the end is no part of what it says
+pub data IsLineMet {S : Type 0} (rights : Rights) (names : List (List ℕ)) (seen : S → List Entry) (looks : S → S → Type 0)
     (changes : S → S → Option Call → Result Reply Refusal → Type 0) (tells : S → Stats → Type 0) (stops : S → S → Type 0) (old new : S) (line : List ℕ) : Answer → Type 0 where
-  IsTooLong : 1024 < length line → new ≡ old → IsLineMet names seen looks changes tells stops old new line answers.TooLong
-  IsNoText : length line ≤ 1024 → ¬ IsUtf8 line → new ≡ old → IsLineMet names seen looks changes tells stops old new line answers.BadLine
-  IsSkipped : length line ≤ 1024 → without_cr line ≡ [] → new ≡ old → IsLineMet names seen looks changes tells stops old new line answers.Skipped
-  IsNoRequest : IsSaid line → ((request : Request) → ¬ IsRequest names (without_cr line) request) → new ≡ old → IsLineMet names seen looks changes tells stops old new line answers.BadLine
-  IsUnread : IsSaid line → new ≡ old → IsLineMet names seen looks changes tells stops old new line answers.OutOfMemory
-  IsAsked : IsSaid line → (request : Request) (answer : Answer) → IsRequest names (without_cr line) request → IsMet names seen looks changes tells stops old new request answer
-      → IsLineMet names seen looks changes tells stops old new line answer
+  IsTooLong : 1024 < length line → new ≡ old → IsLineMet rights names seen looks changes tells stops old new line answers.TooLong
+  IsNoText : length line ≤ 1024 → ¬ IsUtf8 line → (answer : Answer) → answer ≡ unknown_line rights → new ≡ old → IsLineMet rights names seen looks changes tells stops old new line answer
+  IsSkipped : length line ≤ 1024 → without_cr line ≡ [] → new ≡ old → IsLineMet rights names seen looks changes tells stops old new line answers.Skipped
+  IsNoRequest : IsSaid line → ((request : Request) → ¬ IsRequest names (without_cr line) request) → (answer : Answer) → answer ≡ unknown_line rights → new ≡ old
+      → IsLineMet rights names seen looks changes tells stops old new line answer
+  IsUnread : IsSaid line → new ≡ old → IsLineMet rights names seen looks changes tells stops old new line answers.OutOfMemory
+  IsDenied : IsSaid line → (request : Request) → IsRequest names (without_cr line) request → ¬ IsAllowed rights request → new ≡ old
+      → IsLineMet rights names seen looks changes tells stops old new line answers.NotAllowed
+  IsAsked : IsSaid line → (request : Request) (answer : Answer) → IsRequest names (without_cr line) request → IsAllowed rights request
+      → IsMet names seen looks changes tells stops old new request answer
+      → IsLineMet rights names seen looks changes tells stops old new line answer

@@ -6,7 +6,7 @@ use Rattle.health_wire.specs.declared.serving.Serving.TheVariants.{Unknown, NotS
 use Rattle.desk_core.specs.Board.{status_in}
 use Rattle.script.specs.RunText.{changed_text, checked_text}
 use Rattle.control.specs.declared.answer.Answer.{Answer}
-use Rattle.control.specs.declared.answer.Answer.TheVariants.{Changed, Checked, Board, Listed, Told, Stopping, BadLine, TooLong, OutOfMemory, Skipped}
+use Rattle.control.specs.declared.answer.Answer.TheVariants.{Changed, Checked, Board, Listed, Told, Stopping, BadLine, TooLong, NotAllowed, OutOfMemory, Skipped}
 use Rattle.control.specs.declared.stats.Counts.{Counts}
 use Rattle.control.specs.declared.stats.Ended.{Ended}
 use Rattle.control.specs.declared.stats.OpenNow.{OpenNow}
@@ -44,15 +44,15 @@ open_text current = codes "connections " ++ decimal current.connections ++ codes
 
 -- the calls that have ended
 abbrev pub ended_text : Ended → List ℕ
-ended_text ended = codes "calls " ++ decimal ended.calls ++ codes " given_up " ++ decimal ended.given_up ++ codes " behind " ++ decimal ended.behind
+ended_text ended = codes "calls " ++ decimal ended.calls ++ codes " given_up " ++ decimal ended.given_up ++ codes " behind " ++ decimal ended.behind ++ codes " gone " ++ decimal ended.gone
 
--- what a server counts of connections and calls
+-- what a server counts of connections, calls and expiries
 abbrev pub counts_text : Counts → List ℕ
-counts_text counts = open_text counts.current ++ codes " " ++ ended_text counts.ended
+counts_text counts = open_text counts.current ++ codes " " ++ ended_text counts.ended ++ codes " expired " ++ decimal counts.expired
 
 -- what a server counts
 abbrev pub stats_text : Stats → List ℕ
-stats_text stats = codes "entries " ++ decimal stats.entries ++ codes " kept " ++ decimal stats.kept ++ codes " " ++ counts_text stats.counts
+stats_text stats = codes "entries " ++ decimal stats.entries ++ codes " kept " ++ decimal stats.kept ++ codes " " ++ counts_text stats.counts ++ codes " left " ++ decimal stats.left
 
 -- the text of an answer that has one of a few
 abbrev pub short_text : Answer → Option (List ℕ)
@@ -64,6 +64,7 @@ short_text (Told stats) = None
 short_text Stopping = Some (codes "stopping")
 short_text BadLine = Some (codes "bad line")
 short_text TooLong = Some (codes "line too long")
+short_text NotAllowed = Some (codes "not allowed")
 short_text OutOfMemory = Some (codes "refused no memory")
 short_text Skipped = None
 
@@ -77,6 +78,7 @@ long_text names (Told stats) = stats_text stats
 long_text names Stopping = []
 long_text names BadLine = []
 long_text names TooLong = []
+long_text names NotAllowed = []
 long_text names OutOfMemory = []
 long_text names Skipped = []
 
@@ -90,6 +92,7 @@ answer_text names (Told stats) = stats_text stats ++ codes "\n"
 answer_text names Stopping = codes "stopping\n"
 answer_text names BadLine = codes "bad line\n"
 answer_text names TooLong = codes "line too long\n"
+answer_text names NotAllowed = codes "not allowed\n"
 answer_text names OutOfMemory = codes "refused no memory\n"
 answer_text names Skipped = []
 
@@ -103,6 +106,7 @@ ends_session (Told stats) = false
 ends_session Stopping = true
 ends_session BadLine = false
 ends_session TooLong = true
+ends_session NotAllowed = false
 ends_session OutOfMemory = false
 ends_session Skipped = false
 

@@ -19,6 +19,8 @@ pub enum Answer {
     BadLine,
     /// The line has too many bytes.
     TooLong,
+    /// The place of the session does not take such a line.
+    NotAllowed,
     /// Memory ran out, and nothing was changed.
     OutOfMemory,
     /// The line has no byte, and is not answered.
@@ -41,6 +43,7 @@ impl Answer {
             Answer::Stopping => Some("stopping"),
             Answer::BadLine => Some("bad line"),
             Answer::TooLong => Some("line too long"),
+            Answer::NotAllowed => Some("not allowed"),
             Answer::OutOfMemory => Some("refused no memory"),
             Answer::Board(_) | Answer::Listed(_) | Answer::Told(_) | Answer::Skipped => None,
         }

@@ -31,6 +31,24 @@ pub fn connect<R: Net<Stream = TcpStream>>(rt: &R, place: Place<'_>) -> io::Resu
     }
 }
 
+/// Connects as `connect` does, and waits no longer than this for a socket of TCP. A Unix socket answers at once, as long as the server
+/// takes connections.
+pub fn connect_within<R: Net<Stream = TcpStream>>(
+    rt: &R,
+    place: Place<'_>,
+    time: Duration,
+) -> io::Result<ControlClient>
+    ensures local { IfOk result (λ _. IsLocal place.entry) }
+    ensures elsewhere { ¬ (IsLocal place.entry) → IsErrAnd result (λ error. error_kind error ≡ ErrorKind.InvalidInput) }
+{
+    match place {
+        Place::Address(addr) if place.is_local() => {
+            Ok(ControlClient::Tcp(TcpStream::connect_timeout(rt, &addr, time)?))
+        }
+        _ => connect(rt, place),
+    }
+}
+
 impl ControlClient {
     /// How long a read may wait. One that waits longer is `WouldBlock`. A time of 0 is `InvalidInput`.
     pub fn set_read_timeout(&self, time: Option<Duration>) -> io::Result<()> {

@@ -6,6 +6,7 @@ ghost use Rattle.control.specs.declared.request.Request.{Request};
 ghost use Rattle.control.specs.Beside.{IsLineMetBeside, IsMetBeside};
 ghost use Rattle.control.specs.Meeting.{IsSaid};
 ghost use Rattle.control.specs.Request.{IsRequest};
+ghost use Rattle.control.specs.Rights.{IsAllowed, unknown_line};
 
 use crate::server::Server;
 use desk_core::Console;
@@ -17,29 +18,39 @@ pub fn one_request()
         → IsRequest names text first → IsRequest names text second → first ≡ second }
 {}
 
-/// How a line is met follows from the line: it is too long, or no text, or says nothing, or is no request, or it is met as its request.
+/// How a line is met follows from the line: it is too long, or no text, or says nothing, or is no request, or is not allowed, or it is
+/// met as its request.
 pub fn one_meeting<P: Probe, C: Console<P>, V: Server>()
     ensures too_long { (names : List (List ℕ)) (old new : C × V) (line : List ℕ) (answer : Answer)
-        → IsLineMetBeside C.seen C.kept C.looks C.answers V.counted V.woken V.stopped names
-        old new line answer
+        → IsLineMetBeside C.seen C.kept C.looks C.answers V.terms V.counted V.woken V.stopped
+        names old new line answer
         → 1024 < length line → (answer ≡ Answer.TooLong) × (new ≡ old) }
     ensures no_text { (names : List (List ℕ)) (old new : C × V) (line : List ℕ) (answer : Answer)
-        → IsLineMetBeside C.seen C.kept C.looks C.answers V.counted V.woken V.stopped names
-        old new line answer
-        → length line ≤ 1024 → ¬ IsUtf8 line → (answer ≡ Answer.BadLine) × (new ≡ old) }
+        → IsLineMetBeside C.seen C.kept C.looks C.answers V.terms V.counted V.woken V.stopped
+        names old new line answer
+        → length line ≤ 1024 → ¬ IsUtf8 line
+        → (answer ≡ unknown_line (V.terms old.1).rights) × (new ≡ old) }
     ensures silent { (names : List (List ℕ)) (old new : C × V) (line : List ℕ) (answer : Answer)
-        → IsLineMetBeside C.seen C.kept C.looks C.answers V.counted V.woken V.stopped names
-        old new line answer
+        → IsLineMetBeside C.seen C.kept C.looks C.answers V.terms V.counted V.woken V.stopped
+        names old new line answer
         → without_cr line ≡ [] → (answer ≡ Answer.Skipped) × (new ≡ old) }
     ensures no_request { (names : List (List ℕ)) (old new : C × V) (line : List ℕ) (answer : Answer)
-        → IsLineMetBeside C.seen C.kept C.looks C.answers V.counted V.woken V.stopped names
-        old new line answer
+        → IsLineMetBeside C.seen C.kept C.looks C.answers V.terms V.counted V.woken V.stopped
+        names old new line answer
         → IsSaid line → ((request : Request) → ¬ IsRequest names (without_cr line) request)
-        → ((answer ≡ Answer.BadLine) ⊎ (answer ≡ Answer.OutOfMemory)) × (new ≡ old) }
-    ensures request { (names : List (List ℕ)) (old new : C × V) (line : List ℕ) (answer : Answer) (request : Request)
-        → IsLineMetBeside C.seen C.kept C.looks C.answers V.counted V.woken V.stopped names
-        old new line answer
-        → IsSaid line → IsRequest names (without_cr line) request
-        → IsMetBeside C.seen C.kept C.looks C.answers V.counted V.woken V.stopped names
+        → ((answer ≡ unknown_line (V.terms old.1).rights) ⊎ (answer ≡ Answer.OutOfMemory))
+        × (new ≡ old) }
+    ensures request { (names : List (List ℕ)) (old new : C × V) (line : List ℕ) (answer : Answer)
+        (request : Request)
+        → IsLineMetBeside C.seen C.kept C.looks C.answers V.terms V.counted V.woken V.stopped
+        names old new line answer
+        → IsSaid line → IsRequest names (without_cr line) request → IsAllowed (V.terms old.1).rights request
+        → IsMetBeside C.seen C.kept C.looks C.answers V.terms V.counted V.woken V.stopped names
         old new request answer }
+    ensures denied { (names : List (List ℕ)) (old new : C × V) (line : List ℕ) (answer : Answer)
+        (request : Request)
+        → IsLineMetBeside C.seen C.kept C.looks C.answers V.terms V.counted V.woken V.stopped
+        names old new line answer
+        → IsSaid line → IsRequest names (without_cr line) request → ¬ IsAllowed (V.terms old.1).rights request
+        → ((answer ≡ Answer.NotAllowed) ⊎ (answer ≡ Answer.OutOfMemory)) × (new ≡ old) }
 {}

@@ -5,7 +5,7 @@ ghost use Rattle.control.specs.Place.{IsLocal, path_of};
 
 use crate::place::Place;
 use crate::stream::ControlStream;
-use crate::unix_place::UnixPlace;
+use crate::unix_place::{Access, UnixPlace};
 use mio::event::Source;
 use mio::net::TcpListener;
 use mio::{Interest, Registry, Token};
@@ -23,22 +23,26 @@ pub enum ControlListener {
 }
 
 impl ControlListener {
-    /// Listens there and nowhere else. A place that is not local is `InvalidInput`.
+    /// Listens there and nowhere else. A place that is not local is `InvalidInput`. Who may connect is said of a Unix socket alone.
     pub fn bind<R: Files + Net>(
         rt: &R,
         alloc: Global,
         place: Place<'_>,
+        access: Access,
     ) -> io::Result<ControlListener>
         ensures local { IfOk result (λ _. IsLocal place.entry) }
         ensures path { IfOk result (λ listener. path_listened listener ≡ path_of place.entry) }
-        ensures elsewhere { ¬ (IsLocal place.entry) → IsErrAnd result (λ error. error_kind error ≡ ErrorKind.InvalidInput) }
+        ensures elsewhere { ¬ (IsLocal place.entry) → IsErrAnd result
+            (λ error. error_kind error ≡ ErrorKind.InvalidInput) }
     {
         if !place.is_local() {
             return Err(io::Error::from(ErrorKind::InvalidInput));
         }
         match place {
             Place::Address(addr) => Ok(ControlListener::Tcp(TcpListener::bind(rt, addr)?)),
-            Place::Path(path) => Ok(ControlListener::Unix(UnixPlace::bind(rt, alloc, path)?)),
+            Place::Path(path) => Ok(ControlListener::Unix(UnixPlace::bind(
+                rt, alloc, path, access,
+            )?)),
         }
     }
 

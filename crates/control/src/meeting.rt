@@ -1,7 +1,8 @@
-ghost use Rattle.std.specs.Prelude.{◌≡◌, IsSome, IfSome, IfNone};
+ghost use Rattle.std.specs.Prelude.{◌≡◌, ◌⊎◌, IsSome, IfSome, IfNone};
 ghost use Rattle.script.specs.Change.{line_change};
 ghost use Rattle.control.specs.Beside.{ChangesBeside, IsLineMetBeside, IsMetBeside, TellsBeside};
 ghost use Rattle.control.specs.Request.{IsOfferedRequest};
+ghost use Rattle.control.specs.Rights.{IsAllowed};
 
 use crate::answer::Answer;
 use crate::request::{Request, read_request};
@@ -21,7 +22,9 @@ pub(crate) fn meet<P: Probe, C: Console<P>, V: Server, M: Maker<P>>(
 ) -> Answer
     requires offered { IsOfferedRequest request.now }
     ensures names { C.names console.new ≡ C.names console.old }
-    ensures met { IsMetBeside C.seen C.kept C.looks C.answers V.counted V.woken V.stopped (C.names console.old) (console.old, server.old) (console.new, server.new) request.now result }
+    ensures met { IsMetBeside C.seen C.kept C.looks C.answers V.terms V.counted V.woken V.stopped
+        (C.names console.old) (console.old, server.old) (console.new, server.new) request.now
+        result }
 {
     match request {
         Request::Line(line) => meet_line(console, server, maker, line),
@@ -38,13 +41,14 @@ pub(crate) fn meet<P: Probe, C: Console<P>, V: Server, M: Maker<P>>(
 fn stats<P: Probe, C: Console<P>, V: Server>(console: &mut C, server: &V) -> Stats
     ensures names { C.names console.new ≡ C.names console.old }
     ensures looks { C.looks console.old console.new }
-    ensures tells { TellsBeside C.seen C.kept V.counted (console.new, server.now) result }
+    ensures tells { TellsBeside C.seen C.kept V.terms V.counted (console.new, server.now) result }
 {
     let Extent { entries, kept } = console.extent();
     Stats {
         entries,
         kept: kept as u32,
         counts: server.counts(),
+        left: server.terms().most.saturating_sub(entries),
     }
 }
 
@@ -56,7 +60,9 @@ fn meet_line<P: Probe, C: Console<P>, V: Server, M: Maker<P>>(
 ) -> Answer
     requires offered { IsOfferedRequest (Request.Line line.now) }
     ensures names { C.names console.new ≡ C.names console.old }
-    ensures met { IsMetBeside C.seen C.kept C.looks C.answers V.counted V.woken V.stopped (C.names console.old) (console.old, server.old) (console.new, server.new) (Request.Line line.now) result }
+    ensures met { IsMetBeside C.seen C.kept C.looks C.answers V.terms V.counted V.woken V.stopped
+        (C.names console.old) (console.old, server.old) (console.new, server.new)
+        (Request.Line line.now) result }
 {
     match line {
         Line::Check(name) => Answer::Checked(console.check(name.as_str())),
@@ -77,8 +83,9 @@ fn change<P: Probe, C: Console<P>, V: Server, M: Maker<P>>(
 ) -> Option<Result<Reply, Refusal>>
     requires change { IsSome (line_change (C.names console.old) line.now) }
     ensures names { C.names console.new ≡ C.names console.old }
-    ensures changed { IfSome result (λ reply. IfSome (line_change (C.names console.old) line.now) (λ call.
-        ChangesBeside C.seen C.answers V.woken (console.old, server.old) (console.new, server.new) call reply)) }
+    ensures changed { IfSome result (λ reply. IfSome (line_change (C.names console.old) line.now)
+        (λ call.
+        ChangesBeside C.seen C.answers V.terms V.woken (console.old, server.old) (console.new, server.new) call reply)) }
     ensures failed { IfNone result ((console.new ≡ console.old) × (server.new ≡ server.old)) }
 {
     let call = line.call(console.catalogue()).unwrap();
@@ -90,6 +97,27 @@ fn change<P: Probe, C: Console<P>, V: Server, M: Maker<P>>(
         server.wake();
     }
     Some(result)
+}
+
+/// Does what a request asks for, if the server's sessions may ask for it.
+fn meet_allowed<P: Probe, C: Console<P>, V: Server, M: Maker<P>>(
+    console: &mut C,
+    server: &mut V,
+    maker: &M,
+    request: &Request,
+) -> Answer
+    requires offered { IsOfferedRequest request.now }
+    ensures names { C.names console.new ≡ C.names console.old }
+    ensures met { (IsAllowed (V.terms server.old).rights request.now
+        × IsMetBeside C.seen C.kept C.looks C.answers V.terms V.counted V.woken V.stopped (C.names console.old)
+        (console.old, server.old) (console.new, server.new) request.now result)
+        ⊎ ((¬ IsAllowed (V.terms server.old).rights request.now) × (result ≡ Answer.NotAllowed)
+        × (console.new ≡ console.old) × (server.new ≡ server.old)) }
+{
+    if !server.terms().rights.allow(request) {
+        return Answer::NotAllowed;
+    }
+    meet(console, server, maker, request)
 }
 
 /// The most bytes of a line.
@@ -104,21 +132,23 @@ pub(crate) fn meet_text<P: Probe, C: Console<P>, V: Server, M: Maker<P>>(
     line: &[u8],
 ) -> Answer
     ensures names { C.names console.new ≡ C.names console.old }
-    ensures met { IsLineMetBeside C.seen C.kept C.looks C.answers V.counted V.woken V.stopped (C.names console.old) (console.old, server.old) (console.new, server.new) line.now result }
+    ensures met { IsLineMetBeside C.seen C.kept C.looks C.answers V.terms V.counted V.woken
+        V.stopped (C.names console.old) (console.old, server.old)
+        (console.new, server.new) line.now result }
 {
     if line.len() > MAX_LINE {
         return Answer::TooLong;
     }
     let Ok(text) = str::from_utf8(line) else {
-        return Answer::BadLine;
+        return server.terms().rights.unknown_line();
     };
     let content = without_cr(text);
     if content.is_empty() {
         return Answer::Skipped;
     }
     match read_request(alloc, console.catalogue(), content) {
-        Ok(Some(request)) => meet(console, server, maker, &request),
-        Ok(None) => Answer::BadLine,
+        Ok(Some(request)) => meet_allowed(console, server, maker, &request),
+        Ok(None) => server.terms().rights.unknown_line(),
         Err(_) => Answer::OutOfMemory,
     }
 }

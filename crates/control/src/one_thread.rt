@@ -1,7 +1,7 @@
 //! A registry of one thread for tests, over which sessions are held, and a server that counts what it is told. Their ghosts say
 //! little: the tests look at what they answer.
 
-use crate::{Counts, Ended, OpenNow, Server};
+use crate::{Counts, Ended, OpenNow, Rights, Server, Terms};
 use desk_core::{
     Call, Catalogue, Console, Desk, Effect, Extent, Refusal, Registrar, board_entries,
 };
@@ -103,6 +103,8 @@ impl<P: Probe> Console<P> for OneThread<P> {
 /// A server that counts what it is told.
 #[derive(Clone, Copy, Debug, PartialEq, Eq)]
 pub struct Told {
+    /// What its sessions may ask for.
+    pub rights: Rights,
     /// How often it was told that a status changed.
     pub wakes: u32,
     /// How often it was told to end.
@@ -110,15 +112,36 @@ pub struct Told {
 }
 
 impl Told {
-    pub const NOTHING: Told = Told { wakes: 0, stops: 0 };
+    /// A server whose sessions may ask for all, before it is told anything.
+    pub const NOTHING: Told = Told {
+        rights: Rights::All,
+        wakes: 0,
+        stops: 0,
+    };
+
+    /// One whose sessions report.
+    pub const NOTHING_BY_REPORTERS: Told = Told {
+        rights: Rights::Reports,
+        wakes: 0,
+        stops: 0,
+    };
 }
 
 impl Server for Told {
+    ghost terms = { λ server. record { rights = server.rights; most = 4 } };
+
     ghost counted = { λ server counts. Unit {0} };
 
     ghost woken = { λ old new. Unit {0} };
 
     ghost stopped = { λ old new. Unit {0} };
+
+    fn terms(&self) -> Terms {
+        Terms {
+            rights: self.rights,
+            most: 4,
+        }
+    }
 
     fn counts(&self) -> Counts {
         Counts {
@@ -131,7 +154,9 @@ impl Server for Told {
                 calls: 6,
                 given_up: 7,
                 behind: 8,
+                gone: 9,
             },
+            expired: 10,
         }
     }
 

@@ -26,6 +26,12 @@ fn is_refusal(answer: &[u8]) -> bool
     if answer == b"wrong kind".as_slice() {
         return true;
     }
+    if answer == b"ignored".as_slice() {
+        return true;
+    }
+    if answer == b"not allowed".as_slice() {
+        return true;
+    }
     if answer == b"bad line".as_slice() {
         return true;
     }

@@ -1,10 +1,16 @@
 use crate::stats::Counts;
+use crate::terms::Terms;
 
 /// The server that runs over a registry, as a session sees it.
 ///
-/// `woken` says that it was told, once, that a status changed, `stopped` that it was told to end, and `counted` that it counts so.
+/// `terms` are those that hold for its sessions, whatever it is told. `woken` says that it was told, once, that a status changed,
+/// `stopped` that it was told to end, and `counted` that it counts so.
 pub trait Server {
+    ghost use Rattle.std.specs.Prelude.{◌≡◌};
     ghost use Rattle.control.specs.declared.stats.Counts.{Counts};
+    ghost use Rattle.control.specs.declared.terms.Terms.{Terms};
+
+    ghost terms: { Self → Terms };
 
     ghost counted: { Self → Counts → Type 0 };
 
@@ -12,15 +18,21 @@ pub trait Server {
 
     ghost stopped: { Self → Self → Type 0 };
 
-    /// What it counts of connections and calls.
+    /// What holds for its sessions.
+    fn terms(&self) -> Terms
+        ensures { result ≡ terms self.now };
+
+    /// What it counts of connections, calls and expiries.
     fn counts(&self) -> Counts
         ensures { counted self.now result };
 
     /// Tells it that a status changed.
     fn wake(&mut self)
-        ensures { woken self.old self.new };
+        ensures woken { woken self.old self.new }
+        ensures terms { terms self.new ≡ terms self.old };
 
     /// Tells it to end.
     fn stop(&mut self)
-        ensures { stopped self.old self.new };
+        ensures stopped { stopped self.old self.new }
+        ensures terms { terms self.new ≡ terms self.old };
 }

@@ -78,7 +78,8 @@ impl Session {
     /// No more bytes come: what stands after the last LF is a line too.
     pub fn end(&mut self)
         ensures state { self.new ≡ at_end self.old }
-        ensures closed { length (first_line self.new.unread) ≤ 1024 → ends_open self.new.unread ≡ false }
+        ensures closed { length (first_line self.new.unread) ≤ 1024
+            → ends_open self.new.unread ≡ false }
     {
         if ends_open(&self.unread) && line_len(&self.unread) < MOST_UNREAD {
             self.unread.push(b'\n').unwrap();
@@ -133,8 +134,11 @@ impl Session {
         requires line { HasLine self.old }
         requires sent { self.old.waiting ≡ [] }
         ensures names { C.names console.new ≡ C.names console.old }
-        ensures met { IsLineMetBeside C.seen C.kept C.looks C.answers V.counted V.woken V.stopped (C.names console.old) (console.old, server.old) (console.new, server.new) (first_line self.old.unread) result }
-        ensures cut { IsCut self.old.unread (first_line self.old.unread) (behind_line self.old.unread) }
+        ensures met { IsLineMetBeside C.seen C.kept C.looks C.answers V.terms V.counted V.woken
+            V.stopped (C.names console.old) (console.old, server.old) (console.new, server.new)
+            (first_line self.old.unread) result }
+        ensures cut { IsCut self.old.unread (first_line self.old.unread)
+            (behind_line self.old.unread) }
         ensures unread { self.new.unread ≡ behind_line self.old.unread }
         ensures ended { self.new.has_ended ≡ self.old.has_ended }
         ensures waiting { self.new.waiting ≡ answer_text (C.names console.old) result }

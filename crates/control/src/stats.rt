@@ -15,17 +15,21 @@ pub struct OpenNow {
 #[derive(Clone, Copy, Debug, PartialEq, Eq)]
 pub struct Ended {
     pub calls: u64,
-    /// Those of them that were given up.
+    /// Those of them whose time was up.
     pub given_up: u64,
     /// Those of them whose Watch was behind.
     pub behind: u64,
+    /// Those of them that ended before all was sent for any other reason, mostly since the client broke off or went away.
+    pub gone: u64,
 }
 
-/// What a server counts of connections and calls.
+/// What a server counts of connections, calls and expiries.
 #[derive(Clone, Copy, Debug, PartialEq, Eq)]
 pub struct Counts {
     pub current: OpenNow,
     pub ended: Ended,
+    /// How often a service was brought down since nothing was heard of it.
+    pub expired: u64,
 }
 
 /// What a server counts.
@@ -36,6 +40,8 @@ pub struct Stats {
     /// Those that are still in memory.
     pub kept: u32,
     pub counts: Counts,
+    /// The entries that may still be made.
+    pub left: u32,
 }
 
 impl fmt::Display for OpenNow {
@@ -68,8 +74,12 @@ impl fmt::Display for Ended {
             calls,
             given_up,
             behind,
+            gone,
         } = *self;
-        write!(f, "calls {calls} given_up {given_up} behind {behind}")
+        write!(
+            f,
+            "calls {calls} given_up {given_up} behind {behind} gone {gone}"
+        )
     }
 }
 
@@ -80,8 +90,12 @@ impl fmt::Display for Counts {
     ghost output = { λ counts. Some (counts_text counts) };
 
     fn fmt<W: fmt::Write>(&self, f: &mut fmt::Formatter<W>) -> fmt::Result {
-        let Counts { current, ended } = self;
-        write!(f, "{current} {ended}")
+        let Counts {
+            current,
+            ended,
+            expired,
+        } = self;
+        write!(f, "{current} {ended} expired {expired}")
     }
 }
 
@@ -96,7 +110,8 @@ impl fmt::Display for Stats {
             entries,
             kept,
             counts,
+            left,
         } = self;
-        write!(f, "entries {entries} kept {kept} {counts}")
+        write!(f, "entries {entries} kept {kept} {counts} left {left}")
     }
 }

@@ -2,17 +2,32 @@ ghost use Rattle.std.specs.Prelude.{◌≡◌, IfOk, string_bytes, is_err, int_l
 
 use mio::net::{UnixListener, UnixStream};
 use std::alloc::Global;
-use std::fs::{Files, symlink_metadata};
+use std::fs::{Files, Permissions, symlink_metadata};
 use std::io::ErrorKind;
 use std::net::Net;
 use std::os::fd::{AsFd, AsRawFd};
-use std::os::unix::fs::{FileTypeExt, MetadataExt};
+use std::os::unix::fs::{FileTypeExt, MetadataExt, PermissionsExt};
 use std::os::unix::net;
 use std::os::unix::net::SocketAddr;
 use std::{fs, io};
 
-/// Its owner may connect, which asks for the right to write, and nobody else.
-const OWNER_ONLY: u32 = 0o600;
+/// Who may connect to a Unix socket, which asks for the right to write.
+#[derive(Clone, Copy, Debug, PartialEq, Eq)]
+pub enum Access {
+    /// Its owner alone: its file has the mode 0600.
+    Owner,
+    /// Its owner and its group: 0660, whatever the process's umask.
+    Group,
+}
+
+impl Access {
+    fn mode(self) -> u32 {
+        match self {
+            Access::Owner => 0o600,
+            Access::Group => 0o660,
+        }
+    }
+}
 
 /// As many connections may wait as the system allows.
 const BACKLOG: i32 = -1;
@@ -24,7 +39,7 @@ struct Identity {
     number: u64,
 }
 
-/// A listening Unix socket with its file, which is made with mode 0600 and never has a wider one.
+/// A listening Unix socket with its file, which is made with its mode and never has a wider one.
 ///
 /// The file stays when this is dropped: `remove` takes it away. A file that is left is taken over by the next server.
 #[derive(Debug, Drop)]
@@ -39,18 +54,23 @@ impl UnixPlace {
     /// connections: that file is taken away first. A symbolic link is not followed.
     ///
     /// Two servers that find the same left file at the same moment are not kept apart: the first may lose its file to the second.
-    pub fn bind<R: Files + Net>(rt: &R, alloc: Global, path: &str) -> io::Result<UnixPlace>
+    pub fn bind<R: Files + Net>(
+        rt: &R,
+        alloc: Global,
+        path: &str,
+        access: Access,
+    ) -> io::Result<UnixPlace>
         ensures path { IfOk result (λ place. string_bytes place.path ≡ path.now) }
     {
         let addr = SocketAddr::from_pathname(path)?;
         let path = String::from_str(alloc, path)?;
-        let listener = match listen(rt, &addr) {
+        let listener = match listen(rt, &path, &addr, access) {
             Err(error) if error.kind() == ErrorKind::AddrInUse => {
                 if !is_left(rt, &path, &addr) {
                     return Err(error);
                 }
                 fs::remove_file(rt, path.as_str())?;
-                listen(rt, &addr)?
+                listen(rt, &path, &addr, access)?
             }
             listened => listened?,
         };
@@ -88,11 +108,20 @@ impl UnixPlace {
     }
 }
 
-/// A socket that listens at this address and does not wait. Its mode is set before it has a file, so that the file is made with it.
-fn listen<R: Files + Net>(rt: &R, addr: &SocketAddr) -> io::Result<UnixListener> {
+/// A socket that listens at this path and does not wait. Its mode is set before it has a file, so that the file is made with it; what
+/// the process's umask takes from a group is given back before anyone can connect.
+fn listen<R: Files + Net>(
+    rt: &R,
+    path: &str,
+    addr: &SocketAddr,
+    access: Access,
+) -> io::Result<UnixListener> {
     let socket = rt.unix_socket()?;
-    check(libc::fchmod(socket.as_raw_fd(), OWNER_ONLY))?;
+    check(libc::fchmod(socket.as_raw_fd(), access.mode()))?;
     rt.bind_unix(socket.as_fd(), addr)?;
+    if access == Access::Group {
+        fs::set_permissions(rt, path, Permissions::from_mode(access.mode()))?;
+    }
     check(libc::net::listen(socket.as_raw_fd(), BACKLOG))?;
     let listener = net::UnixListener::from(socket);
     listener.set_nonblocking(true)?;

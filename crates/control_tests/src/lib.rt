@@ -6,6 +6,8 @@ mod lines;
 #[cfg(test)]
 mod places;
 #[cfg(test)]
+mod rights;
+#[cfg(test)]
 mod telling;
 #[cfg(test)]
 mod texts;

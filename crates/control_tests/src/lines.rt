@@ -1,5 +1,5 @@
 use control::one_thread::{Manuals, OneThread, Told};
-use control::{Answer, Session};
+use control::{Answer, Rights, Session};
 use probe_core::Manual;
 use std::alloc::Global;
 use std::test::Fail;
@@ -21,7 +21,7 @@ const LINES: [(&[u8], &[u8]); 19] = [
     (b"retire a\n", b"refused full\n"),
     (
         b"stats\n",
-        b"entries 4 kept 4 connections 3 watches 4 sessions 5 calls 6 given_up 7 behind 8\n",
+        b"entries 4 kept 4 connections 3 watches 4 sessions 5 calls 6 given_up 7 behind 8 gone 9 expired 10 left 0\n",
     ),
     (b"\n", b""),
     (b"\r\n", b""),
@@ -188,6 +188,7 @@ fn wakes_the_server_after_each_change_that_shows_and_no_other(rt: HostRuntime) -
             session.give(line);
             answer_all(alloc, &mut session, &mut console, &mut server, &mut answers)?;
             let told = Told {
+                rights: Rights::All,
                 wakes: *wakes,
                 stops: *stops,
             };

@@ -1,4 +1,4 @@
-use control::{ControlClient, ControlListener, ControlStream, Place, connect};
+use control::{Access, ControlClient, ControlListener, ControlStream, Place, connect};
 use mio::event::Events;
 use mio::{Interest, Poll, Token};
 use std::alloc::Global;
@@ -118,13 +118,18 @@ fn talk(rt: &HostRuntime, listener: &mut ControlListener) -> Result<(), Fail> {
 fn talks_over_loopback(rt: HostRuntime) -> Result<(), Fail> {
     let alloc = rt.alloc();
     let ip = IpAddr::V4(Ipv4Addr::LOCALHOST);
-    let mut listener = ControlListener::bind(&rt, alloc, Place::Address(SocketAddr::new(ip, 0)))?;
+    let mut listener = ControlListener::bind(
+        &rt,
+        alloc,
+        Place::Address(SocketAddr::new(ip, 0)),
+        Access::Owner,
+    )?;
     match listener.place()? {
         Place::Address(addr) => same(&(addr.ip(), addr.port() > 0), &(ip, true), &"bound")?,
         Place::Path(path) => same(&path, &"an address", &"bound")?,
     }
     talk(&rt, &mut listener)?;
-    let again = ControlListener::bind(&rt, alloc, listener.place()?);
+    let again = ControlListener::bind(&rt, alloc, listener.place()?, Access::Owner);
     same(&kind(again), &Some(ErrorKind::AddrInUse), &"bound again")?;
     listener.remove(&rt)?;
     Ok(())
@@ -135,7 +140,7 @@ fn refuses_what_is_not_local(rt: HostRuntime) -> Result<(), Fail> {
     let alloc = rt.alloc();
     let anywhere = Place::Address(SocketAddr::new(IpAddr::V4(Ipv4Addr::UNSPECIFIED), 0));
     for place in &[anywhere, Place::Path("control.sock")] {
-        let listener = ControlListener::bind(&rt, alloc, *place);
+        let listener = ControlListener::bind(&rt, alloc, *place, Access::Owner);
         same(&kind(listener), &Some(ErrorKind::InvalidInput), place)?;
         same(
             &kind(connect(&rt, *place)),
@@ -146,45 +151,57 @@ fn refuses_what_is_not_local(rt: HostRuntime) -> Result<(), Fail> {
     Ok(())
 }
 
-#[test]
-fn talks_over_a_path_that_only_its_owner_may_use(rt: HostRuntime) -> Result<(), Fail> {
-    let path = path_named(&rt, "talks")?;
-    let place = Place::Path(&path);
-    let mut listener = ControlListener::bind(&rt, rt.alloc(), place)?;
+/// Who may connect, and the mode of the socket's file.
+const MODES: [(Access, u32); 2] = [(Access::Owner, 0o600), (Access::Group, 0o660)];
+
+/// The path has a socket's file with this mode, at which a client talks, until it is removed.
+fn talk_at(rt: &HostRuntime, path: &str, access: Access, mode: u32) -> Result<(), Fail> {
+    let place = Place::Path(path);
+    let mut listener = ControlListener::bind(rt, rt.alloc(), place, access)?;
     same(&listener.place()?, &place, &"place")?;
-    let found = fs::symlink_metadata(&rt, path.as_str())?;
-    let mode = found.permissions().mode() & 0o7777;
+    let found = fs::symlink_metadata(rt, path)?;
+    let found = (
+        found.file_type().is_socket(),
+        found.permissions().mode() & 0o7777,
+    );
+    same(&found, &(true, mode), &path)?;
+    talk(rt, &mut listener)?;
+    listener.remove(rt)?;
+    same(&fs::exists(rt, path)?, &false, &"removed")?;
     same(
-        &(found.file_type().is_socket(), mode),
-        &(true, 0o600),
-        &path,
-    )?;
-    talk(&rt, &mut listener)?;
-    listener.remove(&rt)?;
-    same(&fs::exists(&rt, path.as_str())?, &false, &"removed")?;
-    same(
-        &kind(connect(&rt, place)),
+        &kind(connect(rt, place)),
         &Some(ErrorKind::NotFound),
         &"removed",
     )?;
     same(
-        &kind(listener.remove(&rt)),
+        &kind(listener.remove(rt)),
         &Some(ErrorKind::NotFound),
         &"removed twice",
     )
 }
 
 #[test]
+fn talks_over_a_path_that_its_owner_and_maybe_its_group_may_use(
+    rt: HostRuntime,
+) -> Result<(), Fail> {
+    for (access, mode) in MODES {
+        let path = path_named(&rt, "talks")?;
+        talk_at(&rt, &path, access, mode)?;
+    }
+    Ok(())
+}
+
+#[test]
 fn takes_over_a_socket_at_which_nobody_listens(rt: HostRuntime) -> Result<(), Fail> {
     let path = path_named(&rt, "left")?;
     let place = Place::Path(&path);
-    drop(ControlListener::bind(&rt, rt.alloc(), place)?);
+    drop(ControlListener::bind(&rt, rt.alloc(), place, Access::Owner)?);
     same(
         &kind(connect(&rt, place)),
         &Some(ErrorKind::ConnectionRefused),
         &"left",
     )?;
-    let mut listener = ControlListener::bind(&rt, rt.alloc(), place)?;
+    let mut listener = ControlListener::bind(&rt, rt.alloc(), place, Access::Owner)?;
     talk(&rt, &mut listener)?;
     let mode = fs::metadata(&rt, path.as_str())?.permissions().mode() & 0o7777;
     same(&mode, &0o600, &path)?;
@@ -198,8 +215,8 @@ fn leaves_a_socket_at_which_somebody_listens(rt: HostRuntime) -> Result<(), Fail
     let alloc = rt.alloc();
     let path = path_named(&rt, "live")?;
     let place = Place::Path(&path);
-    let mut first = ControlListener::bind(&rt, alloc, place)?;
-    let second = ControlListener::bind(&rt, alloc, place);
+    let mut first = ControlListener::bind(&rt, alloc, place, Access::Owner)?;
+    let second = ControlListener::bind(&rt, alloc, place, Access::Owner);
     same(&kind(second), &Some(ErrorKind::AddrInUse), &"live")?;
     // the look of the second is a connection that is closed at once
     let mut look = accepted(alloc, &rt, &mut first)?;
@@ -210,7 +227,7 @@ fn leaves_a_socket_at_which_somebody_listens(rt: HostRuntime) -> Result<(), Fail
     )?;
     talk(&rt, &mut first)?;
     fs::remove_file(&rt, path.as_str())?;
-    let third = ControlListener::bind(&rt, alloc, place)?;
+    let third = ControlListener::bind(&rt, alloc, place, Access::Owner)?;
     first.remove(&rt)?;
     same(&fs::exists(&rt, path.as_str())?, &true, &"the third's")?;
     third.remove(&rt)?;
@@ -222,7 +239,7 @@ fn leaves_files_of_other_kinds(rt: HostRuntime) -> Result<(), Fail> {
     let alloc = rt.alloc();
     let path = path_named(&rt, "file")?;
     fs::write(&rt, path.as_str(), b"kept")?;
-    let listener = ControlListener::bind(&rt, alloc, Place::Path(&path));
+    let listener = ControlListener::bind(&rt, alloc, Place::Path(&path), Access::Owner);
     same(
         &kind(listener),
         &Some(ErrorKind::AddrInUse),
@@ -236,7 +253,7 @@ fn leaves_files_of_other_kinds(rt: HostRuntime) -> Result<(), Fail> {
     fs::remove_file(&rt, path.as_str())?;
 
     fs::create_dir(&rt, path.as_str())?;
-    let listener = ControlListener::bind(&rt, alloc, Place::Path(&path));
+    let listener = ControlListener::bind(&rt, alloc, Place::Path(&path), Access::Owner);
     same(&kind(listener), &Some(ErrorKind::AddrInUse), &"a folder")?;
     fs::remove_dir(&rt, path.as_str())?;
     Ok(())
@@ -248,9 +265,9 @@ fn leaves_a_symbolic_link(rt: HostRuntime) -> Result<(), Fail> {
     let alloc = rt.alloc();
     let path = path_named(&rt, "target")?;
     let link = path_named(&rt, "link")?;
-    drop(ControlListener::bind(&rt, alloc, Place::Path(&path))?);
+    drop(ControlListener::bind(&rt, alloc, Place::Path(&path), Access::Owner)?);
     symlink(&rt, path.as_str(), link.as_str())?;
-    let listener = ControlListener::bind(&rt, alloc, Place::Path(&link));
+    let listener = ControlListener::bind(&rt, alloc, Place::Path(&link), Access::Owner);
     same(&kind(listener), &Some(ErrorKind::AddrInUse), &"a link")?;
     same(
         &fs::symlink_metadata(&rt, link.as_str())?.is_symlink(),

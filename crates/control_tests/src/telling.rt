@@ -159,7 +159,7 @@ fn reads_no_answer_of_over_64_kib(rt: HostRuntime) -> Result<(), Fail> {
 }
 
 /// Each answer of a session, and whether it is a refusal.
-const REFUSALS: [(&[u8], bool); 20] = [
+const REFUSALS: [(&[u8], bool); 21] = [
     (b"refused not listed", true),
     (b"refused bad rule", true),
     (b"refused full", true),
@@ -167,11 +167,12 @@ const REFUSALS: [(&[u8], bool); 20] = [
     (b"refused ", true),
     (b"missing", true),
     (b"wrong kind", true),
+    (b"ignored", true),
+    (b"not allowed", true),
     (b"bad line", true),
     (b"line too long", true),
     (b"done", false),
     (b"replaced", false),
-    (b"ignored", false),
     (b"serving", false),
     (b"not serving", false),
     (b"not found", false),

@@ -9,4 +9,4 @@ pub returns-in-Stats-clause-met : goal.returns-in-Stats-clause-met
 returns-in-Stats-clause-met g c = told _ _ _ _ _ _ _ _ _ _ c.in-Stats.is (record { looked = c.stats.ensures.looks; server = refl }) c.stats.ensures.tells
 
 pub returns-in-Stop-clause-met : goal.returns-in-Stop-clause-met
-returns-in-Stop-clause-met g c = stopped _ _ _ _ _ _ _ _ _ c.in-Stop.is (record { console = refl; server = c.stop.ensures })
+returns-in-Stop-clause-met g c = stopped _ _ _ _ _ _ _ _ _ c.in-Stop.is (record { console = refl; server = c.stop.ensures.stopped; terms_stay = c.stop.ensures.terms })

@@ -7,8 +7,8 @@ use Rattle.control.proofs.meeting.meet_line.Goals as goal
 
 pub returns-in-Check-clause-met : goal.returns-in-Check-clause-met
 returns-in-Check-clause-met g c =
-    checked (g.C.Registrar.names c.args.console.now) (seen_beside g.C.Registrar.seen) (LooksBeside g.C.Console.looks) (ChangesBeside g.C.Registrar.seen g.C.Registrar.answers g.V.Server.woken)
-    (TellsBeside g.C.Registrar.seen g.C.Console.kept g.V.Server.counted) (StopsBeside g.V.Server.stopped) (c.args.console.now, c.args.server.now) (c.check.new.self, c.args.server.now) c.args.line.now
+    checked (g.C.Registrar.names c.args.console.now) (seen_beside g.C.Registrar.seen) (LooksBeside g.C.Console.looks) (ChangesBeside g.C.Registrar.seen g.C.Registrar.answers g.V.Server.terms g.V.Server.woken)
+    (TellsBeside g.C.Registrar.seen g.C.Console.kept g.V.Server.terms g.V.Server.counted) (StopsBeside g.V.Server.terms g.V.Server.stopped) (c.args.console.now, c.args.server.now) (c.check.new.self, c.args.server.now) c.args.line.now
     c.in-Check.name c.check.result c.in-Check.is (record { looked = c.check.ensures.looks; server = refl }) (rw c.as_str.ensures at c.check.ensures.status)
 
 pub returns-in-Board-clause-met : goal.returns-in-Board-clause-met

@@ -1,5 +1,9 @@
-use Rattle.std.proofs.Common.{arith, refl, sym, ◌∙◌}
-use Rattle.control.specs.Meeting.IsLineMet.{IsTooLong, IsSkipped, IsNoText, IsNoRequest, IsUnread, IsAsked}
+use Rattle.std.proofs.Common.{ap, arith, refl, sym, ◌∙◌}
+use Rattle.control.specs.declared.terms.Terms.{Terms}
+use Rattle.control.specs.Rights.{unknown_line}
+use Rattle.control.specs.Meeting.IsLineMet.{IsTooLong, IsSkipped, IsNoText, IsNoRequest, IsUnread}
+use Rattle.control.proofs.BesideLemmas.{met_beside}
+use Rattle.control.proofs.MeetingLemmas.{met_or_denied}
 use Rattle.control.proofs.TextLemmas.{found_empty, found_some}
 use Rattle.control.proofs.meeting.meet_text.Goals as goal
 
@@ -11,19 +15,21 @@ returns-then-is_empty-clause-met g c =
     IsSkipped (omega arith) (sym (rw c.in-Ok.ensures.cases.0 at c.without_cr-content.ensures) ∙ found_empty _ _ c.is_empty.ensures c.if-is_empty.true) refl
 
 pub returns-in_default-clause-met : goal.returns-in_default-clause-met
-returns-in_default-clause-met g c = IsNoText (omega arith) c.in_default.ensures.cases.0 refl
+returns-in_default-clause-met g c = IsNoText (omega arith) c.in_default.ensures.cases.0 _ (c.unknown_line.ensures ∙ ap (λ (t : Terms). unknown_line t.rights) c.terms.ensures) refl
 
 pub returns-in-Ok-Some-clause-met : goal.returns-in-Ok-Some-clause-met
 returns-in-Ok-Some-clause-met g c =
-    IsAsked
+    met_or_denied _ _ _ _ _ _ _ _ _ _ _ _
     (record { short = omega arith; text = c.in-Ok.ensures.cases.1; some = found_some _ _ _ (sym (rw c.in-Ok.ensures.cases.0 at c.without_cr-content.ensures)) c.is_empty.ensures c.if-is_empty.false })
-    _ _ (rw (c.in-Ok-Some.field-0-is, c.catalogue.ensures, c.without_cr-content.ensures, c.in-Ok.ensures.cases.0) at c.in-Ok-Some.ensures) c.meet.ensures.met
+    (rw (c.in-Ok-Some.field-0-is, c.catalogue.ensures, c.without_cr-content.ensures, c.in-Ok.ensures.cases.0) at c.in-Ok-Some.ensures)
+    (met_beside _ _ _ _ c.meet_allowed.ensures.met)
 
 pub returns-in-Ok-None-clause-met : goal.returns-in-Ok-None-clause-met
 returns-in-Ok-None-clause-met g c =
     IsNoRequest
     (record { short = omega arith; text = c.in-Ok.ensures.cases.1; some = found_some _ _ _ (sym (rw c.in-Ok.ensures.cases.0 at c.without_cr-content.ensures)) c.is_empty.ensures c.if-is_empty.false })
-    (rw (c.in-Ok-None.field-0-is, c.catalogue.ensures, c.without_cr-content.ensures, c.in-Ok.ensures.cases.0) at c.in-Ok-None.ensures) refl
+    (rw (c.in-Ok-None.field-0-is, c.catalogue.ensures, c.without_cr-content.ensures, c.in-Ok.ensures.cases.0) at c.in-Ok-None.ensures)
+    _ (c.unknown_line-in-Ok-None.ensures ∙ ap (λ (t : Terms). unknown_line t.rights) c.terms-in-Ok-None.ensures) refl
 
 pub returns-in-Err-clause-met : goal.returns-in-Err-clause-met
 returns-in-Err-clause-met g c =

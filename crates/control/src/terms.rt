@@ -1,0 +1,10 @@
+use crate::rights::Rights;
+
+/// What holds for the sessions of a place.
+#[derive(Clone, Copy, Debug, PartialEq, Eq)]
+pub struct Terms {
+    /// What they may ask for.
+    pub rights: Rights,
+    /// The most entries of the history.
+    pub most: u32,
+}

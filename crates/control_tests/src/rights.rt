@@ -1,0 +1,52 @@
+use control::{Request, Rights};
+use desk_core::Catalogue;
+use script::read_line;
+use std::alloc::Global;
+use std::test::Fail;
+use test_support::same;
+
+/// A request of each kind, and whether who reports may make it.
+const REQUESTS: [(&str, bool); 13] = [
+    ("pass a", true),
+    ("fail a", true),
+    ("check a", true),
+    ("list", true),
+    ("board", true),
+    ("stats", true),
+    ("up a", false),
+    ("down a", false),
+    ("register a manual", false),
+    ("retire a", false),
+    ("shutdown", false),
+    ("resume", false),
+    ("stop", false),
+];
+
+/// The request that a text makes where `a` is listed.
+fn request_of(alloc: Global, catalogue: &Catalogue, text: &str) -> Result<Request, Fail> {
+    match text {
+        "list" => Ok(Request::List),
+        "stats" => Ok(Request::Stats),
+        "stop" => Ok(Request::Stop),
+        _ => match read_line(alloc, catalogue, text)? {
+            Some(line) => Ok(Request::Line(line)),
+            None => Err(Fail::new(format_args!("{text:?} is no line"))),
+        },
+    }
+}
+
+#[test]
+fn who_reports_may_report_findings_and_ask_and_nothing_else(rt: HostRuntime) -> Result<(), Fail> {
+    let alloc = rt.alloc();
+    let mut names = Vec::new(alloc);
+    for name in ["a", ""] {
+        names.push(String::from_str(alloc, name)?)?;
+    }
+    let catalogue = Catalogue::new(alloc, names)?;
+    for (text, may_report) in &REQUESTS {
+        let request = request_of(alloc, &catalogue, text)?;
+        same(&Rights::All.allow(&request), &true, text)?;
+        same(&Rights::Reports.allow(&request), may_report, text)?;
+    }
+    Ok(())
+}
