@@ -1,9 +1,10 @@
 -- What a call makes of bytes by itself, and how its stages end.
-use Rattle.std.proofs.Common.{◌≡◌, ◌≤◌, ◌<◌, ◌+◌, ◌-◌, ℕ, Bool, true, false, not, Some, None, is_some, List, [], ◌∷◌, ◌++◌, length, take, drop, refl, ap, sym, ◌∙◌, append-nil, arith, rules, true≢false}
+use Rattle.std.proofs.Common.{◌≡◌, ◌≤◌, ◌<◌, ◌+◌, ◌-◌, ℕ, inl, inr, Bool, true, false, not, Some, None, is_some, List, [], ◌∷◌, ◌++◌, length, take, drop, refl, ap, sym, ◌∙◌, subst, append-nil, arith, rules, true≢false}
 use Rattle.std.proofs.lemmas.List.{length-drop, take-append-drop}
+use Rattle.std.proofs.lemmas.List.Elements.{All-cons, All-nil}
 use Rattle.desk_core.specs.declared.entry.Entry.{Entry}
 use Rattle.std.specs.Int.{from_bool}
-use Rattle.std.specs.Prelude.{◌||◌}
+use Rattle.std.specs.Prelude.{All, ◌||◌}
 use Rattle.web_call.specs.declared.bell.Turn.{Turn}
 use Rattle.web_call.specs.declared.bell.Turn.TheVariants.{Look, End}
 use Rattle.web_call.specs.declared.call.Call.{Call}
@@ -14,14 +15,15 @@ use Rattle.web_call.specs.declared.intake.Reading.TheVariants as readings
 use Rattle.web_call.specs.declared.outcome.Outcome.{Outcome}
 use Rattle.web_call.specs.declared.outcome.Outcome.TheVariants.{Behind, Watched}
 use Rattle.web_call.specs.Answer.{Source}
-use Rattle.web_call.specs.Past.{Carries, CarriesFor, with_asked, with_received, with_sent}
+use Rattle.web_call.specs.declared.outgoing.Outgoing.{Outgoing}
+use Rattle.web_call.specs.Past.{Carries, CarriesFor, Past, StandsAt, with_asked, with_received, with_sent}
 use Rattle.web_call.specs.Reading as reading
 use Rattle.web_call.specs.Stages.{answers, asks, ending_of, ends_watch, ends_with, is_answered, is_open, is_starved, is_watching, is_whole, may_ask, opens, starves, waits, watches}
 use Rattle.web_call.specs.Walk.{AsksDoor}
 use Rattle.web_call.proofs.WalkLemmas.{AsksDoor-none}
-use Rattle.reactor.specs.Calling.{HasServed, HasTaken, IsNotEnded, ahead, taken_by}
+use Rattle.reactor.specs.Calling.{HasServed, HasTaken, IsFrom, IsNotEnded, ahead, taken_by}
 use Rattle.reactor.specs.CallingLaws.{stands_as, taken_none}
-use Rattle.reactor.specs.Moved.{only_read, only_sent}
+use Rattle.reactor.specs.Moved.{Moved, only_read, only_sent, only_stepped}
 
 none_some : {X : Type 0} (outcome : Outcome) → None ≡ Some outcome → X
 none_some outcome e = absurd (grind (arith, ap is_some e))
@@ -144,18 +146,19 @@ pub given : (call call_now : Call) (bytes : List ℕ) (n : ℕ) (takes : ℕ) �
     → Carries call call_now (with_received (take n bytes)) → (n < length bytes → is_open call_now ≡ false)
     → (is_open call ≡ false → (n ≡ 0) × (call_now ≡ call)) → is_answered call_now ≡ is_answered call → HasTaken call call_now (only_read bytes (length bytes - n))
 given call call_now bytes n takes bound room none carries rest closed same = record {
-  has_grown = λ source. record {
+  has_grown = record {
     received = take n bytes;
     behind = drop n bytes;
     is_read = sym (take-append-drop n bytes);
     is_behind = sym (length-drop n bytes);
-    carries = λ past h. stands_as source call_now (past.received ++ take n bytes) (past.received ++ take n bytes) past.sent (past.sent ++ []) past.asked (past.asked ++ [])
+    carries = λ source _ past h. stands_as source call_now (past.received ++ take n bytes) (past.received ++ take n bytes) past.sent (past.sent ++ []) past.asked (past.asked ++ [])
         refl (sym (append-nil past.sent)) (sym (append-nil past.asked)) (carries source past h);
     whole = λ some. rest (omega (arith, some));
     no_end = refl;
     closed = λ is. (no_bytes bytes (omega (arith, room, none is)), omega (arith, room, none is), ap is_open (closed is).1 ∙ is);
   };
   asks = by_open (is_open call) refl;
+  no_step = refl;
   made = made_none (is_open call) refl;
   lasts = λ messages is. by_stage (is_open call) refl messages is;
 }
@@ -168,7 +171,7 @@ given call call_now bytes n takes bound room none carries rest closed same = rec
     by_open true o = omega (arith, open_may_ask call.stage o, asks_once call_now.stage)
     by_open false o = omega (arith, ap may_ask (closed o).1)
 
-    made_none : (o : Bool) → is_open call ≡ o → 0 + ahead call_now ≤ ahead call
+    made_none : (o : Bool) → is_open call ≡ o → ahead call_now ≤ ahead call
     made_none true o =
         let is = unanswered_watches_none call_now.stage (same ∙ open_is_unanswered call.stage o) in
         omega (arith, open_may_ask call.stage o, asks_once call_now.stage, ap from_bool is)
@@ -182,41 +185,83 @@ given call call_now bytes n takes bound room none carries rest closed same = rec
 pub was_sent : (call call_now : Call) (bytes : List ℕ) → Carries call call_now (with_sent bytes) → ending_of call_now ≡ ending_of call → is_watching call_now ≡ is_watching call
     → (is_open call_now ≡ is_open call) × (may_ask call_now ≡ may_ask call) → HasTaken call call_now (only_sent bytes)
 was_sent call call_now bytes carries ending watching reads = record {
-  has_grown = λ source. record {
+  has_grown = record {
     received = [];
     behind = [];
     is_read = refl;
     is_behind = refl;
-    carries = λ past h. stands_as source call_now past.received (past.received ++ []) (past.sent ++ bytes) (past.sent ++ bytes) past.asked (past.asked ++ [])
+    carries = λ source _ past h. stands_as source call_now past.received (past.received ++ []) (past.sent ++ bytes) (past.sent ++ bytes) past.asked (past.asked ++ [])
         (sym (append-nil past.received)) refl (sym (append-nil past.asked)) (carries source past h);
     whole = λ some. absurd (omega (arith, some));
     no_end = refl;
     closed = λ is. (refl, refl, reads.0 ∙ is);
   };
   asks = omega (arith, reads.1);
+  no_step = refl;
   made = omega (arith, reads.1, ap from_bool watching);
   lasts = λ messages is. sym ending ∙ is;
 }
 
+-- what nothing is answered of yet stands over any source
+stands_anywhere : (source other : Source) (past : Past) (stage : Stage) (outgoing : Outgoing) → answers stage ≡ false → StandsAt source past stage outgoing
+    → StandsAt other past stage outgoing
+stands_anywhere source other past (stages.Reading intake) outgoing none stands = stands
+stands_anywhere source other past (stages.Watching watch) outgoing none stands = absurd (true≢false none)
+stands_anywhere source other past (stages.Ending outcome) outgoing none stands = absurd (true≢false none)
+stands_anywhere source other past stages.Starved outgoing none stands = stands
+
+whole_is_unanswered : (stage : Stage) → waits stage ≡ true → answers stage ≡ false
+whole_is_unanswered (stages.Reading intake) is = refl
+whole_is_unanswered (stages.Watching watch) is = absurd (true≢false (sym is))
+whole_is_unanswered (stages.Ending outcome) is = absurd (true≢false (sym is))
+whole_is_unanswered stages.Starved is = absurd (true≢false (sym is))
+
+starved_is_unanswered : (stage : Stage) → starves stage ≡ true → answers stage ≡ false
+starved_is_unanswered (stages.Reading intake) is = refl
+starved_is_unanswered (stages.Watching watch) is = absurd (true≢false (sym is))
+starved_is_unanswered (stages.Ending outcome) is = absurd (true≢false (sym is))
+starved_is_unanswered stages.Starved is = refl
+
+carries_anywhere : (source other : Source) (call call_now : Call) (more : Past → Past) → answers call.stage ≡ false → answers call_now.stage ≡ false
+    → CarriesFor source call call_now more → CarriesFor other call call_now more
+carries_anywhere source other call call_now more before after carries past stands =
+    stands_anywhere source other (more past) call_now.stage call_now.outgoing after
+    (carries past (stands_anywhere other source past call.stage call.outgoing before stands))
+
+-- what carries a call over its source, and over any where no step was taken, carries it over whatever source it is from
+carries_from : (source other : Source) (call call_now : Call) (more : Past → Past) (moved : Moved) → CarriesFor source call call_now more
+    → (moved.steps ≡ [] → (any : Source) → CarriesFor any call call_now more) → IsFrom source other moved → CarriesFor other call call_now more
+carries_from source other call call_now more moved ours anywhere (inl same) = subst (λ s. CarriesFor s call call_now more) (sym same) ours
+carries_from source other call call_now more moved ours anywhere (inr none) = anywhere none other
+
+pub one_step : (from source : Source) → from ≡ source → All (λ step. step ≡ source) (from ∷ [])
+one_step from source same = All-cons (λ step. step ≡ source) from [] same (All-nil (λ step. step ≡ source))
+
+pub no_step : {X : Type 0} (from : Source) → from ∷ [] ≡ [] → X
+no_step from none = absurd (omega (arith, ap length none))
+
 module _ {D : Type 0} {source : Source} {seen : D → List Entry} {names : D → List (List ℕ)} {follows : List Entry → List Entry → Type 0} {stays : D → D → Type 0} where
   -- a door was asked for a call
-  served_asked : (turn : Turn) (steps : ℕ) {door door_now : D} {call call_now : Call} {asked : List (List Entry)} → AsksDoor seen follows door door_now asked
-      → CarriesFor source call call_now (with_asked asked) → names door_now ≡ names door → stays door door_now
+  served_asked : (turn : Turn) (steps : List Source) {door door_now : D} {call call_now : Call} {asked : List (List Entry)} → AsksDoor seen follows door door_now asked
+      → CarriesFor source call call_now (with_asked asked) → (steps ≡ [] → (any : Source) → CarriesFor any call call_now (with_asked asked))
+      → All (λ step. step ≡ source) steps → names door_now ≡ names door → stays door door_now
       → (turn ≡ End → length asked + may_ask call_now ≤ may_ask call) → (turn ≡ Look → IsNotEnded call call_now) → is_open call_now ≡ false
-      → steps + ahead call_now ≤ length asked + ahead call
+      → length steps + ahead call_now ≤ length asked + ahead call
       → HasServed source seen names follows stays turn door door_now call call_now (record { read = []; behind = 0; sent = []; steps = steps; ends = 0 }) asked
-  served_asked turn steps {call_now = call_now} {asked = asked} asks carries same_names same_door once lasts shut made = record {
+  served_asked turn steps {call = call} {call_now = call_now} {asked = asked} asks carries anywhere by same_names same_door once lasts shut made = record {
     has_grown = record {
       received = [];
       behind = [];
       is_read = refl;
       is_behind = refl;
-      carries = λ past h. stands_as source call_now past.received (past.received ++ []) past.sent (past.sent ++ []) (past.asked ++ asked) (past.asked ++ asked)
-          (sym (append-nil past.received)) (sym (append-nil past.sent)) refl (carries past h);
+      carries = λ other from past h. stands_as other call_now past.received (past.received ++ []) past.sent (past.sent ++ []) (past.asked ++ asked) (past.asked ++ asked)
+          (sym (append-nil past.received)) (sym (append-nil past.sent)) refl
+          (carries_from source other call call_now (with_asked asked) (record { read = []; behind = 0; sent = []; steps = steps; ends = 0 }) carries anywhere from past h);
       whole = λ some. absurd (omega (arith, some));
       no_end = refl;
       closed = λ is. (refl, refl, shut);
     };
+    by = by;
     asks = asks;
     same_names = same_names;
     same_door = same_door;
@@ -226,13 +271,16 @@ module _ {D : Type 0} {source : Source} {seen : D → List Entry} {names : D →
   }
 
   -- it was asked for the request
-  pub was_answered : (turn : Turn) (steps : ℕ) → steps ≤ 1 → {door door_now : D} {call call_now : Call} → is_whole call ≡ true → (asked : List (List Entry)) → length asked ≤ 1
+  pub was_answered : (turn : Turn) (steps : List Source) → length steps ≤ 1 → All (λ step. step ≡ source) steps → {door door_now : D} {call call_now : Call}
+      → (steps ≡ [] → is_starved call_now ≡ true) → is_whole call ≡ true → (asked : List (List Entry)) → length asked ≤ 1
       → AsksDoor seen follows door door_now asked → CarriesFor source call call_now (with_asked asked) → names door_now ≡ names door → stays door door_now
       → is_answered call_now ≡ not (is_starved call_now) → ends_watch (ending_of call_now) ≡ false
       → HasServed source seen names follows stays turn door door_now call call_now (record { read = []; behind = 0; sent = []; steps = steps; ends = 0 }) asked
-  was_answered turn steps one {call = call} {call_now = call_now} whole asked few asks carries same_names same_door ready no_end =
+  was_answered turn steps one by {call = call} {call_now = call_now} starved whole asked few asks carries same_names same_door ready no_end =
       let over = by_end (is_starved call_now) refl in
-      served_asked turn steps asks carries same_names same_door (λ ends. omega (arith, few, over.0, (whole_may_ask call.stage whole).0))
+      served_asked turn steps asks carries
+      (λ none any. carries_anywhere source any call call_now (with_asked asked) (whole_is_unanswered call.stage whole) (starved_is_unanswered call_now.stage (starved none)) carries)
+      by same_names same_door (λ ends. omega (arith, few, over.0, (whole_may_ask call.stage whole).0))
       (λ looks messages is. absurd (true≢false (sym (ap ends_watch is) ∙ no_end))) over.1
       (omega (arith, one, over.0, (whole_may_ask call.stage whole).0, one_at_most (is_watching call_now)))
     where
@@ -241,14 +289,15 @@ module _ {D : Type 0} {source : Source} {seen : D → List Entry} {names : D →
       by_end false s = let is = ready ∙ ap not s in (answered_asks_no_more call_now.stage is, answered_is_closed call_now.stage is)
 
   -- a Watch was let look
-  pub has_looked : (steps : ℕ) → steps ≤ 1 → {door door_now : D} {call call_now : Call} {asked : List (List Entry)} → is_watching call ≡ true → AsksDoor seen follows door door_now asked
+  pub has_looked : (from : Source) → from ≡ source → {door door_now : D} {call call_now : Call} {asked : List (List Entry)} → is_watching call ≡ true → AsksDoor seen follows door door_now asked
       → CarriesFor source call call_now (with_asked asked) → names door_now ≡ names door → stays door door_now → is_answered call_now ≡ true
       → (is_watching call_now ≡ false → (messages : ℕ) × (ending_of call_now ≡ Some (Behind messages))) → length asked ≡ 1
-      → HasServed source seen names follows stays Look door door_now call call_now (record { read = []; behind = 0; sent = []; steps = steps; ends = 0 }) asked
-  has_looked steps one {call = call} {call_now = call_now} {asked = asked} watching asks carries same_names same_door is behind single =
-      served_asked Look steps asks carries same_names same_door (λ ends. absurd (look_is_no_end ends)) (λ looks. by_watching (is_watching call_now) refl)
+      → HasServed source seen names follows stays Look door door_now call call_now (only_stepped from) asked
+  has_looked from same {call = call} {call_now = call_now} {asked = asked} watching asks carries same_names same_door is behind single =
+      served_asked Look (from ∷ []) asks carries (λ none. no_step from none) (one_step from source same) same_names same_door (λ ends. absurd (look_is_no_end ends))
+      (λ looks. by_watching (is_watching call_now) refl)
       (answered_is_closed call_now.stage is)
-      (omega (arith, one, single, answered_asks_no_more call_now.stage is, one_at_most (is_watching call_now), ap from_bool watching))
+      (omega (arith, single, answered_asks_no_more call_now.stage is, one_at_most (is_watching call_now), ap from_bool watching))
     where
       look_is_no_end : Look ≡ End → ⊥
       look_is_no_end e = search rules
@@ -261,14 +310,15 @@ module _ {D : Type 0} {source : Source} {seen : D → List Entry} {names : D →
       by_watching false w messages e = absurd (not_both messages (behind w).0 (sym e ∙ (behind w).1))
 
   -- a Watch was ended
-  pub has_ended : (steps : ℕ) → steps ≤ 1 → {door : D} {call call_now : Call} → is_watching call ≡ true → Carries call call_now (λ past. past) → stays door door → is_answered call_now ≡ true
+  pub has_ended : (from : Source) → from ≡ source → {door : D} {call call_now : Call} → is_watching call ≡ true → Carries call call_now (λ past. past) → stays door door → is_answered call_now ≡ true
       → (messages : ℕ) × (ending_of call_now ≡ Some (Watched messages))
-      → HasServed source seen names follows stays End door door call call_now (record { read = []; behind = 0; sent = []; steps = steps; ends = 0 }) []
-  has_ended steps one {call = call} {call_now = call_now} watching carries same is ending =
-      served_asked End steps AsksDoor-none (λ past h. stands_as source call_now past.received past.received past.sent past.sent past.asked (past.asked ++ []) refl refl
-      (sym (append-nil past.asked)) (carries source past h)) refl same (λ ends. omega (arith, answered_asks_no_more call_now.stage is)) (λ looks. absurd (end_is_no_look looks))
+      → HasServed source seen names follows stays End door door call call_now (only_stepped from) []
+  has_ended from same {call = call} {call_now = call_now} watching carries kept is ending =
+      served_asked End (from ∷ []) AsksDoor-none (λ past h. stands_as source call_now past.received past.received past.sent past.sent past.asked (past.asked ++ []) refl refl
+      (sym (append-nil past.asked)) (carries source past h)) (λ none. no_step from none) (one_step from source same) refl kept
+      (λ ends. omega (arith, answered_asks_no_more call_now.stage is)) (λ looks. absurd (end_is_no_look looks))
       (answered_is_closed call_now.stage is)
-      (omega (arith, one, answered_asks_no_more call_now.stage is, ap from_bool watching, ap from_bool (ending_watches_none call_now.stage (Watched ending.0) ending.1)))
+      (omega (arith, answered_asks_no_more call_now.stage is, ap from_bool watching, ap from_bool (ending_watches_none call_now.stage (Watched ending.0) ending.1)))
     where
       end_is_no_look : End ≡ Look → ⊥
       end_is_no_look e = search rules

@@ -11,23 +11,24 @@ use Rattle.reactor.specs.Connection.{HasServed, HasThrown, stream_of}
 use Rattle.reactor.specs.Link.{link_stream}
 use Rattle.reactor.specs.Moved.{Moved, nothing_moved}
 use Rattle.reactor.specs.Turn.{HasMoved}
+use Rattle.reactor.proofs.MovedLemmas.{grows_none}
 
 module _ {S M : Type 0} {remaining contents : S → Option (List ℕ)} where
-  pub thrown_none : {old new : Connection S M} → remaining (stream_of new) ≡ remaining (stream_of old) → contents (stream_of new) ≡ contents (stream_of old)
+  pub thrown_none : {g : _} {old new : Connection S M g} → remaining (stream_of new) ≡ remaining (stream_of old) → contents (stream_of new) ≡ contents (stream_of old)
       → HasThrown remaining contents old new []
   thrown_none {old} input output = record {
     has_read = subst (λ r. Consumes (remaining (stream_of old)) r []) (sym input) (Consumes-nil (remaining (stream_of old)));
     kept = output;
   }
 
-  pub thrown_then : {old mid new : Connection S M} {thrown more : List ℕ} → HasThrown remaining contents old mid thrown → HasThrown remaining contents mid new more
+  pub thrown_then : {g : _} {old mid new : Connection S M g} {thrown more : List ℕ} → HasThrown remaining contents old mid thrown → HasThrown remaining contents mid new more
       → HasThrown remaining contents old new (thrown ++ more)
   thrown_then {thrown = thrown} {more = more} first second = record {
     has_read = Consumes-trans _ _ _ thrown more first.has_read second.has_read;
     kept = second.kept ∙ first.kept;
   }
 
-  pub thrown_from : {old mid new : Connection S M} {thrown : List ℕ} → remaining (stream_of mid) ≡ remaining (stream_of old) → contents (stream_of mid) ≡ contents (stream_of old)
+  pub thrown_from : {g : _} {old mid new : Connection S M g} {thrown : List ℕ} → remaining (stream_of mid) ≡ remaining (stream_of old) → contents (stream_of mid) ≡ contents (stream_of old)
       → HasThrown remaining contents mid new thrown → HasThrown remaining contents old new thrown
   thrown_from {new = new} {thrown = thrown} input output later = record {
     has_read = subst (λ r. Consumes r (remaining (stream_of new)) thrown) input later.has_read;
@@ -36,30 +37,34 @@ module _ {S M : Type 0} {remaining contents : S → Option (List ℕ)} where
 
 module _ {S H M : Type 0} {remaining contents : S → Option (List ℕ)} {moves : H → H → M → M → Moved → Type 0} {is_done : M → Type 0} {waiting : M → List ℕ} where
   -- the machine had a turn, and then bytes were thrown away
-  pub served_so : {old mid new : Connection S M} {link link_now : Link S} {host host_now : H} {machine_now : M} {moved : Moved} (left : Left) (thrown : List ℕ)
-      → link_stream link ≡ stream_of old → HasMoved remaining contents moves link link_now host host_now old.machine machine_now moved → new.machine ≡ machine_now
+  pub served_so : {g : _} {old mid new : Connection S M g} {link link_now : Link S} {host host_now : H} {machine_now : M} {past_now moved : Moved} (left : Left) (thrown : List ℕ)
+      → link_stream link ≡ stream_of old → HasMoved remaining contents moves link link_now host host_now old.machine machine_now old.past.moved past_now moved → new.machine ≡ machine_now
+      → new.past.moved ≡ past_now
       → remaining (stream_of mid) ≡ remaining (link_stream link_now) → contents (stream_of mid) ≡ contents (link_stream link_now)
       → HasThrown remaining contents mid new thrown → (left ≡ lefts.Over ends.Done → ⊥) → new.is_draining ≡ false
       → HasServed remaining contents moves is_done waiting old new host host_now left moved thrown
-  served_so {old = old} {new = new} {link_now = link_now} {host = host} {host_now = host_now} {moved = moved} left thrown same turned is input output more undone talks = record {
+  served_so {old = old} {new = new} {link_now = link_now} {host = host} {host_now = host_now} {moved = moved} left thrown same turned is grown input output more undone talks = record {
     has_read = Consumes-trans _ (remaining (link_stream link_now)) _ moved.read thrown
         (subst (λ s. Consumes (remaining s) (remaining (link_stream link_now)) moved.read) same turned.has_read)
         (subst (λ r. Consumes r (remaining (stream_of new)) thrown) input more.has_read);
     wrote = subst (λ r. Appends (contents (stream_of old)) r moved.sent) (sym (more.kept ∙ output))
         (subst (λ s. Appends (contents s) (contents (link_stream link_now)) moved.sent) same turned.wrote);
     goes = subst (λ m. moves host host_now old.machine m moved) (sym is) turned.goes;
+    grows = grown ∙ turned.grows;
     done = λ over. absurd (undone over);
     drains = λ drained. absurd (true≢false (sym drained ∙ talks));
   }
 
   -- the machine had no turn
-  pub served_none : {old new : Connection S M} {host : H} (left : Left) (thrown : List ℕ) → moves host host old.machine old.machine nothing_moved → new.machine ≡ old.machine
+  pub served_none : {g : _} {old new : Connection S M g} {host : H} (left : Left) (thrown : List ℕ) → moves host host old.machine old.machine nothing_moved → new.machine ≡ old.machine
+      → new.past.moved ≡ old.past.moved
       → HasThrown remaining contents old new thrown → (left ≡ lefts.Over ends.Done → ⊥) → new.is_draining ≡ false
       → HasServed remaining contents moves is_done waiting old new host host left nothing_moved thrown
-  served_none {old = old} {host = host} left thrown stays is more undone talks = record {
+  served_none {old = old} {host = host} left thrown stays is same more undone talks = record {
     has_read = more.has_read;
     wrote = subst (λ r. Appends (contents (stream_of old)) r []) (sym more.kept) (Appends-nil (contents (stream_of old)));
     goes = subst (λ m. moves host host old.machine m nothing_moved) (sym is) stays;
+    grows = grows_none same;
     done = λ over. absurd (undone over);
     drains = λ drained. absurd (true≢false (sym drained ∙ talks));
   }

@@ -3,3 +3,4 @@ pub mod ConnectionLemmas
 pub mod MovedLemmas
 pub mod TalkingLemmas
 pub mod TurnLemmas
+pub mod Walks

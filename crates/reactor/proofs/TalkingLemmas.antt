@@ -1,8 +1,11 @@
 -- What a session makes of bytes, and of a line that is met.
-use Rattle.std.proofs.Common.{◌≡◌, ◌≤◌, ◌<◌, ◌-◌, ◌⊎◌, ℕ, inl, inr, Bool, true, false, List, [], ◌∷◌, ◌++◌, length, take, refl, ap, sym, ◌∙◌, subst, append-nil, arith, true≢false, if◌then◌else◌}
+use Rattle.std.proofs.Common.{◌≡◌, ◌≤◌, ◌<◌, ◌-◌, ◌⊎◌, ◌==◌, ℕ, suc, inl, inr, Bool, true, false, List, [], ◌∷◌, ◌++◌, length, take, refl, ap, sym, ◌∙◌, subst, append-nil, arith, rules, ⊎_elim, true≢false, if◌then◌else◌}
 use Rattle.std.proofs.lemmas.List.{take_all}
-use Rattle.std.specs.Prelude.{codes, min, nat_lt, ◌&&◌, drop}
+use Rattle.std.proofs.lemmas.Bool.{eqb-true}
+use Rattle.std.specs.Prelude.{Contains, codes, min, nat_lt, not, ◌&&◌, drop}
 use Rattle.std.proofs.lemmas.List.{take-append-drop}
+use Rattle.std.proofs.lemmas.List.Elements.{All-cons, All-nil}
+use Rattle.web_call.specs.Answer.{Source}
 use Rattle.control.specs.declared.answer.Answer.{Answer}
 use Rattle.control.specs.Session.{SessionState, at_end, behind_line, ended, ends_open, first_line, with_unread, with_waiting}
 use Rattle.control.specs.Talk.{AreLines, IsCut}
@@ -11,8 +14,8 @@ use Rattle.control.specs.Talk.AreMet.{Ends, Then}
 use Rattle.control.specs.Text.{answer_text, ends_session}
 use Rattle.control.proofs.LineLemmas.{line_within}
 use Rattle.control.proofs.TalkLemmas.{one_line, stays_closed}
-use Rattle.reactor.specs.Moved.{only_ended, only_read, only_sent, only_stepped}
-use Rattle.reactor.specs.Talking.{HasSaid, HasTaken, taken_by}
+use Rattle.reactor.specs.Moved.{Moved, only_ended, only_read, only_sent, only_stepped}
+use Rattle.reactor.specs.Talking.{HasSaid, HasTaken, IsDone, IsSessionOf, taken_by, told_texts}
 use Rattle.reactor.specs.TalkingLaws.{lines_of}
 
 -- a session that takes bytes is open, and has room
@@ -33,6 +36,7 @@ given_some session session_now bytes comes is = subst (λ now. HasTaken session 
     texts = append-nil session.waiting;
     over = refl;
     each = refl;
+    by = All-nil (λ (source : Source). source.names ≡ names);
     all_taken = refl;
     ends_once = λ ends. absurd (true≢false (sym ends ∙ comes));
     ends = λ _ ends. absurd (true≢false (sym ends ∙ comes));
@@ -50,6 +54,7 @@ given_none session session_now is = subst (λ now. HasTaken session now (only_re
     texts = append-nil session.waiting;
     over = refl;
     each = refl;
+    by = All-nil (λ (source : Source). source.names ≡ names);
     all_taken = refl;
     ends_once = λ is. (refl, refl, refl, is);
     ends = λ comes ends. absurd (true≢false (sym ends ∙ comes));
@@ -99,6 +104,7 @@ was_sent session session_now count is = subst (λ now. HasTaken session now (onl
     texts = append-nil session.waiting ∙ sym (take-append-drop count session.waiting);
     over = refl;
     each = refl;
+    by = All-nil (λ (source : Source). source.names ≡ names);
     all_taken = refl;
     ends_once = λ is. (refl, refl, refl, is);
     ends = λ comes ends. absurd (true≢false (sym ends ∙ comes));
@@ -149,6 +155,7 @@ has_ended session session_now some is =
         texts = append-nil session.waiting;
         over = refl;
         each = refl;
+        by = All-nil (λ (source : Source). source.names ≡ names);
         all_taken = refl;
         ends_once = λ ends. absurd (true≢false (sym ends ∙ open_.0));
         ends = λ _ _. refl;
@@ -162,8 +169,8 @@ has_ended session session_now some is =
 pub was_met : {S : Type 0} {others : S → S → Type 0} {meets : S → S → List ℕ → Answer → Type 0} {names : List (List ℕ)} (state state_now : S) (session session_now : SessionState) (answer : Answer)
     → meets state state_now (first_line session.unread) answer → IsCut session.unread (first_line session.unread) (behind_line session.unread) → session.waiting ≡ []
     → session.is_over ≡ false → session_now.unread ≡ behind_line session.unread → session_now.waiting ≡ answer_text names answer → session_now.is_over ≡ ends_session answer
-    → session_now.has_ended ≡ session.has_ended → HasSaid others meets names state state_now session session_now (only_stepped 1)
-was_met {names = names} state state_now session session_now answer met cut all_sent open_ unread waiting over ends = record {
+    → session_now.has_ended ≡ session.has_ended → (source : Source) → source.names ≡ names → HasSaid others meets names state state_now session session_now (only_stepped source)
+was_met {names = names} state state_now session session_now answer met cut all_sent open_ unread waiting over ends source by = record {
   closing = [];
   lines = first_line session.unread ∷ [];
   answers = answer ∷ [];
@@ -172,6 +179,7 @@ was_met {names = names} state state_now session session_now answer met cut all_s
     texts = ap (λ l. l ++ (answer_text names answer ++ [])) all_sent ∙ (append-nil (answer_text names answer) ∙ sym waiting);
     over = (open_, sym over);
     each = refl;
+    by = All-cons (λ (s : Source). s.names ≡ names) source [] by (All-nil (λ (s : Source). s.names ≡ names));
     all_taken = refl;
     ends_once = λ was. (refl, refl, refl, ends ∙ was);
     ends = λ comes is. absurd (true≢false (sym is ∙ (ends ∙ comes)));
@@ -181,3 +189,32 @@ was_met {names = names} state state_now session session_now answer met cut all_s
   };
   are_met = Then state state_now state_now (first_line session.unread) answer [] [] met (Ends state_now);
 }
+
+-- bytes without LF that do not end open
+lf_first : (c : ℕ) (b : Bool) → (c == 10) ≡ b → not b ≡ false → c ≡ 10
+lf_first c true is closed = eqb-true c 10 is
+lf_first c false is closed = absurd (true≢false closed)
+
+none_left : (bytes : List ℕ) → ends_open bytes ≡ false → ¬ Contains bytes 10 → bytes ≡ []
+none_left [] closed none = refl
+none_left (c ∷ []) closed none = absurd (none (0, omega arith, lf_first c (c == 10) refl closed))
+none_left (c ∷ d ∷ rest) closed none = absurd (no_item (none_left (d ∷ rest) closed (λ has. none (suc has.0, omega (arith, has.1), has.2))))
+  where
+    no_item : d ∷ rest ≡ [] → ⊥
+    no_item e = search rules
+
+-- a session that is over, or whose input is at its end with no line left
+pub done_by_end : (over : Bool) (bytes unread : List ℕ) (lines : List (List ℕ)) (over_now ended : Bool) → over ≡ over_now → AreLines bytes lines unread
+    → (over_now ≡ false → ¬ Contains unread 10) → (ended ≡ true → ends_open unread ≡ false) → (over_now ≡ true) ⊎ (ended ≡ true) → (over_now ≡ true) ⊎ AreLines bytes lines []
+done_by_end true bytes unread lines over_now ended same are none whole ends = inl (sym same)
+done_by_end false bytes unread lines over_now ended same are none whole ends = ⊎_elim (λ is. inl is)
+    (λ is. inr (subst (λ l. AreLines bytes lines l) (none_left unread (whole is) (none (sym same))) are)) ends
+
+-- a session that has moved this since it began, and is done
+pub session_ends : (past : Moved) (session : SessionState) (stood : IsSessionOf past session) → IsDone session → session.waiting ≡ []
+    → (past.sent ≡ told_texts past.steps stood.answers) × ((session.is_over ≡ true) ⊎ AreLines (past.read ++ stood.closing) stood.lines [])
+session_ends past session stood done all_sent = (
+  sym (stood.texts ∙ (ap (λ l. past.sent ++ l) all_sent ∙ append-nil past.sent)),
+  done_by_end session.is_over (past.read ++ stood.closing) session.unread stood.lines session.is_over session.has_ended refl stood.are_lines
+      (λ open_ has. done.no_line (open_, inl has)) stood.whole done.ends,
+)

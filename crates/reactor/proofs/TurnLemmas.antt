@@ -1,6 +1,6 @@
 -- How a piece of work and a turn leave their machine.
 use Rattle.std.proofs.KnownBytes.{Appends-nil, Consumes-nil}
-use Rattle.std.proofs.Common.{◌≡◌, ◌≢◌, ◌≤◌, ◌<◌, ◌+◌, ◌⊎◌, inl, inr, ℕ, zero, suc, Bool, Option, true, false, List, [], refl, sym, ◌∙◌, subst, length-append, arith, rules, true≢false}
+use Rattle.std.proofs.Common.{◌≡◌, ◌≢◌, ◌≤◌, ◌<◌, ◌+◌, ◌⊎◌, inl, inr, ℕ, zero, suc, Bool, Option, true, false, List, [], refl, ap, sym, ◌∙◌, subst, length-append, arith, rules, true≢false}
 use Rattle.std.specs.Io.KnownBytes.{Appends, Consumes}
 use Rattle.std.specs.Prelude.{◌↔◌}
 use Rattle.web_call.specs.declared.exchanging.Why.TheVariants as whys
@@ -51,7 +51,7 @@ module _ {M : Type 0} (takes : M → ℕ) (waiting : M → List ℕ) (idle rests
     where
       more : (first later : Moved) → 64 ≤ done_by later → 64 ≤ done_by (followed_by first later)
       more first later some =
-          omega (arith, some, length-append first.read later.read, length-append first.sent later.sent)
+          omega (arith, some, length-append first.read later.read, length-append first.sent later.sent, length-append first.steps later.steps)
   leaves_more into out machine first later fates.Done left = left
   leaves_more into out machine first later (fates.GivenUp why) left = gives_up why left
     where
@@ -63,49 +63,50 @@ module _ {M : Type 0} (takes : M → ℕ) (waiting : M → List ℕ) (idle rests
 
 module _ {S H M : Type 0} {remaining contents : S → Option (List ℕ)} {moves : H → H → M → M → Moved → Type 0} where
   -- no byte was taken
-  pub stopped_writing : {link link_now : Link S} {host : H} {machine machine_now : M} → machine_now ≡ machine
+  pub stopped_writing : {link link_now : Link S} {host : H} {machine machine_now : M} {past past_now : Moved} → machine_now ≡ machine → past_now ≡ past
       → remaining (link_stream link_now) ≡ remaining (link_stream link) → Appends (contents (link_stream link)) (contents (link_stream link_now)) []
-      → moves host host machine machine nothing_moved → HasMoved remaining contents moves link link_now host host machine machine_now nothing_moved
-  stopped_writing {link} {link_now} {host} {machine} same kept wrote goes =
-      subst (λ m. HasMoved remaining contents moves link link_now host host machine m nothing_moved) (sym same)
-      (moved_none (subst (λ r. Consumes (remaining (link_stream link)) r []) (sym kept) (Consumes-nil (remaining (link_stream link)))) wrote goes)
+      → moves host host machine machine nothing_moved → HasMoved remaining contents moves link link_now host host machine machine_now past past_now nothing_moved
+  stopped_writing {link} {link_now} {host} {machine} {past = past} {past_now = past_now} same stays kept wrote goes =
+      subst (λ m. HasMoved remaining contents moves link link_now host host machine m past past_now nothing_moved) (sym same)
+      (moved_none (subst (λ r. Consumes (remaining (link_stream link)) r []) (sym kept) (Consumes-nil (remaining (link_stream link)))) wrote goes stays)
 
   -- no byte was read where the machine wanted some: it goes on without them, or the turn stops
   pub reads_to_its_end : (takes : M → ℕ) (waiting : M → List ℕ) (idle rests is_done is_starved : M → Type 0) (is_closed : M → Bool) {machine_moves : M → M → Moved → Type 0}
-      {link link_now : Link S} {host host_now : H} {machine wanting wants_still machine_now : M} {len : ℕ}
-      (piece : Piece) (last : Last) → last ≡ link_reads link_now → moves host host_now machine wanting nothing_moved → idle wanting × (0 < takes wanting) × (waiting wanting ≡ [])
-      → wants_still ≡ wanting → has_stopped (link_reads link_now) ≡ true → Consumes (remaining (link_stream link)) (remaining (link_stream link_now)) []
+      {link link_now : Link S} {host host_now : H} {machine wanting wants_still machine_now : M} {past past_wanting past_still past_now : Moved} {len : ℕ}
+      (piece : Piece) (last : Last) → last ≡ link_reads link_now → moves host host_now machine wanting nothing_moved → past_wanting ≡ followed_by past nothing_moved → idle wanting × (0 < takes wanting) × (waiting wanting ≡ [])
+      → wants_still ≡ wanting → past_still ≡ past_wanting → has_stopped (link_reads link_now) ≡ true → Consumes (remaining (link_stream link)) (remaining (link_stream link_now)) []
       → FindsEnd remaining link_now → contents (link_stream link_now) ≡ contents (link_stream link)
-      → (piece ≡ pieces.Went → (last ≡ Ended) × machine_moves wants_still machine_now only_ended)
-      → (piece ≢ pieces.Went → (machine_now ≡ wants_still) × (piece ≡ pieces.Stops (fate_of whys.Read last)))
+      → (piece ≡ pieces.Went → (last ≡ Ended) × machine_moves wants_still machine_now only_ended × (past_now ≡ followed_by past_still only_ended))
+      → (piece ≢ pieces.Went → (machine_now ≡ wants_still) × (past_now ≡ past_still) × (piece ≡ pieces.Stops (fate_of whys.Read last)))
       → (alone : (m n : M) (x : Moved) → machine_moves m n x → moves host_now host_now m n x)
       → (on : (m n o : M) (x y : Moved) → moves host host_now m n x → moves host_now host_now n o y → moves host host_now m o (followed_by x y))
-      → (moved : Moved) × HasMoved remaining contents moves link link_now host host_now machine machine_now moved
+      → (moved : Moved) × HasMoved remaining contents moves link link_now host host_now machine machine_now past past_now moved
       × HasWorked takes waiting idle rests is_done is_starved is_closed piece (link_reads link_now) (link_writes link_now) machine_now moved × (moved.behind ≤ len)
-  reads_to_its_end takes waiting idle rests is_done is_starved is_closed {machine_moves} {link} {link_now} {host} {host_now} {machine} {wanting} {wants_still} {machine_now} {len}
-      piece last is wanted some same stopped has_read end kept went stops alone on = by_piece piece refl
+  reads_to_its_end takes waiting idle rests is_done is_starved is_closed {machine_moves} {link} {link_now} {host} {host_now} {machine} {wanting} {wants_still} {machine_now} {past} {past_wanting} {past_still} {past_now} {len}
+      piece last is wanted grown some same stays_so stopped has_read end kept went stops alone on = by_piece piece refl
     where
       wrote : Appends (contents (link_stream link)) (contents (link_stream link_now)) []
       wrote = subst (λ r. Appends (contents (link_stream link)) r []) (sym kept) (Appends-nil (contents (link_stream link)))
 
       Answer : Piece → Type 0
-      Answer p = (moved : Moved) × HasMoved remaining contents moves link link_now host host_now machine machine_now moved
+      Answer p = (moved : Moved) × HasMoved remaining contents moves link link_now host host_now machine machine_now past past_now moved
           × HasWorked takes waiting idle rests is_done is_starved is_closed p (link_reads link_now) (link_writes link_now) machine_now moved × (moved.behind ≤ len)
 
-      ended : (last ≡ Ended) × machine_moves wants_still machine_now only_ended → Answer pieces.Went
+      ended : (last ≡ Ended) × machine_moves wants_still machine_now only_ended × (past_now ≡ followed_by past_still only_ended) → Answer pieces.Went
       ended found = (
         only_ended,
-        moved_behind (on machine wanting machine_now nothing_moved only_ended) wanted
-            (moved_ended has_read (end (sym is ∙ found.0)) wrote (alone wanting machine_now only_ended (subst (λ m. machine_moves m machine_now only_ended) same found.1))),
+        moved_behind (on machine wanting machine_now nothing_moved only_ended) wanted grown
+            (moved_ended has_read (end (sym is ∙ found.0)) wrote (alone wanting machine_now only_ended (subst (λ m. machine_moves m machine_now only_ended) same found.1))
+            (found.2 ∙ ap (λ p. followed_by p only_ended) stays_so)),
         (omega arith, refl),
         omega arith,
       )
 
-      stays : machine_now ≡ wants_still → Answer (pieces.Stops (fate_of whys.Read last))
-      stays left = (
+      stays : machine_now ≡ wants_still → past_now ≡ past_still → Answer (pieces.Stops (fate_of whys.Read last))
+      stays left kept_so = (
         nothing_moved,
-        subst (λ m. HasMoved remaining contents moves link link_now host host_now machine m nothing_moved) (sym (left ∙ same))
-            (record { has_read = has_read; wrote = wrote; goes = wanted; at_end = λ is. absurd (omega (arith, is)) }),
+        subst (λ m. HasMoved remaining contents moves link link_now host host_now machine m past past_now nothing_moved) (sym (left ∙ same))
+            (record { has_read = has_read; wrote = wrote; goes = wanted; grows = kept_so ∙ (stays_so ∙ grown); at_end = λ is. absurd (omega (arith, is)) }),
         (
           subst (λ l. Leaves takes waiting idle rests is_done is_starved (link_reads link_now) (link_writes link_now) machine_now nothing_moved (fate_of whys.Read l)) (sym is)
               (wants takes waiting idle rests is_done is_starved (link_reads link_now) (link_writes link_now) machine_now nothing_moved
@@ -116,7 +117,7 @@ module _ {S H M : Type 0} {remaining contents : S → Option (List ℕ)} {moves 
       )
 
       stops_so : (p : Piece) → piece ≡ p → (piece ≢ pieces.Went) → Answer p
-      stops_so p e not = let found = stops not in subst Answer (sym found.1 ∙ e) (stays found.0)
+      stops_so p e not = let found = stops not in subst Answer (sym found.2 ∙ e) (stays found.0 found.1)
 
       not_went : (fate : Fate) → piece ≡ pieces.Stops fate → piece ≢ pieces.Went
       not_went fate e f = search rules
@@ -132,7 +133,7 @@ module _ {S H M : Type 0} {remaining contents : S → Option (List ℕ)} {moves 
 -- more was done
 pub done_more : (n : ℕ) (first later : Moved) → n ≤ done_by first → 0 < done_by later → n + 1 ≤ done_by (followed_by first later)
 done_more n first later before some =
-    omega (arith, before, some, length-append first.read later.read, length-append first.sent later.sent)
+    omega (arith, before, some, length-append first.read later.read, length-append first.sent later.sent, length-append first.steps later.steps)
 
 -- bytes come behind what is taken in one piece of work of a turn at most
 pub behind_once : (a b len : ℕ) (flag flag_now closed closed_now : Bool) → a ≤ len → b ≤ len → ((flag ≡ true) ↔ (0 < a)) → (0 < a → closed ≡ true)
@@ -150,14 +151,14 @@ behind_once (suc a) b len flag flag_now closed closed_now most more is before st
 
 module _ {S H M : Type 0} {remaining contents : S → Option (List ℕ)} {moves : H → H → M → M → Moved → Type 0} (is_closed : M → Bool) where
   -- a turn goes on with one more piece of work
-  pub turns_on : {link mid link_now : Link S} {host between host_now : H} {machine part machine_now : M} (pieces len len_now : ℕ) (flag flag_now : Bool) (first later : Moved)
+  pub turns_on : {link mid link_now : Link S} {host between host_now : H} {machine part machine_now : M} {past past_mid past_now : Moved} (pieces len len_now : ℕ) (flag flag_now : Bool) (first later : Moved)
       → (moves host between machine part first → moves between host_now part machine_now later → moves host host_now machine machine_now (followed_by first later))
       → (is_closed part ≡ true → moves between host_now part machine_now later → (later.read ≡ []) × (later.behind ≡ 0) × (is_closed machine_now ≡ true)) → len_now ≡ len
-      → HasMoved remaining contents moves link mid host between machine part first × (pieces ≤ done_by first) × (first.behind ≤ len) × ((flag ≡ true) ↔ (0 < first.behind))
+      → HasMoved remaining contents moves link mid host between machine part past past_mid first × (pieces ≤ done_by first) × (first.behind ≤ len) × ((flag ≡ true) ↔ (0 < first.behind))
       × (0 < first.behind → is_closed part ≡ true)
-      → HasMoved remaining contents moves mid link_now between host_now part machine_now later → later.behind ≤ len → 0 < done_by later
+      → HasMoved remaining contents moves mid link_now between host_now part machine_now past_mid past_now later → later.behind ≤ len → 0 < done_by later
       → ((later.behind ≡ 0) × (flag_now ≡ flag)) ⊎ ((0 < later.behind) × (is_closed machine_now ≡ true) × (flag_now ≡ true))
-      → (moved : Moved) × HasMoved remaining contents moves link link_now host host_now machine machine_now moved × (pieces + 1 ≤ done_by moved) × (moved.behind ≤ len_now)
+      → (moved : Moved) × HasMoved remaining contents moves link link_now host host_now machine machine_now past past_now moved × (pieces + 1 ≤ done_by moved) × (moved.behind ≤ len_now)
       × ((flag_now ≡ true) ↔ (0 < moved.behind)) × (0 < moved.behind → is_closed machine_now ≡ true)
   turns_on {part = part} {machine_now = machine_now} pieces len len_now flag flag_now first later on closes same before more bound some adds =
       let behind = behind_once first.behind later.behind len flag flag_now (is_closed part) (is_closed machine_now) before.2 bound before.3 before.4

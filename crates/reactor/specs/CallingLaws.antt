@@ -1,17 +1,20 @@
 -- Calls over a door: what one step and another, and one turn and another, come to.
 use Rattle.std.proofs.Common.{◌≡◌, ◌≢◌, ◌<◌, ◌+◌, inl, inr, ℕ, zero, suc, Bool, true, false, List, [], ◌∷◌, ◌++◌, length, refl, ap, sym, ◌∙◌, subst, append_assoc, append-nil, length-append, arith, true≢false, not, if◌then◌else◌}
+use Rattle.std.proofs.lemmas.List.Elements.{All-append, All-cons, All-head, All-nil, All-tail}
+use Rattle.std.specs.Prelude.{All}
 use Rattle.desk_core.specs.declared.entry.Entry.{Entry}
+use Rattle.desk_core.specs.Legal.{IsLegal}
 use Rattle.desk_core.specs.Watch.{last_of}
 use Rattle.web_call.specs.declared.bell.Turn.{Turn}
 use Rattle.web_call.specs.declared.call.Call.{Call}
 use Rattle.web_call.specs.declared.call.Stage.{Stage}
 use Rattle.web_call.specs.declared.call.Stage.TheVariants as stages
 use Rattle.web_call.specs.Answer.{Source, source_of}
-use Rattle.web_call.specs.Past.{CarriesFor, Stands}
+use Rattle.web_call.specs.Past.{CarriesFor, Stands, begun}
 use Rattle.web_call.specs.Stages.{is_open, is_watching, opens, watches}
 use Rattle.web_call.specs.Walk.{InTurn}
 use Rattle.web_call.proofs.WalkLemmas.{AsksDoor-again, AsksDoor-none, InTurn-append, last_of-append}
-use Rattle.reactor.specs.Calling.{DoorStays, GoesOnFrom, HasGrown, HasServed, HasSpanned, HasTaken, IsTransitive, grown, taken_by}
+use Rattle.reactor.specs.Calling.{DoorStays, GoesOnFrom, HasGrown, HasServed, HasSpanned, HasTaken, IsCallOf, IsFrom, IsTransitive, grown, taken_by}
 use Rattle.reactor.specs.Moved.{Moved, followed_by, nothing_moved}
 
 -- a past said in another way
@@ -55,13 +58,13 @@ some_length : (bytes : List ℕ) → bytes ≢ [] → 0 < length bytes
 some_length [] some = absurd (some refl)
 some_length (c ∷ bytes) some = omega arith
 
-pub grown_none : (source : Source) (call : Call) → HasGrown source call call nothing_moved []
-grown_none source call = record {
+pub grown_none : {over : Source → Type 0} (call : Call) → HasGrown over call call nothing_moved []
+grown_none call = record {
   received = [];
   behind = [];
   is_read = refl;
   is_behind = refl;
-  carries = carries_none source call;
+  carries = λ source is. carries_none source call;
   whole = λ some. absurd (omega (arith, some));
   no_end = refl;
   closed = λ is. (refl, refl, is);
@@ -72,9 +75,10 @@ whole_then : (a b : ℕ) (open_mid open_now : Bool) → 0 < a + b → (0 < a →
 whole_then zero b open_mid open_now some first second closed = second (omega (arith, some))
 whole_then (suc a) b open_mid open_now some first second closed = closed (first (omega arith))
 
-pub grown_then : (source : Source) {call mid call_now : Call} {x y : Moved} {asked more : List (List Entry)} → HasGrown source call mid x asked → HasGrown source mid call_now y more
-    → HasGrown source call call_now (followed_by x y) (asked ++ more)
-grown_then source {call} {mid} {call_now} {x} {y} {asked} {more} first second = record {
+pub grown_then : {over one two : Source → Type 0} {call mid call_now : Call} {x y : Moved} {asked more : List (List Entry)} → ((source : Source) → over source → one source)
+    → ((source : Source) → over source → two source) → HasGrown one call mid x asked → HasGrown two mid call_now y more
+    → HasGrown over call call_now (followed_by x y) (asked ++ more)
+grown_then {call = call} {mid = mid} {call_now = call_now} {x = x} {y = y} {asked = asked} {more = more} in_first in_second first second = record {
   received = first.received ++ second.received;
   behind = first.behind ++ second.behind;
   is_read = ap (λ l. l ++ y.read) first.is_read ∙ (ap (λ l. (first.received ++ first.behind) ++ l) second.is_read
@@ -82,7 +86,8 @@ grown_then source {call} {mid} {call_now} {x} {y} {asked} {more} first second = 
       (λ some. none_first second.received second.behind
       (sym (second.closed (first.whole (omega (arith, first.is_behind, some_length first.behind some)))).0 ∙ second.is_read)));
   is_behind = omega (arith, first.is_behind, second.is_behind, length-append first.behind second.behind);
-  carries = carries_then source call mid call_now first.received second.received x.sent y.sent asked more first.carries second.carries;
+  carries = λ source is. carries_then source call mid call_now first.received second.received x.sent y.sent asked more (first.carries source (in_first source is))
+      (second.carries source (in_second source is));
   whole = λ some. whole_then x.behind y.behind (is_open mid) (is_open call_now) some first.whole second.whole (λ is. (second.closed is).2);
   no_end = omega (arith, first.no_end, second.no_end);
   closed = λ is.
@@ -111,14 +116,82 @@ reaches_on : (follows : List Entry → List Entry → Type 0) (entries seen now 
 reaches_on follows entries seen now [] from last = subst (λ l. GoesOnFrom follows entries l) (sym last) from
 reaches_on follows entries seen now (next ∷ later) from last = inl last
 
+-- two lists of which nothing is left are empty
+none_of_two : {A : Type 0} (xs more : List A) → xs ++ more ≡ [] → (xs ≡ []) × (more ≡ [])
+none_of_two [] more none = (refl, none)
+none_of_two (x ∷ xs) more none = no_item x (xs ++ more) none
+
+-- what is from a source in two pieces of work is from it in each
+from_parts : {source other : Source} (x y : Moved) → IsFrom source other (followed_by x y) → IsFrom source other x × IsFrom source other y
+from_parts x y (inl same) = (inl same, inl same)
+from_parts x y (inr none) = let parts = none_of_two x.steps y.steps none in (inr parts.0, inr parts.1)
+
+-- all steps of two pieces of work
+all_of_two : {A : Type 0} (P : A → Type 0) (xs more : List A) → All P (xs ++ more) → All P xs × All P more
+all_of_two P [] more all = (All-nil P, all)
+all_of_two P (x ∷ xs) more all =
+    let rest = all_of_two P xs more (All-tail P x (xs ++ more) all) in
+    (All-cons P x xs (All-head P x (xs ++ more) all) rest.0, rest.1)
+
+-- steps all of one source, and all of another, are from both
+from_both : (source other : Source) (moved : Moved) (steps : List Source) → moved.steps ≡ steps → All (λ step. step ≡ source) steps → All (λ step. step ≡ other) steps
+    → IsFrom source other moved
+from_both source other moved [] is ours theirs = inr is
+from_both source other moved (step ∷ steps) is ours theirs =
+    inl (sym (All-head (λ s. s ≡ other) step steps theirs) ∙ All-head (λ s. s ≡ source) step steps ours)
+
+-- the histories at which a door is asked are legal
+all_legal : (follows : List Entry → List Entry → Type 0) (entries : List Entry) (asked : List (List Entry)) → InTurn follows entries asked → All IsLegal asked
+all_legal follows entries [] turns = All-nil IsLegal
+all_legal follows entries (next ∷ later) turns = All-cons IsLegal next later turns.1 (all_legal follows next later turns.2)
+
+-- a call that begins, by how it stands then
+pub call_begins : {call : Call} → ((source : Source) → Stands source begun call) → IsCallOf nothing_moved call
+call_begins begins = record {
+  received = [];
+  behind = [];
+  asked = [];
+  is_read = refl;
+  is_behind = refl;
+  stands = λ source by. begins source;
+  legal = All-nil IsLegal;
+  whole = λ some. absurd (omega (arith, some));
+  no_end = refl;
+}
+
+-- a call that has moved something goes on over a door
+pub call_goes_on : {D : Type 0} {source : Source} {seen : D → List Entry} {names : D → List (List ℕ)} {follows : List Entry → List Entry → Type 0} {stays : D → D → Type 0}
+    {turn : Turn} {door door_now : D} {call call_now : Call} {past x : Moved} {asked : List (List Entry)} → IsCallOf past call
+    → HasServed source seen names follows stays turn door door_now call call_now x asked → IsCallOf (followed_by past x) call_now
+call_goes_on {source = source} {seen = seen} {follows = follows} {door = door} {call = call} {call_now = call_now} {past = past} {x = x} {asked = asked} first served =
+    let second = served.has_grown in
+    record {
+      received = first.received ++ second.received;
+      behind = first.behind ++ second.behind;
+      asked = first.asked ++ asked;
+      is_read = ap (λ l. l ++ x.read) first.is_read ∙ (ap (λ l. (first.received ++ first.behind) ++ l) second.is_read
+          ∙ in_order first.received first.behind second.received second.behind
+          (λ some. none_first second.received second.behind
+          (sym (second.closed (first.whole (omega (arith, first.is_behind, some_length first.behind some)))).0 ∙ second.is_read)));
+      is_behind = omega (arith, first.is_behind, second.is_behind, length-append first.behind second.behind);
+      stands = λ other by.
+          let parts = all_of_two (λ step. step ≡ other) past.steps x.steps by in
+          second.carries other (from_both source other x x.steps refl served.by parts.1) (record { received = first.received; sent = past.sent; asked = first.asked })
+          (first.stands other parts.0);
+      legal = All-append IsLegal first.asked asked first.legal (all_legal follows (seen door) asked served.asks.in_turn);
+      whole = λ some. whole_then past.behind x.behind (is_open call) (is_open call_now) some first.whole second.whole (λ is. (second.closed is).2);
+      no_end = omega (arith, first.no_end, second.no_end);
+    }
+
 module _ {D : Type 0} {seen : D → List Entry} {names : D → List (List ℕ)} {follows : List Entry → List Entry → Type 0} where
   pub spans_nothing : (source : Source) (door : D) (call : Call) → HasSpanned source seen names follows door door call call nothing_moved []
-  spans_nothing source door call = record { has_grown = grown_none source call; in_turn = tt; goes_on = inl refl; same_names = refl }
+  spans_nothing source door call = record { has_grown = grown_none call; in_turn = tt; goes_on = inl refl; same_names = refl }
 
 module _ {D : Type 0} {seen : D → List Entry} {names : D → List (List ℕ)} {follows : List Entry → List Entry → Type 0} {stays : D → D → Type 0} where
   pub served_nowhere : (source : Source) (turn : Turn) (door : D) (call : Call) → stays door door → HasServed source seen names follows stays turn door door call call nothing_moved []
   served_nowhere source turn door call same = record {
-    has_grown = grown_none source call;
+    has_grown = grown_none call;
+    by = All-nil (λ step. step ≡ source);
     asks = AsksDoor-none;
     same_names = refl;
     same_door = same;
@@ -130,12 +203,22 @@ module _ {D : Type 0} {seen : D → List Entry} {names : D → List (List ℕ)} 
   pub served_alone : (source : Source) (turn : Turn) (door : D) {call call_now : Call} {moved : Moved} → stays door door → HasTaken call call_now moved
       → HasServed source seen names follows stays turn door door call call_now moved []
   served_alone source turn door same taken = record {
-    has_grown = taken.has_grown source;
+    has_grown = record {
+      received = taken.has_grown.received;
+      behind = taken.has_grown.behind;
+      is_read = taken.has_grown.is_read;
+      is_behind = taken.has_grown.is_behind;
+      carries = λ other is. taken.has_grown.carries other tt;
+      whole = taken.has_grown.whole;
+      no_end = taken.has_grown.no_end;
+      closed = taken.has_grown.closed;
+    };
+    by = subst (All (λ step. step ≡ source)) (sym taken.no_step) (All-nil (λ step. step ≡ source));
     asks = AsksDoor-none;
     same_names = refl;
     same_door = same;
     once = λ ends. omega (arith, taken.asks);
-    made = omega (arith, taken.made);
+    made = omega (arith, ap length taken.no_step, taken.made);
     lasts = λ looks. taken.lasts;
   }
 
@@ -144,13 +227,16 @@ module _ {D : Type 0} {seen : D → List Entry} {names : D → List (List ℕ)} 
       → HasServed (source_of (names door) kept) seen names follows stays turn door between call mid x asked
       → HasServed (source_of (names between) kept) seen names follows stays turn between door_now mid call_now y more
       → HasServed (source_of (names door) kept) seen names follows stays turn door door_now call call_now (followed_by x y) (asked ++ more)
-  served_then kept {door = door} {mid = mid} {call_now = call_now} {y = y} {asked = asked} {more = more} on first second = record {
-    has_grown = grown_then (source_of (names door) kept) first.has_grown (subst (λ n. HasGrown (source_of n kept) mid call_now y more) first.same_names second.has_grown);
+  served_then kept {door = door} {mid = mid} {call_now = call_now} {x = x} {y = y} {asked = asked} {more = more} on first second = record {
+    has_grown = grown_then (λ other from. (from_parts x y from).0)
+        (λ other from. subst (λ n. IsFrom (source_of n kept) other y) (sym first.same_names) (from_parts x y from).1) first.has_grown second.has_grown;
+    by = All-append (λ step. step ≡ source_of (names door) kept) x.steps y.steps first.by
+        (subst (λ n. All (λ step. step ≡ source_of n kept) y.steps) first.same_names second.by);
     asks = AsksDoor-again asked more first.asks second.asks;
     same_names = second.same_names ∙ first.same_names;
     same_door = on first.same_door second.same_door;
     once = λ ends. omega (arith, first.once ends, second.once ends, length-append asked more);
-    made = omega (arith, first.made, second.made, length-append asked more);
+    made = omega (arith, first.made, second.made, length-append asked more, length-append x.steps y.steps);
     lasts = λ looks messages is. first.lasts looks messages (second.lasts looks messages is);
   }
 
@@ -186,7 +272,7 @@ module _ {D : Type 0} {seen : D → List Entry} {names : D → List (List ℕ)} 
       → HasSpanned (source_of (names door) kept) seen names follows door door_now call call_now (followed_by x y) (asked ++ more)
   spans_then kept {door = door} {between = between} {door_now = door_now} {mid = mid} {call_now = call_now} {y = y} {asked = asked} {more = more} on first second =
       let reached = last_of (seen door) asked in record {
-        has_grown = grown_then (source_of (names door) kept) first.has_grown (subst (λ n. HasGrown (source_of n kept) mid call_now y more) first.same_names second.has_grown);
+        has_grown = grown_then (λ other is. is) (λ other is. inl (is ∙ ap (λ n. source_of n kept) (sym first.same_names))) first.has_grown second.has_grown;
         in_turn = InTurn-append follows (seen door) asked more first.in_turn (turns_on on reached (seen between) more first.goes_on second.asks.in_turn);
         goes_on = subst (λ entries. GoesOnFrom follows entries (seen door_now)) (sym (last_of-append (seen door) asked more))
             (reaches_on follows reached (seen between) (seen door_now) more first.goes_on second.asks.last);

@@ -4,6 +4,8 @@ pub mod CallingLaws
 pub mod Connection
 pub mod Link
 pub mod Moved
+pub mod Past
 pub mod Talking
 pub mod TalkingLaws
+pub mod Times
 pub mod Turn

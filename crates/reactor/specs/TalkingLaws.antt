@@ -1,14 +1,17 @@
 -- Sessions: what one step and another, and one turn and another, come to.
-use Rattle.std.proofs.Common.{◌≡◌, ◌+◌, ◌-◌, ◌⊎◌, ℕ, inl, inr, Bool, true, false, List, [], ◌++◌, length, refl, ap, sym, ◌∙◌, subst, append_assoc, append-nil, length-append, arith, ⊎_elim, true≢false, if◌then◌else◌}
-use Rattle.std.specs.Prelude.{codes}
+use Rattle.std.proofs.Common.{◌≡◌, ◌+◌, ◌-◌, ◌⊎◌, ℕ, inl, inr, Bool, true, false, List, [], ◌∷◌, ◌++◌, length, refl, ap, sym, ◌∙◌, subst, append_assoc, append-nil, length-append, arith, ⊎_elim, true≢false, if◌then◌else◌}
+use Rattle.std.specs.Prelude.{All, codes}
+use Rattle.web_call.specs.Answer.{Source}
 use Rattle.control.specs.declared.answer.Answer.{Answer}
-use Rattle.control.specs.Session.{SessionState}
+use Rattle.control.specs.Session.{SessionState, begun}
 use Rattle.control.specs.Talk.{AreLines, AreMet, answer_texts, nobody}
 use Rattle.control.specs.Talk.AreLines.{NoMore}
 use Rattle.control.specs.Talk.AreMet.{Ends, Moves, Then}
+use Rattle.control.specs.Text.{answer_text}
+use Rattle.std.proofs.lemmas.List.Elements.{All-append, All-head, All-nil, All-tail}
 use Rattle.control.proofs.TalkLemmas.{lines_more, lines_then, over_then, texts_then}
 use Rattle.reactor.specs.Moved.{Moved, followed_by, nothing_moved}
-use Rattle.reactor.specs.Talking.{HasSaid, HasTaken, HasTalked, taken_by}
+use Rattle.reactor.specs.Talking.{HasSaid, HasTaken, HasTalked, IsSessionOf, taken_by, told_texts}
 
 -- the lines of bytes that are said in another way
 pub lines_of : {bytes same : List ℕ} {lines : List (List ℕ)} {rest : List ℕ} → bytes ≡ same → AreLines bytes lines rest → AreLines same lines rest
@@ -21,6 +24,7 @@ talked_none names session = record {
   texts = append-nil session.waiting;
   over = refl;
   each = refl;
+  by = All-nil (λ (source : Source). source.names ≡ names);
   all_taken = refl;
   ends_once = λ is. (refl, refl, refl, is);
   ends = λ comes ends. absurd (true≢false (sym ends ∙ comes));
@@ -75,7 +79,8 @@ talked_then {names} {session} {mid} {session_now} {x} {y} {closing} {later} {lin
       (lines_then (lines_more (y.read ++ later) first.are_lines) second.are_lines);
   texts = texts_in_order names answers others session.waiting mid.waiting session_now.waiting x.sent y.sent first.texts second.texts;
   over = over_then session.is_over mid.is_over session_now.is_over answers others first.over second.over;
-  each = omega (arith, first.each, second.each, length-append lines more);
+  each = omega (arith, first.each, second.each, length-append lines more, length-append x.steps y.steps);
+  by = All-append (λ (source : Source). source.names ≡ names) x.steps y.steps first.by second.by;
   all_taken = omega (arith, first.all_taken, second.all_taken);
   ends_once = λ was.
       let once = first.ends_once was in
@@ -137,6 +142,77 @@ module _ {S : Type 0} {meets : S → S → List ℕ → Answer → Type 0} {name
   pub closed_stays : {others : S → S → Type 0} {state state_now : S} {session session_now : SessionState} {moved : Moved} → session.has_ended ≡ true
       → HasSaid others meets names state state_now session session_now moved → (moved.read ≡ []) × (moved.behind ≡ 0) × (session_now.has_ended ≡ true)
   closed_stays is said = let once = said.talked.ends_once is in (once.0, said.talked.all_taken, once.3)
+
+-- a session that begins, by what it is then
+pub session_begins : (session : SessionState) → session ≡ begun → IsSessionOf nothing_moved session
+session_begins session is = subst (λ s. IsSessionOf nothing_moved s) (sym is) record {
+  closing = [];
+  lines = [];
+  answers = [];
+  are_lines = NoMore [];
+  texts = refl;
+  as_many = refl;
+  over = refl;
+  each = refl;
+  all_taken = refl;
+  ends = λ ends. absurd (true≢false (sym ends));
+  comes = λ is. refl;
+  closes = inl refl;
+  whole = λ ends. absurd (true≢false (sym ends));
+}
+
+-- a step for each answer, of hosts with these names
+texts_by : (names : List (List ℕ)) (steps : List Source) (answers : List Answer) → length answers ≡ length steps → All (λ (source : Source). source.names ≡ names) steps
+    → told_texts steps answers ≡ answer_texts names answers
+texts_by names [] [] same by = refl
+texts_by names [] (answer ∷ answers) same by = absurd (omega (arith, same))
+texts_by names (source ∷ steps) [] same by = absurd (omega (arith, same))
+texts_by names (source ∷ steps) (answer ∷ answers) same by =
+    ap (λ n. answer_text n answer ++ told_texts steps answers) (All-head (λ (s : Source). s.names ≡ names) source steps by)
+    ∙ ap (λ l. answer_text names answer ++ l) (texts_by names steps answers (omega (arith, same)) (All-tail (λ (s : Source). s.names ≡ names) source steps by))
+
+told_then : (steps more : List Source) (answers later : List Answer) → length answers ≡ length steps
+    → told_texts (steps ++ more) (answers ++ later) ≡ told_texts steps answers ++ told_texts more later
+told_then [] more [] later same = refl
+told_then [] more (answer ∷ answers) later same = absurd (omega (arith, same))
+told_then (source ∷ steps) more [] later same = absurd (omega (arith, same))
+told_then (source ∷ steps) more (answer ∷ answers) later same =
+    ap (λ l. answer_text source.names answer ++ l) (told_then steps more answers later (omega (arith, same)))
+    ∙ sym (append_assoc (answer_text source.names answer) (told_texts steps answers) (told_texts more later))
+
+-- as many lines are met as answers are given
+pub as_many_met : {S : Type 0} {others : S → S → Type 0} {meets : S → S → List ℕ → Answer → Type 0} {old new : S} {lines : List (List ℕ)} {answers : List Answer}
+    → AreMet others meets old new lines answers → length answers ≡ length lines
+as_many_met (Ends state) = refl
+as_many_met (Then old between new line answer lines answers met rest) = omega (arith, as_many_met rest)
+as_many_met (Moves old between new lines answers moves rest) = as_many_met rest
+
+-- a session of a past goes on
+pub session_goes_on : {names : List (List ℕ)} {mid session : SessionState} {past y : Moved} {later : List ℕ} {more : List (List ℕ)} {others : List Answer} → IsSessionOf past mid
+    → HasTalked names mid session y later more others → length others ≡ length more → IsSessionOf (followed_by past y) session
+session_goes_on {names} {mid} {session} {past} {y} {later} {more} {others} first second many = record {
+  closing = first.closing ++ later;
+  lines = first.lines ++ more;
+  answers = first.answers ++ others;
+  are_lines = lines_of
+      (in_order past.read first.closing y.read later
+      (⊎_elim (λ (none : first.closing ≡ []). inl none)
+      (λ (put : (first.closing ≡ codes "\n") × (mid.has_ended ≡ true)). inr (second.ends_once put.1).0) first.closes))
+      (lines_then (lines_more (y.read ++ later) first.are_lines) second.are_lines);
+  texts = told_then past.steps y.steps first.answers others (omega (arith, first.as_many, first.each))
+      ∙ (ap (λ l. l ++ told_texts y.steps others) first.texts
+      ∙ (append_assoc past.sent mid.waiting (told_texts y.steps others)
+      ∙ (ap (λ l. past.sent ++ (mid.waiting ++ l)) (texts_by names y.steps others (omega (arith, many, second.each)) second.by)
+      ∙ (ap (λ l. past.sent ++ l) second.texts ∙ sym (append_assoc past.sent y.sent session.waiting)))));
+  as_many = omega (arith, first.as_many, many, length-append first.answers others, length-append first.lines more);
+  over = over_then false mid.is_over session.is_over first.answers others first.over second.over;
+  each = omega (arith, first.each, second.each, length-append first.lines more, length-append past.steps y.steps);
+  all_taken = omega (arith, first.all_taken, second.all_taken);
+  ends = λ is. one_end past.ends y.ends mid.has_ended session.has_ended is first.ends (λ was. (second.ends_once was).2) first.comes second.ends;
+  comes = λ is. no_end past.ends y.ends mid.has_ended session.has_ended is (λ was. (second.ends_once was).3) first.comes (second.comes is);
+  closes = one_closing first.closing later mid.has_ended session.has_ended first.closes (λ is. ((second.ends_once is).1, (second.ends_once is).3)) second.closes;
+  whole = second.whole first.whole;
+}
 
 -- a session whose input is at its end takes nothing
 pub taken_none : (session : SessionState) → session.has_ended ≡ true → taken_by session ≡ 0

@@ -3,6 +3,7 @@ use Rattle.std.specs.Prelude.{Bool, ℕ, ◌≡◌, ◌≢◌, ◌≤◌, ◌<�
 use Rattle.std.specs.Io.KnownBytes.{Appends, Consumes, IsAtEnd}
 use Rattle.web_call.specs.declared.exchanging.Why.{Why}
 use Rattle.web_call.specs.declared.exchanging.Why.TheVariants as whys
+use Rattle.web_call.specs.Answer.{Source}
 use Rattle.reactor.specs.declared.host.Step.{Step}
 use Rattle.reactor.specs.declared.host.Step.TheVariants as steps
 use Rattle.reactor.specs.declared.link.Last.{Last}
@@ -13,15 +14,15 @@ use Rattle.reactor.specs.declared.turning.Fate.TheVariants.{Rests, GoesOn, Done,
 use Rattle.reactor.specs.declared.turning.Piece.{Piece}
 use Rattle.reactor.specs.declared.turning.Piece.TheVariants as pieces
 use Rattle.reactor.specs.Link.{link_reads, link_stream}
-use Rattle.reactor.specs.Moved.{Moved, done_by, nothing_moved, only_read, only_stepped}
+use Rattle.reactor.specs.Moved.{Moved, done_by, followed_by, nothing_moved, only_read, only_stepped}
 
--- what a step of the host moves
-abbrev pub stepped : Step → Moved
-stepped steps.Went = only_stepped 1
-stepped steps.Wants = nothing_moved
-stepped steps.Rests = nothing_moved
-stepped steps.Done = nothing_moved
-stepped steps.Starved = nothing_moved
+-- what a step of a host that answers from this moves: it has taken one where the machine went on, or was told all that there is
+abbrev pub stepped : Source → Step → Moved
+stepped source steps.Went = only_stepped source
+stepped source steps.Wants = nothing_moved
+stepped source steps.Rests = only_stepped source
+stepped source steps.Done = nothing_moved
+stepped source steps.Starved = nothing_moved
 
 -- how a step leaves the machine: nothing is left to answer and to send, and it takes bytes; it has been told all, and waits for a change; it is done; or an allocation failed
 abbrev pub LeavesAt : {M : Type 0} (takes : M → ℕ) (waiting : M → List ℕ) (idle rests is_done is_starved : M → Type 0) → Step → M → Type 0
@@ -64,21 +65,23 @@ module _ {M : Type 0} (takes : M → ℕ) (waiting : M → List ℕ) (idle rests
   Leaves Done = is_done machine × (waiting machine ≡ [])
   Leaves (GivenUp why) = GivesUp why
 
--- bytes were read and given to the machine, but for so many behind what it takes
+-- bytes were read and given to the machine, but for so many behind what it takes, and its past has grown by them
 pub record HasRead {M : Type 0} (input input_now : Option (List ℕ)) (moves : M → M → Moved → Type 0) (is_closed : M → Bool) (machine machine_now : M)
-    (bytes : List ℕ) (behind : ℕ) : Type 0 where
+    (past past_now : Moved) (bytes : List ℕ) (behind : ℕ) : Type 0 where
   pub some : 0 < length bytes
   pub has_read : Consumes input input_now bytes
   pub moved : moves machine machine_now (only_read bytes behind)
+  pub grows : past_now ≡ followed_by past (only_read bytes behind)
   pub closed : 0 < behind → is_closed machine_now ≡ true
 
--- what went over the link is what the machine moved over its host; where the machine was told that its input is at its end, it has read all
--- of it
+-- what went over the link is what the machine moved over its host, and its past has grown by it; where the machine was told that its input
+-- is at its end, it has read all of it
 pub record HasMoved {S H M : Type 0} (remaining contents : S → Option (List ℕ)) (moves : H → H → M → M → Moved → Type 0) (link link_now : Link S)
-    (host host_now : H) (machine machine_now : M) (moved : Moved) : Type 0 where
+    (host host_now : H) (machine machine_now : M) (past past_now moved : Moved) : Type 0 where
   pub has_read : Consumes (remaining (link_stream link)) (remaining (link_stream link_now)) moved.read
   pub wrote : Appends (contents (link_stream link)) (contents (link_stream link_now)) moved.sent
   pub goes : moves host host_now machine machine_now moved
+  pub grows : past_now ≡ followed_by past moved
   pub at_end : 0 < moved.ends → IfSome (remaining (link_stream link)) (λ bytes. bytes ≡ moved.read)
 
 -- a read that found the end of the input found it

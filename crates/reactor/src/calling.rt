@@ -20,10 +20,12 @@ pub const MOST_TAKEN: usize = 16_640;
 const REQUEST_MILLIS: u64 = 10_000;
 
 impl Machine for Call {
-    ghost use Rattle.reactor.specs.Calling.{HasTaken, taken_by};
+    ghost use Rattle.reactor.specs.Calling.{HasTaken, IsCallOf, taken_by};
     ghost use Rattle.std.specs.Prelude.{Some, not};
     ghost use Rattle.web_call.specs.Stages.{is_open, is_watching, to_send};
-    ghost use Rattle.reactor.specs.CallingLaws.{watching_takes_none};
+    ghost use Rattle.reactor.specs.CallingLaws.{call_begins, watching_takes_none};
+    ghost use Rattle.web_call.specs.Answer.{Source};
+    ghost use Rattle.web_call.specs.Past.{Stands, begun};
 
     ghost takes = { taken_by };
 
@@ -38,6 +40,10 @@ impl Machine for Call {
     ghost PATIENCE = { Some 10000 };
 
     ghost moves = { HasTaken };
+
+    ghost begins = { λ call. (source : Source) → Stands source begun call };
+
+    ghost stands = { IsCallOf };
 
     fn room(&self) -> usize {
         if self.wanted() > 0 { MOST_TAKEN } else { 0 }
@@ -76,6 +82,8 @@ impl Machine for Call {
         Call::sent(self, count);
     }
 
+    ghost begins_so = { λ call is. call_begins is };
+
     ghost watching_takes_none = { watching_takes_none };
 }
 
@@ -83,8 +91,10 @@ impl<D: Door> Host<Call> for D {
     ghost use Rattle.std.specs.Prelude.{◌≡◌, List, [], ◌++◌, true};
     ghost use Rattle.desk_core.specs.declared.entry.Entry.{Entry};
     ghost use Rattle.web_call.specs.Answer.{source_of};
-    ghost use Rattle.reactor.specs.CallingLaws.{closed_stays, served_alone, served_nowhere, served_stays, served_then, spans_nothing, spans_then, spans_waiting, stays_same, stays_then, taken_none};
+    ghost use Rattle.reactor.specs.CallingLaws.{call_goes_on, closed_stays, served_alone, served_nowhere, served_stays, served_then, spans_nothing, spans_then, spans_waiting, stays_same, stays_then, taken_none};
     ghost use Rattle.reactor.specs.Calling.{DoorStays, HasBeenTold, HasServed, HasSpanned, HasStarved, IsAnswered, IsTransitive};
+
+    ghost source = { λ a. source_of (D.names a) D.kept };
 
     ghost goes = { λ t a b m n x. (asked : List (List Entry)) × HasServed (source_of (D.names a) D.kept) D.seen D.names D.follows D.stays t a b m n x asked };
 
@@ -136,6 +146,8 @@ impl<D: Door> Host<Call> for D {
 
     ghost goes_stays = { λ t a b m n x p. served_stays p.1 };
 
+    ghost goes_stands = { λ t a b m n past x stood p. call_goes_on stood p.1 };
+
     ghost stays_closed = { λ t a b m n x is p. closed_stays is p.1 };
 
     ghost takes_none = { taken_none };
@@ -156,7 +168,7 @@ fn look<D: Door>(door: &mut D, call: &mut Call) -> Step
     requires { (is_watching call.old ≡ true) × (to_send call.old ≡ []) }
     ensures served { (asked : List (List Entry)) × HasServed (source_of (D.names door.old) D.kept)
         D.seen D.names D.follows D.stays Turn.Look door.old door.new call.old call.new
-        (stepped result) asked }
+        (stepped (source_of (D.names door.new) D.kept) result) asked }
     ensures leaves { LeavesAt taken_by to_send (λ call. is_open call ≡ true) (HasBeenTold Turn.Look (D.seen door.new)) IsAnswered
         HasStarved result call.new }
 {

@@ -1,10 +1,9 @@
-ghost use Rattle.std.specs.Prelude.{◌≡◌, ◌≢◌, true, false};
-ghost use Rattle.std.specs.Time.{instant_nanos};
-ghost use Rattle.reactor.specs.Connection.{IsAfter};
+ghost use Rattle.reactor.specs.Times.{IsAfter};
 
 use crate::host::Host;
 use crate::link::{Last, Link};
 use crate::machine::Machine;
+use crate::past::Past;
 use crate::socket::Socket;
 use crate::turning::{Fate, turn};
 use mio::event::Event;
@@ -90,11 +89,13 @@ enum Reported {
 ///
 /// A peer that has to hurry has the time that its machine names, and one that takes nothing while bytes wait for it has thirty seconds;
 /// the connection tells only that it is late. Where all is sent and its peer may still be sending, what that sends is thrown away for a
-/// tenth of a second: a socket that is closed with unread bytes is reset, and the peer could lose the end of what was sent.
+/// tenth of a second: a socket that is closed with unread bytes is reset, and the peer could lose the end of what was sent. At every
+/// moment its machine is what a conversation comes to that has moved all that this one has.
 #[derive(Drop)]
-pub struct Connection<S, M> {
+pub struct Connection<S, M: Machine> {
     link: Link<S>,
     machine: M,
+    past: Past,
     /// Whether all is sent, and what comes is thrown away.
     is_draining: bool,
     /// Whether bytes came behind what the machine takes.
@@ -106,6 +107,9 @@ pub struct Connection<S, M> {
     reported: Reported,
     drained: usize,
     until: Option<Instant>,
+    /// When bytes of its machine last went over it, either way.
+    quiet_since: Instant,
+    ghost stands: { ∥ M.stands past.moved machine ∥₁ },
 }
 
 /// A time so many milliseconds from now; none where the clock does not go so far.
@@ -130,16 +134,20 @@ impl Ready {
 impl<S, M: Machine> Connection<S, M> {
     ghost use Rattle.std.specs.Prelude.{◌≡◌, false, true};
     ghost use Rattle.reactor.specs.Connection.{may_look_at, state_of, stream_of, watches_at};
+    ghost use Rattle.reactor.specs.Moved.{nothing_moved};
 
-    /// A connection that was accepted now.
+    /// A connection that was accepted now, of a machine that begins.
     pub fn new(stream: S, machine: M, now: Instant) -> Connection<S, M>
+        requires begins { M.begins machine }
         ensures stream { stream_of result ≡ stream }
         ensures machine { (state_of result).machine ≡ machine }
+        ensures past { (state_of result).past ≡ nothing_moved }
         ensures talks { (state_of result).is_draining ≡ false }
     {
         Connection {
             link: Link::new(stream),
             machine,
+            past: Past::new(),
             is_draining: false,
             is_followed: false,
             has_input: false,
@@ -147,12 +155,14 @@ impl<S, M: Machine> Connection<S, M> {
             reported: Reported::Nothing,
             drained: 0,
             until: M::PATIENCE.and_then(|millis| after(now, millis)),
+            quiet_since: now,
         }
     }
 
-    /// Its machine.
+    /// Its machine, which is what a conversation comes to that has moved all that this one has.
     pub fn machine(&self) -> &M
-        ensures { result.now ≡ (state_of self.now).machine }
+        ensures machine { result.now ≡ (state_of self.now).machine }
+        ensures stands { ∥ M.stands (state_of self.now).past result.now ∥₁ }
     {
         &self.machine
     }
@@ -200,6 +210,25 @@ impl<S, M: Machine> Connection<S, M> {
         !self.link.has_read()
     }
 
+    /// Since when its machine has neither read nor sent a byte.
+    pub fn quiet_since(&self) -> Instant {
+        self.quiet_since
+    }
+
+    /// Leaves what was reported of its socket to a turn that it has for another reason: it may go on then.
+    pub fn put_off(&mut self, ready: Ready)
+        ensures machine { (state_of self.new).machine ≡ (state_of self.old).machine }
+        ensures past { (state_of self.new).past ≡ (state_of self.old).past }
+        ensures draining { (state_of self.new).is_draining ≡ (state_of self.old).is_draining }
+        ensures stream { stream_of self.new ≡ stream_of self.old }
+        ensures until { (state_of self.new).until ≡ (state_of self.old).until }
+        ensures looks { may_look_at M.watches M.waiting (state_of self.old) ≡ false
+            → may_look_at M.watches M.waiting (state_of self.new) ≡ false }
+    {
+        self.has_input = self.has_input || ready.readable;
+        self.gave_way = self.gave_way || self.waits_for(ready);
+    }
+
     /// Whether its time is up.
     pub fn is_late(&self, now: Instant) -> bool {
         self.until.is_some_and(|until| until <= now)
@@ -235,7 +264,8 @@ impl<S, M: Machine> Connection<S, M> {
 impl<S: Socket, M: Machine> Connection<S, M> {
     ghost use Rattle.std.specs.Prelude.{◌≡◌, ◌≢◌, ◌<◌, ◌⊎◌, [], false, true, ℕ, List, None, Some, IsTrue, is_some, length};
     ghost use Rattle.std.specs.Option.{OnSome};
-    ghost use Rattle.reactor.specs.Connection.{HasServed, HasThrown, HasTime, IsAfter, is_over, may_look_at, state_of, stream_of};
+    ghost use Rattle.reactor.specs.Connection.{HasServed, HasThrown, is_over, may_look_at, state_of, stream_of};
+    ghost use Rattle.reactor.specs.Times.{HasTime};
     ghost use Rattle.reactor.specs.Moved.{Moved};
     ghost use Rattle.reactor.specs.declared.connection.End.TheVariants.{Done};
     ghost use Rattle.reactor.specs.declared.connection.Left.TheVariants.{Over};
@@ -363,6 +393,7 @@ impl<S: Socket, M: Machine> Connection<S, M> {
     /// Gives it time behind a turn of its machine.
     fn renew(&mut self, now: Instant)
         ensures machine { (state_of self.new).machine ≡ (state_of self.old).machine }
+        ensures past { (state_of self.new).past ≡ (state_of self.old).past }
         ensures draining { (state_of self.new).is_draining ≡ (state_of self.old).is_draining }
         ensures gave_way { (state_of self.new).gave_way ≡ (state_of self.old).gave_way }
         ensures stream { stream_of self.new ≡ stream_of self.old }
@@ -397,6 +428,7 @@ impl<S: Socket, M: Machine> Connection<S, M> {
         requires room { 0 < length buffer.old }
         requires way { (state_of self.old).gave_way ≡ false }
         ensures machine { (state_of self.new).machine ≡ (state_of self.old).machine }
+        ensures past { (state_of self.new).past ≡ (state_of self.old).past }
         ensures draining { is_over result ≡ false → (state_of self.new).is_draining ≡ true }
         ensures end { (end : End) → result ≡ Over end → end ≡ Done }
         ensures thrown { (thrown : List ℕ)
@@ -411,6 +443,7 @@ impl<S: Socket, M: Machine> Connection<S, M> {
     /// Ends what is sent, so that what comes is thrown away. It tells whether that can be.
     pub fn close(&mut self, now: Instant) -> bool
         ensures machine { (state_of self.new).machine ≡ (state_of self.old).machine }
+        ensures past { (state_of self.new).past ≡ (state_of self.old).past }
         ensures gave_way { (state_of self.new).gave_way ≡ (state_of self.old).gave_way }
         ensures remaining { S.remaining (stream_of self.new) ≡ S.remaining (stream_of self.old) }
         ensures contents { S.contents (stream_of self.new) ≡ S.contents (stream_of self.old) }
@@ -465,13 +498,16 @@ impl<S: Socket, M: Machine> Connection<S, M> {
         self.go_on(alloc, host, buffer, occasion)
     }
 
-    /// Has each change sent at once to a peer that is told changes from now on: else one that comes soon behind another would wait for
-    /// the peer's acknowledgement of that.
-    fn hasten(&mut self, was_watching: bool)
+    /// Notes when bytes went over it, and has each change sent at once to a peer that is told changes from now on: else one that comes
+    /// soon behind another would wait for the peer's acknowledgement of that.
+    fn note_turn(&mut self, was_watching: bool, now: Instant)
         ensures state { state_of self.new ≡ state_of self.old }
         ensures remaining { S.remaining (stream_of self.new) ≡ S.remaining (stream_of self.old) }
         ensures contents { S.contents (stream_of self.new) ≡ S.contents (stream_of self.old) }
     {
+        if self.link.has_moved() {
+            self.quiet_since = now;
+        }
         if self.machine.is_watching() && !was_watching {
             self.link.send_at_once();
         }
@@ -504,12 +540,13 @@ impl<S: Socket, M: Machine> Connection<S, M> {
             &mut self.link,
             host,
             &mut self.machine,
+            &mut self.past,
             buffer,
             occasion.then,
         );
         self.is_followed = self.is_followed || turned.is_followed;
         self.gave_way = turned.fate == Fate::GoesOn;
-        self.hasten(was_watching);
+        self.note_turn(was_watching, occasion.now);
         match turned.fate {
             Fate::Rests => {
                 self.renew(occasion.now);

@@ -17,7 +17,7 @@ pub enum Step {
     Starved,
 }
 
-/// What machines are held over: it answers them, and tells them of changes.
+/// What machines are held over: it answers them, and tells them of changes. What it answers from is its `source`.
 ///
 /// `goes` says what has become of the host and a machine between two moments of a turn, and what was moved; `spans` says the same of
 /// many turns, between which others have moved the host on. `stays` is what every step leaves of the host. A machine is `idle` that
@@ -27,7 +27,10 @@ pub trait Host<M: Machine> {
     ghost use Rattle.std.specs.Prelude.{◌≡◌, ℕ, true, false, []};
     ghost use Rattle.reactor.specs.Moved.{Moved, followed_by, nothing_moved};
     ghost use Rattle.reactor.specs.Turn.{LeavesAt, stepped};
+    ghost use Rattle.web_call.specs.Answer.{Source};
     ghost use Rattle.web_call.specs.declared.bell.Turn.{Turn as Bell};
+
+    ghost source: { Self → Source };
 
     ghost goes: { Bell → Self → Self → M → M → Moved → Type 0 };
 
@@ -46,7 +49,8 @@ pub trait Host<M: Machine> {
     /// Takes a step with a machine that has sent all that it had to send: it answers it, tells it of a change, or ends it.
     fn step(&mut self, alloc: Global, machine: &mut M, then: Turn) -> Step
         requires { M.waiting machine.old ≡ [] }
-        ensures goes { goes then self.old self.new machine.old machine.new (stepped result) }
+        ensures goes { goes then self.old self.new machine.old machine.new
+            (stepped (source self.new) result) }
         ensures leaves { LeavesAt M.takes M.waiting (idle then) (rests then self.new) (is_done then)
             is_starved
             result machine.new };
@@ -60,6 +64,8 @@ pub trait Host<M: Machine> {
     ghost rests_to_look: { (then : Bell) (a : Self) (m : M) → rests then a m → then ≡ Bell.Look };
 
     ghost goes_stays: { (then : Bell) (a b : Self) (m n : M) (x : Moved) → goes then a b m n x → stays a b };
+
+    ghost goes_stands: { (then : Bell) (a b : Self) (m n : M) (past x : Moved) → M.stands past m → goes then a b m n x → M.stands (followed_by past x) n };
 
     ghost stays_closed: { (then : Bell) (a b : Self) (m n : M) (x : Moved) → M.is_closed m ≡ true → goes then a b m n x → (x.read ≡ []) × (x.behind ≡ 0) × (M.is_closed n ≡ true) };
 

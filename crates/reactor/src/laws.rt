@@ -1,6 +1,10 @@
+ghost use Rattle.std.specs.Prelude.{◌≡◌, ◌⊎◌, ◌++◌, [], true};
+ghost use Rattle.control.specs.Session.{SessionState};
+ghost use Rattle.control.specs.Talk.{AreLines};
 ghost use Rattle.desk_core.specs.Watch.{IsOlder};
 ghost use Rattle.reactor.specs.Calling.{IsTransitive};
 ghost use Rattle.reactor.specs.Moved.{Moved, followed_by, nothing_moved};
+ghost use Rattle.reactor.specs.Talking.{IsDone, IsSessionOf, told_texts};
 ghost use Rattle.web_call.specs.declared.bell.Turn.{Turn};
 
 use crate::host::Host;
@@ -25,4 +29,13 @@ pub fn turns_chain<M: Machine, H: Host<M>>()
 /// A history that goes on from one that goes on from another goes on from that one too, as many turns of a call ask it of its door.
 pub fn histories_chain()
     ensures { IsTransitive IsOlder }
+{}
+
+/// A session that is done has sent all answers, by all that it has moved, and no byte is left that was not part of a line, but behind a
+/// line that ends the session.
+pub fn sessions_end()
+    ensures { (past : Moved) (session : SessionState) → (stood : IsSessionOf past session)
+        → IsDone session → session.waiting ≡ []
+        → (past.sent ≡ told_texts past.steps stood.answers)
+        × ((session.is_over ≡ true) ⊎ AreLines (past.read ++ stood.closing) stood.lines []) }
 {}

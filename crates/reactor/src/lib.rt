@@ -7,7 +7,7 @@
 //!
 //! ghost use Rattle.std.specs.Prelude.{◌≡◌};
 //!
-//! use reactor::{Fate, Link, Stream, turn};
+//! use reactor::{Fate, Link, Past, Stream, turn};
 //! use std::alloc::Global;
 //! use web_call::{Call, Door, Turn};
 //!
@@ -17,12 +17,13 @@
 //!     link: &mut Link<S>,
 //!     door: &mut D,
 //!     call: &mut Call,
+//!     past: &mut Past,
 //! ) -> bool
 //!     ensures names { D.names door.new ≡ D.names door.old }
 //! {
 //!     let mut buffer = [0u8; 512];
 //!     link.renew();
-//!     let turned = turn(alloc, link, door, call, &mut buffer, Turn::Look);
+//!     let turned = turn(alloc, link, door, call, past, &mut buffer, Turn::Look);
 //!     matches!(turned.fate, Fate::Done | Fate::GivenUp(_))
 //! }
 //! ```
@@ -34,6 +35,7 @@ mod host;
 mod laws;
 mod link;
 mod machine;
+mod past;
 mod socket;
 mod stream;
 mod talking;
@@ -42,9 +44,10 @@ mod turning;
 pub use calling::MOST_TAKEN;
 pub use connection::{Connection, End, Left, Occasion, Ready};
 pub use host::{Host, Step};
-pub use laws::{histories_chain, turns_chain};
+pub use laws::{histories_chain, sessions_end, turns_chain};
 pub use link::{Last, Link};
 pub use machine::Machine;
+pub use past::Past;
 pub use socket::Socket;
 pub use stream::Stream;
 pub use talking::Attendant;

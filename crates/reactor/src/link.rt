@@ -31,6 +31,8 @@ pub struct Link<S> {
     writes: Last,
     /// Whether a read has given bytes.
     has_read: bool,
+    /// Whether bytes went over it since it was renewed.
+    has_moved: bool,
 }
 
 fn last_of(kind: ErrorKind) -> Last
@@ -70,6 +72,7 @@ impl<S> Link<S> {
             reads: Last::Went,
             writes: Last::Went,
             has_read: false,
+            has_moved: false,
         }
     }
 
@@ -81,6 +84,7 @@ impl<S> Link<S> {
     {
         self.reads = Last::Went;
         self.writes = Last::Went;
+        self.has_moved = false;
     }
 
     /// How its last read ended.
@@ -102,6 +106,11 @@ impl<S> Link<S> {
         ensures { result ≡ link_has_read self.now }
     {
         self.has_read
+    }
+
+    /// Whether bytes went over it, either way, since it was renewed or made.
+    pub fn has_moved(&self) -> bool {
+        self.has_moved
     }
 
     /// The stream behind it.
@@ -140,6 +149,7 @@ impl<S: Stream> Link<S> {
         let (last, count) = note(self.stream.read(buffer));
         self.reads = last;
         self.has_read |= count.is_some();
+        self.has_moved |= count.is_some();
         count
     }
 
@@ -158,6 +168,7 @@ impl<S: Stream> Link<S> {
     {
         let (last, count) = note(self.stream.write(bytes));
         self.writes = last;
+        self.has_moved |= count.is_some();
         count
     }
 }

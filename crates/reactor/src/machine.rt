@@ -5,10 +5,11 @@ use std::alloc::Global;
 /// Whoever holds a machine gives it bytes while it takes some, sends what it has to send, and lets its host take a step with it where
 /// nothing waits to be sent. `takes` is how many bytes it takes now at most, `waiting` what it has to send, and `is_closed` says that it
 /// never takes bytes again. `watches` says that it is told changes as they come, and takes no bytes meanwhile. `moves` says what it makes
-/// by itself of the bytes that it is given and of those that are sent.
+/// by itself of the bytes that it is given and of those that are sent. `begins` says that it is new, and `stands` what it is once it has
+/// moved this since then.
 pub trait Machine: Drop {
     ghost use Rattle.std.specs.Prelude.{◌≡◌, ◌≤◌, ◌<◌, ◌+◌, ◌-◌, ℕ, List, Option, Bool, true, take, length, IsTrue, IsFalse};
-    ghost use Rattle.reactor.specs.Moved.{Moved, only_ended, only_read, only_sent};
+    ghost use Rattle.reactor.specs.Moved.{Moved, nothing_moved, only_ended, only_read, only_sent};
 
     ghost takes: { Self → ℕ };
 
@@ -24,6 +25,10 @@ pub trait Machine: Drop {
     ghost PATIENCE: { Option ℕ };
 
     ghost moves: { Self → Self → Moved → Type 0 };
+
+    ghost begins: { Self → Type 0 };
+
+    ghost stands: { Moved → Self → Type 0 };
 
     /// How many bytes it takes now at most. More may have to be read to know where what is its own ends.
     fn room(&self) -> usize
@@ -60,6 +65,8 @@ pub trait Machine: Drop {
     fn sent(&mut self, count: usize)
         requires { count ≤ length (waiting self.old) }
         ensures moves { moves self.old self.new (only_sent (take count (waiting self.old))) };
+
+    ghost begins_so: { (m : Self) → begins m → stands nothing_moved m };
 
     ghost watching_takes_none: { (m : Self) → watches m ≡ true → takes m ≡ 0 };
 }

@@ -10,10 +10,11 @@ use std::marker::PhantomData;
 use web_call::Turn;
 
 impl Machine for Session {
-    ghost use Rattle.std.specs.Prelude.{None, false};
+    ghost use Rattle.reactor.specs.TalkingLaws.{session_begins};
+    ghost use Rattle.std.specs.Prelude.{◌≡◌, None, false};
     ghost use Rattle.std.proofs.Common.{true≢false, sym};
-    ghost use Rattle.control.specs.Session.{SessionState};
-    ghost use Rattle.reactor.specs.Talking.{HasTaken, taken_by};
+    ghost use Rattle.control.specs.Session.{SessionState, begun};
+    ghost use Rattle.reactor.specs.Talking.{HasTaken, IsSessionOf, taken_by};
 
     ghost takes = { taken_by };
 
@@ -28,6 +29,10 @@ impl Machine for Session {
     ghost PATIENCE = { None };
 
     ghost moves = { HasTaken };
+
+    ghost begins = { λ session. session ≡ begun };
+
+    ghost stands = { IsSessionOf };
 
     fn room(&self) -> usize {
         if self.has_ended() {
@@ -67,6 +72,8 @@ impl Machine for Session {
         Session::sent(self, count);
     }
 
+    ghost begins_so = { session_begins };
+
     ghost watching_takes_none = { λ session is. absurd (true≢false (sym is)) };
 }
 
@@ -86,9 +93,12 @@ impl<P: Probe, C: Console<P>, V: Server, M: Maker<P>> Host<Session> for Attendan
     ghost use Rattle.control.specs.Talk.{nobody};
     ghost use Rattle.reactor.specs.Attendant.{keeps_names, stands};
     ghost use Rattle.reactor.specs.Talking.{HasSaid, IsIdle, IsOver};
-    ghost use Rattle.reactor.specs.TalkingLaws.{closed_stays, said_alone, said_beside, said_nothing, said_still, said_then, taken_none};
+    ghost use Rattle.reactor.specs.TalkingLaws.{as_many_met, closed_stays, said_alone, said_beside, said_nothing, said_still, said_then, session_goes_on, taken_none};
+    ghost use Rattle.web_call.specs.Answer.{source_of};
 
-    ghost goes = { λ t a b m n x. HasSaid nobody (IsLineMetBeside C.seen C.kept C.looks C.answers V.counted V.woken V.stopped (C.names a.console.now)) (C.names a.console.now) (stands a) (stands b) m n x × (C.names b.console.now ≡ C.names a.console.now) × (b.console.ghost_name ≡ a.console.ghost_name) };
+    ghost source = { λ a. source_of (C.names a.console.now) C.kept };
+
+    ghost goes = { λ t a b m n x. HasSaid nobody (IsLineMetBeside C.seen C.kept C.looks C.answers V.terms V.counted V.woken V.stopped (C.names a.console.now)) (C.names a.console.now) (stands a) (stands b) m n x × (C.names b.console.now ≡ C.names a.console.now) × (b.console.ghost_name ≡ a.console.ghost_name) };
 
     ghost idle = { λ t session. IsIdle session };
 
@@ -100,7 +110,7 @@ impl<P: Probe, C: Console<P>, V: Server, M: Maker<P>> Host<Session> for Attendan
 
     ghost stays = { λ a b. C.names b.console.now ≡ C.names a.console.now };
 
-    ghost spans = { λ a b m n x. HasSaid (keeps_names C.names) (IsLineMetBeside C.seen C.kept C.looks C.answers V.counted V.woken V.stopped (C.names a.console.now)) (C.names a.console.now) (stands a) (stands b) m n x × (C.names b.console.now ≡ C.names a.console.now) };
+    ghost spans = { λ a b m n x. HasSaid (keeps_names C.names) (IsLineMetBeside C.seen C.kept C.looks C.answers V.terms V.counted V.woken V.stopped (C.names a.console.now)) (C.names a.console.now) (stands a) (stands b) m n x × (C.names b.console.now ≡ C.names a.console.now) };
 
     fn step(&mut self, alloc: Global, session: &mut Session, then: Turn) -> Step {
         if then == Turn::End {
@@ -120,11 +130,13 @@ impl<P: Probe, C: Console<P>, V: Server, M: Maker<P>> Host<Session> for Attendan
 
     ghost goes_alone = { λ t a m n x taken. (said_alone (stands a) taken, refl, refl) };
 
-    ghost goes_on = { λ t a b c m n o x y p q. (said_then p.0 (subst (λ names. HasSaid nobody (IsLineMetBeside C.seen C.kept C.looks C.answers V.counted V.woken V.stopped names) names (stands b) (stands c) n o y) p.1 q.0), q.1 ∙ p.1, q.2 ∙ p.2) };
+    ghost goes_on = { λ t a b c m n o x y p q. (said_then p.0 (subst (λ names. HasSaid nobody (IsLineMetBeside C.seen C.kept C.looks C.answers V.terms V.counted V.woken V.stopped names) names (stands b) (stands c) n o y) p.1 q.0), q.1 ∙ p.1, q.2 ∙ p.2) };
 
     ghost rests_to_look = { λ t a m none. absurd none };
 
     ghost goes_stays = { λ t a b m n x p. p.1 };
+
+    ghost goes_stands = { λ t a b m n past x stood p. session_goes_on stood p.0.talked (as_many_met p.0.are_met) };
 
     ghost stays_closed = { λ t a b m n x is p. closed_stays is p.0 };
 
@@ -138,5 +150,5 @@ impl<P: Probe, C: Console<P>, V: Server, M: Maker<P>> Host<Session> for Attendan
 
     ghost spans_waiting = { λ a b c m n x p moves. (said_still p.0 moves, moves ∙ p.1) };
 
-    ghost spans_on = { λ t a b c m n o x y p q. (said_then p.0 (subst (λ names. HasSaid (keeps_names C.names) (IsLineMetBeside C.seen C.kept C.looks C.answers V.counted V.woken V.stopped names) names (stands b) (stands c) n o y) p.1 (said_beside q.0)), q.1 ∙ p.1) };
+    ghost spans_on = { λ t a b c m n o x y p q. (said_then p.0 (subst (λ names. HasSaid (keeps_names C.names) (IsLineMetBeside C.seen C.kept C.looks C.answers V.terms V.counted V.woken V.stopped names) names (stands b) (stands c) n o y) p.1 (said_beside q.0)), q.1 ∙ p.1) };
 }

@@ -10,6 +10,10 @@ mod links;
 #[cfg(test)]
 mod memory;
 #[cfg(test)]
+mod put_off;
+#[cfg(test)]
+mod reports;
+#[cfg(test)]
 mod sessions;
 #[cfg(test)]
 mod streams;

@@ -30,11 +30,15 @@ fn a_link_tells_how_calls_ended_until_it_is_renewed(rt: HostRuntime) -> Result<(
         same(&(link.reads(), link.writes()), &(last, Last::Went), &fault)?;
         same(&link.write(b"sent"), &None, &fault)?;
         same(&(link.reads(), link.writes()), &(last, last), &fault)?;
+        same(&link.has_moved(), &false, &fault)?;
         link.renew();
         same(&(link.reads(), link.writes()), &went, &"renewed")?;
         let counts = (link.read(&mut buffer), link.write(b"sent"));
         same(&counts, &(Some(4), Some(3)), &fault)?;
         same(&(link.reads(), link.writes()), &went, &fault)?;
+        same(&link.has_moved(), &true, &fault)?;
+        link.renew();
+        same(&link.has_moved(), &false, &"renewed")?;
         let pair = link.into_stream();
         let moved = (pair.reader.rest().len(), pair.writer.written());
         same(&moved, &(0, b"sen".as_slice()), &fault)?;

@@ -3,8 +3,9 @@ use crate::streams::{Manner, Pair, ended, wire};
 use crate::turns::turn_once;
 use control::Session;
 use control::one_thread::OneThread;
-use reactor::{Fate, Link};
+use reactor::{Fate, Link, Past};
 use std::alloc::{AllocError, Global};
+use std::mem::size_of;
 use std::test::Fail;
 use test_support::requests::CHECK_OF_EMPTY;
 use test_support::{Scarcity, same};
@@ -62,7 +63,7 @@ const LINES: [(&[u8], &[u8]); 5] = [
     (b"list\ncheck -\n", b"a=absent -=absent\nnot found\n"),
     (
         b"stats\ncheck -\n",
-        b"entries 0 kept 0 connections 3 watches 4 sessions 5 calls 6 given_up 7 behind 8\nnot found\n",
+        b"entries 0 kept 0 connections 3 watches 4 sessions 5 calls 6 given_up 7 behind 8 gone 9 expired 10 left 4\nnot found\n",
     ),
     (b"check a\ncheck -\n", b"not found\nnot found\n"),
     (b"register a manual\ncheck -\n", b"done\nnot found\n"),
@@ -120,4 +121,9 @@ fn a_line_without_memory_is_refused_alone(rt: HostRuntime) -> Result<(), Fail> {
         same(&(refused > 0, refused < STEPS), &(true, true), bytes)?;
     }
     Ok(())
+}
+
+#[test]
+fn a_past_takes_no_memory(_rt: HostRuntime) -> Result<(), Fail> {
+    same(&size_of::<Past>(), &0, &"a past")
 }

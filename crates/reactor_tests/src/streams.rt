@@ -30,6 +30,12 @@ impl Manner {
         pauses: false,
     };
 
+    /// The first call would wait, the second goes, and so on.
+    pub(crate) const PAUSING: Manner = Manner {
+        piece: 4_096,
+        pauses: true,
+    };
+
     /// How many of the bytes go in a call that follows so many others.
     fn count(self, calls: &mut usize, bytes: usize) -> io::Result<usize>
         ensures { IfOk result (λ count. count ≤ bytes) }

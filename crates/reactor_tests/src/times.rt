@@ -1,6 +1,7 @@
 //! The time that a connection has.
 
 use crate::streams::{Manner, filled, wire};
+use desk_core::Setting;
 use reactor::{Connection, End, MOST_TAKEN, Occasion};
 use std::test::Fail;
 use std::time::{Duration, Instant};
@@ -49,6 +50,50 @@ fn a_request_has_ten_seconds_and_a_peer_that_takes_nothing_thirty(
         if is_late {
             same(&connection.late_end(), &End::GivenUp(why), &millis)?;
         }
+    }
+    Ok(())
+}
+
+/// So many milliseconds later.
+fn after(begun: Instant, millis: u64) -> Result<Instant, Fail> {
+    match begun.checked_add(Duration::from_millis(millis)) {
+        Some(then) => Ok(then),
+        None => Err(Fail::new("the clock does not go so far")),
+    }
+}
+
+/// What is set before a turn of a Watch, if anything, how many milliseconds behind its connection's beginning the turn is, and since
+/// when it is quiet then. Each second write would wait.
+const QUIET: [(Option<Setting>, u64, u64); 6] = [
+    // the request is read, and its answer waits
+    (None, 1_000, 1_000),
+    (None, 2_000, 2_000),
+    (None, 3_000, 2_000),
+    (Some(Setting::Down), 4_000, 2_000),
+    (None, 5_000, 5_000),
+    (None, 6_000, 5_000),
+];
+
+#[test]
+fn a_connection_is_quiet_since_bytes_last_went_over_it(rt: HostRuntime) -> Result<(), Fail> {
+    let alloc = rt.alloc();
+    let mut staged = Staged::new(alloc)?;
+    let mut buffer = [0u8; MOST_TAKEN];
+    let begun = Instant::now(&rt)?;
+    let link = wire(alloc, WATCH_OF_EMPTY, Manner::WHOLE, Manner::PAUSING)?;
+    let mut connection = Connection::new(link.into_stream(), Call::new(alloc)?, begun);
+    same(&connection.quiet_since(), &begun, &"new")?;
+    for (setting, millis, quiet) in QUIET {
+        if let Some(setting) = setting {
+            staged.set(setting);
+        }
+        let occasion = Occasion {
+            now: after(begun, millis)?,
+            then: Turn::Look,
+            ready: None,
+        };
+        let _ = connection.turn(alloc, &mut staged.door(), &mut buffer, occasion);
+        same(&connection.quiet_since(), &after(begun, quiet)?, &millis)?;
     }
     Ok(())
 }

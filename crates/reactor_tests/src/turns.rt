@@ -1,4 +1,4 @@
-use reactor::{Fate, Host, Link, Machine, Stream, Turned, turn};
+use reactor::{Fate, Host, Link, Machine, Past, Stream, Turned, turn};
 use std::alloc::Global;
 use web_call::Turn;
 
@@ -12,7 +12,15 @@ pub(crate) fn turn_once<S: Stream, M: Machine, H: Host<M>>(
 ) -> Turned {
     let mut buffer = [0u8; 64];
     link.renew();
-    turn(alloc, link, host, machine, &mut buffer, then)
+    turn(
+        alloc,
+        link,
+        host,
+        machine,
+        &mut Past::new(),
+        &mut buffer,
+        then,
+    )
 }
 
 /// The most turns that a test waits for.

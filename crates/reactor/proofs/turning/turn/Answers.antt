@@ -1,7 +1,7 @@
-use Rattle.std.proofs.Common.{rules, arith, refl, true, sym, ◌∙◌, ◌≡◌, inl, inr, true≢false}
+use Rattle.std.proofs.Common.{rules, arith, refl, [], true, sym, ◌∙◌, ◌≡◌, inl, inr, true≢false}
 use Rattle.reactor.specs.Link.{link_reads, link_writes}
 use Rattle.reactor.specs.Moved.{followed_by, nothing_moved}
-use Rattle.reactor.proofs.MovedLemmas.{moved_still, moved_then}
+use Rattle.reactor.proofs.MovedLemmas.{grows_none, moved_still, moved_then}
 use Rattle.reactor.proofs.TurnLemmas.{behind_once, leaves_more, turns_on}
 use Rattle.reactor.proofs.turning.turn.Goals as goal
 use Rattle.reactor.proofs.turning.turn.Goals.{in-Went, in-Followed}
@@ -10,7 +10,7 @@ pub loop-pieces-init : goal.loop-pieces-init
 loop-pieces-init g c = record {
   moved = (
     nothing_moved,
-    moved_still 0 (g.met.H.Host.goes_nowhere c.args.then c.args.host.now c.args.machine.now),
+    moved_still [] (g.met.H.Host.goes_nowhere c.args.then c.args.host.now c.args.machine.now) (grows_none refl),
     omega arith,
     omega arith,
     (λ is. absurd (true≢false (sym is)), λ some. absurd (omega (arith, some))),

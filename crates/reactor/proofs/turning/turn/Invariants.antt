@@ -8,7 +8,7 @@ use Rattle.reactor.proofs.turning.turn.Given as goal
 abbrev pub invariant-loop-pieces : goal.invariant-loop-pieces
 invariant-loop-pieces g l = record {
   moved : (moved : Moved)
-      × HasMoved g.S.Stream.remaining g.S.Stream.contents (g.H.Host.goes l.initial.then) l.initial.link l.link l.initial.host l.host l.initial.machine l.machine moved
+      × HasMoved g.S.Stream.remaining g.S.Stream.contents (g.H.Host.goes l.initial.then) l.initial.link l.link l.initial.host l.host l.initial.machine l.machine l.initial.past.moved l.past.moved moved
       × (l.pieces ≤ done_by moved) × (moved.behind ≤ length l.buffer) × ((l.is_followed ≡ true) ↔ (0 < moved.behind))
       × (0 < moved.behind → g.M.Machine.is_closed l.machine ≡ true);
   ended : FindsEnd g.S.Stream.remaining l.link;

@@ -1,7 +1,8 @@
-use Rattle.std.proofs.Common.{[], sym, ◌∙◌, arith}
+use Rattle.std.proofs.Common.{[], ◌∷◌, ◌≡◌, refl, ap, sym, ◌∙◌, arith}
+use Rattle.std.proofs.lemmas.List.Elements.{All-nil}
 use Rattle.web_call.specs.Answer.{source_of}
 use Rattle.reactor.specs.CallingLaws.{served_nowhere}
-use Rattle.reactor.proofs.CallingLemmas.{has_ended, was_answered}
+use Rattle.reactor.proofs.CallingLemmas.{has_ended, no_step, one_step, was_answered}
 use Rattle.reactor.proofs.calling.AnyHostCall.step.Goals as goal
 
 pub returns-then-wanted-gt0-clause-goes : goal.returns-then-wanted-gt0-clause-goes
@@ -12,13 +13,23 @@ pub returns-then-is_whole-clause-goes : goal.returns-then-is_whole-clause-goes
 returns-then-is_whole-clause-goes g c =
     let answer = c.answer.ensures in
     let asked = answer.asked in
-    (asked.0, was_answered c.args.then 1 (omega arith) (sym c.is_whole.ensures ∙ c.if-is_whole.true) asked.0 asked.1 asked.2 asked.3 answer.names answer.stays answer.ready answer.no_end)
+    let from = source_of (g.D.Door.names c.answer.new.door) g.D.Door.kept in
+    let same = ap (λ names. source_of names g.D.Door.kept) answer.names in
+    let ours = source_of (g.D.Door.names c.args.self.now) g.D.Door.kept in (
+      asked.0,
+      was_answered c.args.then (from ∷ []) (omega arith) (one_step from ours same) (λ none. no_step from none)
+          (sym c.is_whole.ensures ∙ c.if-is_whole.true) asked.0 asked.1 asked.2 asked.3 answer.names answer.stays answer.ready answer.no_end,
+    )
 
 pub returns-then-is_starved-clause-goes : goal.returns-then-is_starved-clause-goes
 returns-then-is_starved-clause-goes g c =
     let answer = c.answer.ensures in
     let asked = answer.asked in
-    (asked.0, was_answered c.args.then 0 (omega arith) (sym c.is_whole.ensures ∙ c.if-is_whole.true) asked.0 asked.1 asked.2 asked.3 answer.names answer.stays answer.ready answer.no_end)
+    let ours = source_of (g.D.Door.names c.args.self.now) g.D.Door.kept in (
+      asked.0,
+      was_answered c.args.then [] (omega arith) (All-nil (λ step. step ≡ ours)) (λ none. sym c.is_starved.ensures ∙ c.if-is_starved.true)
+          (sym c.is_whole.ensures ∙ c.if-is_whole.true) asked.0 asked.1 asked.2 asked.3 answer.names answer.stays answer.ready answer.no_end,
+    )
 
 pub returns-then-is_starved-2-clause-goes : goal.returns-then-is_starved-2-clause-goes
 returns-then-is_starved-2-clause-goes g c =
@@ -29,4 +40,4 @@ returns-then-not-is_watching-clause-goes g c =
     ([], served_nowhere (source_of (g.D.Door.names c.args.self.now) g.D.Door.kept) c.args.then c.args.self.now c.args.call.now (g.D.Door.stays_self c.args.self.now))
 
 pub returns-in-End-clause-goes : goal.returns-in-End-clause-goes
-returns-in-End-clause-goes g c = ([], rw c.in-End.is (has_ended 1 (omega arith) (sym c.is_watching.ensures ∙ c.if-not-is_watching.false) c.end.ensures.ended (g.D.Door.stays_self c.args.self.now) c.end.ensures.answered c.end.ensures.outcome))
+returns-in-End-clause-goes g c = ([], rw c.in-End.is (has_ended (source_of (g.D.Door.names c.args.self.now) g.D.Door.kept) refl (sym c.is_watching.ensures ∙ c.if-not-is_watching.false) c.end.ensures.ended (g.D.Door.stays_self c.args.self.now) c.end.ensures.answered c.end.ensures.outcome))

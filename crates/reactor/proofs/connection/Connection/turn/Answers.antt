@@ -9,7 +9,7 @@ pub returns-then-not-waits_for-clause-served : goal.returns-then-not-waits_for-c
 returns-then-not-waits_for-clause-served g c talks = (
   nothing_moved,
   [],
-  served_none Waits [] (g.met.H.Host.goes_nowhere c.args.occasion.then c.args.host.now c.args.self.now.machine) refl (thrown_none refl refl) (λ over. search rules) talks,
+  served_none Waits [] (g.met.H.Host.goes_nowhere c.args.occasion.then c.args.host.now c.args.self.now.machine) refl refl (thrown_none refl refl) (λ over. search rules) talks,
 )
 
 pub returns-then-eq-clause-served : goal.returns-then-eq-clause-served
@@ -18,6 +18,6 @@ returns-then-eq-clause-served g c talks =
       nothing_moved,
       thrown.0,
       served_none c.rest.result thrown.0 (g.met.H.Host.goes_nowhere c.args.occasion.then c.args.host.now c.args.self.now.machine)
-          (ap (λ (s : ConnectionState g.row.M.Denot). s.machine) c.rest.ensures.state) (thrown_from refl refl thrown.1) c.rest.ensures.undone
+          (ap (λ (s : ConnectionState g.row.M.Denot). s.machine) c.rest.ensures.state) (ap (λ (s : ConnectionState g.row.M.Denot). s.past) c.rest.ensures.state) (thrown_from refl refl thrown.1) c.rest.ensures.undone
           (ap (λ (s : ConnectionState g.row.M.Denot). s.is_draining) c.rest.ensures.state ∙ talks),
     )

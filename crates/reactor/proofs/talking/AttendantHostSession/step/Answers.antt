@@ -1,4 +1,5 @@
 use Rattle.std.proofs.Common.{refl}
+use Rattle.web_call.specs.Answer.{source_of}
 use Rattle.reactor.specs.Attendant.{stands}
 use Rattle.reactor.specs.TalkingLaws.{said_nothing}
 use Rattle.reactor.proofs.TalkingLemmas.{was_met}
@@ -11,7 +12,8 @@ pub returns-then-has_line-clause-goes : goal.returns-then-has_line-clause-goes
 returns-then-has_line-clause-goes g c =
     let met = c.answer.ensures in (
       was_met (stands c.args.self.now) (c.answer.new.console, c.answer.new.server) c.args.session.now c.answer.new.self c.answer.result met.met met.cut c.requires
-          (c.has_line.ensures.0 c.if-has_line.true).0 met.unread met.waiting met.over met.ended,
+          (c.has_line.ensures.0 c.if-has_line.true).0 met.unread met.waiting met.over met.ended
+          (source_of (g.C.Registrar.names c.answer.new.console) g.C.Console.kept) met.names,
       met.names,
       refl,
     )
