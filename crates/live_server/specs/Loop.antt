@@ -17,10 +17,10 @@ abbrev pub EventServer : Type 0
 EventServer = EventLoop Acceptor TcpStream Call ghosts
 
 -- the table of the connections that a loop holds
-abbrev pub held_by : {A S M : Type 0} {g : _} → EventLoop A S M g → TableState (Connection S M)
+abbrev pub held_by : {A S M : Type 0} {g : _} → EventLoop A S M g → TableState (Connection S M g)
 held_by server = held_in server.conversations.held
 
-abbrev pub table_of : {S M : Type 0} {g : _} → Conversations S M g → TableState (Connection S M)
+abbrev pub table_of : {S M : Type 0} {g : _} → Conversations S M g → TableState (Connection S M g)
 table_of conversations = held_in conversations.held
 
 -- the places that a loop has taken

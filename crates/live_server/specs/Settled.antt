@@ -6,16 +6,16 @@ use Rattle.reactor.specs.declared.connection.Connection.{Connection}
 use Rattle.reactor.specs.Connection.{may_look_at, state_of}
 
 -- what a key holds is nothing, or is admitted as a Watch, or is no open Watch to which all is sent
-abbrev pub is_settled : {S M : Type 0} → (M → Bool) → (M → List ℕ) → Option (Place (Connection S M)) → Bool
+abbrev pub is_settled : {S M : Type 0} {g : _} → (M → Bool) → (M → List ℕ) → Option (Place (Connection S M g)) → Bool
 is_settled watches waiting None = true
 is_settled watches waiting (Some place) = place.is_watch || not (may_look_at watches waiting (state_of place.connection))
 
 -- each open Watch is admitted, but for those for whose clients bytes wait
-abbrev pub AreSettled : {S M : Type 0} → (M → Bool) → (M → List ℕ) → TableState (Connection S M) → Type 0
+abbrev pub AreSettled : {S M : Type 0} {g : _} → (M → Bool) → (M → List ℕ) → TableState (Connection S M g) → Type 0
 AreSettled watches waiting table = (key : ℕ) → is_settled watches waiting (place_at table key) ≡ true
 
 -- the same, but for one key
-abbrev pub AreSettledBut : {S M : Type 0} → (M → Bool) → (M → List ℕ) → ℕ → TableState (Connection S M) → Type 0
+abbrev pub AreSettledBut : {S M : Type 0} {g : _} → (M → Bool) → (M → List ℕ) → ℕ → TableState (Connection S M g) → Type 0
 AreSettledBut watches waiting key table = (other : ℕ) → other ≢ key → is_settled watches waiting (place_at table other) ≡ true
 
 -- as many connections may be held as before, and as many Watches, and none of those that were taken in or have ended is forgotten

@@ -52,6 +52,12 @@ pub trait Handler<S, M: Machine> {
         ensures ended { visit.occasion.then ≡ Turn.End → is_over result ≡ false
             → may_look_at M.watches M.waiting (state_of connection.new) ≡ false };
 
+    /// Whether no more conversations are held beside so many, so that one that has been quiet for a while makes room for another.
+    fn is_full(&self, talking: usize) -> bool {
+        let _ = talking;
+        false
+    }
+
     /// Lets the looks behind it see what has changed by then.
     fn renew(&mut self)
         requires ready { is_ready self.old }

@@ -4,13 +4,13 @@ use crate::handler::{Handler, Visit};
 use crate::places::{Taken, Vacancy};
 use connection_table::{Table, counts_change, one_key_changes};
 use mio::{Registry, Token};
-use reactor::{Connection, Left, Machine, Occasion, Socket};
+use reactor::{Connection, Left, Machine, Occasion, Ready, Socket};
 use std::alloc::Global;
 use std::io;
 
 /// The connections that a loop holds, each in a place that was taken for it.
 #[derive(Drop)]
-pub(crate) struct Held<S, M> {
+pub(crate) struct Held<S, M: Machine> {
     table: Table<Connection<S, M>>,
     taken: Taken,
     /// How many of them are held whose conversations are over.
@@ -166,6 +166,19 @@ impl<S: Socket, M: Machine> Held<S, M> {
             self.count(connection.is_draining(), false);
         }
         connection
+    }
+
+    /// Leaves what was reported of the socket of the connection that a key holds to a later turn.
+    pub(crate) fn put_off(&mut self, key: usize, ready: Ready)
+        ensures account { KeepsAccount (held_in self.old) (held_in self.new) }
+        ensures settled { AreSettled M.watches M.waiting (held_in self.old)
+            → AreSettled M.watches M.waiting (held_in self.new) }
+    {
+        counts_change::<Connection<S, M>>();
+        one_key_changes::<Connection<S, M>>();
+        if let Some(connection) = self.table.get_mut(key) {
+            connection.put_off(ready);
+        }
     }
 
     /// Has the poll report the socket of the connection that a key holds.

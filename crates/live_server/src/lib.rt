@@ -37,6 +37,7 @@ mod conversations;
 mod event_loop;
 mod handler;
 mod held;
+mod laws;
 mod news;
 mod places;
 mod queue;
@@ -49,10 +50,8 @@ pub use acceptor::Acceptor;
 pub use conversations::Counts;
 pub use event_loop::{EventLoop, EventServer};
 pub use handler::{Handler, Visit};
+pub use laws::{calls_stand, connections_stand};
 pub use news::News;
 pub use places::{Limits, Places};
 pub use queue::Queue;
 pub use tally::{Tallied, Tally};
-
-#[cfg(test)]
-mod tests;

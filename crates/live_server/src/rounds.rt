@@ -27,8 +27,8 @@ const LISTENER: Token = Token(0);
 /// The token of what wakes a loop.
 const WAKER: Token = Token(1);
 
-/// How many milliseconds a round waits at most. A sweep comes no sooner behind another, and so in less than twice as many where rounds
-/// are short.
+/// How many milliseconds a round waits at most. A sweep comes no sooner behind another, but for the one of those that have sent nothing
+/// when all is to end, and so in less than twice as many where rounds are short.
 const TICK_MILLIS: u64 = 100;
 
 /// How many milliseconds a connection that has sent nothing has, once all is to end.
@@ -151,6 +151,7 @@ impl<A: Accept<S>, S: Socket, M: Machine> EventLoop<A, S, M> {
             ended: table.ended(),
             given_up: counts.given_up,
             behind: counts.behind,
+            gone: counts.gone,
         });
     }
 
@@ -246,11 +247,17 @@ impl<A: Accept<S>, S: Socket, M: Machine> EventLoop<A, S, M> {
         }
     }
 
+    /// Whether the time of those that have sent nothing has come since the last sweep.
+    fn is_silence_over(&self, now: Instant) -> bool {
+        self.silence_ends_at
+            .is_some_and(|end| self.swept < end && end <= now)
+    }
+
     fn sweep(&mut self, now: Instant)
         ensures account { KeepsAccount (held_by self.old) (held_by self.new) }
     {
         let next = self.swept.checked_add(Duration::from_millis(TICK_MILLIS));
-        if next.is_none_or(|next| next <= now) {
+        if next.is_none_or(|next| next <= now) || self.is_silence_over(now) {
             self.swept = now;
             let left = if self.ends_at.is_some_and(|end| end <= now) {
                 Ending::All
@@ -340,9 +347,15 @@ fn take_events<S: Socket, M: Machine, H: Handler<S, M>>(
         let Token(token) = event.token();
         if token >= FIRST_TOKEN {
             let key = token - FIRST_TOKEN;
-            if conversations.is_watching(key) == (named == Named::Watches) {
-                let ready = Some(Ready::of(event));
-                conversations.turn(registry, handler, key, round, ready);
+            let ready = Ready::of(event);
+            match (named, conversations.is_watching(key)) {
+                (Named::Others, false) => {
+                    conversations.turn(registry, handler, key, round, Some(ready));
+                }
+                (Named::Watches, true) => {
+                    conversations.meet_event(registry, handler, key, round, ready);
+                }
+                _ => {}
             }
         }
     }

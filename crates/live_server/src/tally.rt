@@ -10,6 +10,7 @@ pub struct Tally {
     ended: AtomicU64,
     given_up: AtomicU64,
     behind: AtomicU64,
+    gone: AtomicU64,
 }
 
 /// The numbers of a tally.
@@ -21,10 +22,12 @@ pub struct Tallied {
     pub watches: u64,
     /// Calls that have ended.
     pub ended: u64,
-    /// Those of them that were given up.
+    /// Those of them whose time was up.
     pub given_up: u64,
     /// Those of them whose Watch was behind.
     pub behind: u64,
+    /// Those of them that ended before all was sent for any other reason.
+    pub gone: u64,
 }
 
 impl Tally {
@@ -35,6 +38,7 @@ impl Tally {
             ended: AtomicU64::new(0),
             given_up: AtomicU64::new(0),
             behind: AtomicU64::new(0),
+            gone: AtomicU64::new(0),
         }
     }
 
@@ -45,12 +49,14 @@ impl Tally {
             ended,
             given_up,
             behind,
+            gone,
         } = tallied;
         self.connections.store(connections, Ordering::SeqCst);
         self.watches.store(watches, Ordering::SeqCst);
         self.ended.store(ended, Ordering::SeqCst);
         self.given_up.store(given_up, Ordering::SeqCst);
         self.behind.store(behind, Ordering::SeqCst);
+        self.gone.store(gone, Ordering::SeqCst);
     }
 
     /// What the loop has counted by now.
@@ -61,6 +67,7 @@ impl Tally {
             ended: self.ended.load(Ordering::SeqCst),
             given_up: self.given_up.load(Ordering::SeqCst),
             behind: self.behind.load(Ordering::SeqCst),
+            gone: self.gone.load(Ordering::SeqCst),
         }
     }
 }

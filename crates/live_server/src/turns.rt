@@ -5,7 +5,7 @@ ghost use Rattle.connection_table.specs.Table.{place_at};
 ghost use Rattle.live_server.specs.Held.{held_in};
 ghost use Rattle.live_server.specs.Settled.{AreSettled, AreSettledBut, KeepsAccount, is_settled};
 
-use crate::conversations::{Conversations, Counts};
+use crate::conversations::{Conversations, Counts, Look};
 use crate::handler::Handler;
 use crate::held::Held;
 use crate::news::News;
@@ -14,15 +14,27 @@ use connection_table::Table;
 use mio::{Registry, Token};
 use reactor::{Connection, End, Left, MOST_TAKEN, Machine, Occasion, Ready, Socket};
 use std::alloc::{AllocError, Global};
-use std::time::Instant;
+use std::time::{Duration, Instant};
 use web_call::{Turn, Why};
 
 /// The token of the first key.
 pub(crate) const FIRST_TOKEN: usize = 2;
 
-/// How many keys are looked at in a row. A turn does 64 pieces of work at most, so that a Check waits for some thousand of them, besides
-/// the turns of Watches that events name.
-const SLICE: usize = 16;
+/// How much the turns of a round's looks may cost, where one that sends nothing costs 1. So a Check waits for some hundred messages to
+/// Watches, however much there is to tell.
+const ROUND_COST: usize = 64;
+
+/// What a turn costs behind which the conversation could go on: it has done 64 pieces of work.
+const GAVE_WAY_COST: usize = 16;
+
+/// What a turn costs that has sent bytes and comes to rest: it may have done almost as many.
+const SENT_COST: usize = 4;
+
+/// The most keys that a round's looks pass.
+const MOST_PASSED: usize = 256;
+
+/// How many milliseconds a conversation has been quiet for at least that makes room for another.
+const QUIET_MILLIS: u64 = 1_000;
 
 /// When a round of a loop is, how many changes there were by then, and whether all is to end.
 #[derive(Clone, Copy, Debug)]
@@ -63,8 +75,21 @@ fn is_watching<S, M: Machine>(table: &Table<Connection<S, M>>, key: usize) -> bo
     }
 }
 
+/// Whether a conversation was ended since its time was up, or ended by itself.
+#[derive(Clone, Copy, Debug, PartialEq, Eq)]
+enum Cause {
+    Time,
+    Turn,
+}
+
 /// The end of a conversation, which is counted.
-fn remove<S: Socket, M: Machine>(held: &mut Held<S, M>, counts: &mut Counts, key: usize, end: End)
+fn remove<S: Socket, M: Machine>(
+    held: &mut Held<S, M>,
+    counts: &mut Counts,
+    key: usize,
+    end: End,
+    cause: Cause,
+)
     ensures account { KeepsAccount (held_in held.old) (held_in held.new) }
     ensures settled { AreSettledBut M.watches M.waiting key (held_in held.old)
         → AreSettled M.watches M.waiting (held_in held.new) }
@@ -72,12 +97,13 @@ fn remove<S: Socket, M: Machine>(held: &mut Held<S, M>, counts: &mut Counts, key
     let Some(connection) = held.remove(key) else {
         return;
     };
-    match end {
-        End::GivenUp(_) => counts.given_up = counts.given_up.saturating_add(1),
-        End::Done if connection.machine().is_behind() => {
+    match (end, cause) {
+        (End::GivenUp(_), Cause::Time) => counts.given_up = counts.given_up.saturating_add(1),
+        (End::GivenUp(_), Cause::Turn) => counts.gone = counts.gone.saturating_add(1),
+        (End::Done, _) if connection.machine().is_behind() => {
             counts.behind = counts.behind.saturating_add(1);
         }
-        End::Done | End::PeerLeft => {}
+        (End::Done | End::PeerLeft, _) => {}
     }
 }
 
@@ -97,9 +123,11 @@ impl<S: Socket, M: Machine> Conversations<S, M> {
             counts: Counts {
                 given_up: 0,
                 behind: 0,
+                gone: 0,
             },
             seen: 0,
-            looks_from: None,
+            has_more: false,
+            look: None,
             buffer: Box::new(alloc, [0; MOST_TAKEN])?,
         })
     }
@@ -132,7 +160,7 @@ impl<S: Socket, M: Machine> Conversations<S, M> {
 
     /// Whether a look for changes is not at its end.
     pub(crate) fn is_looking(&self) -> bool {
-        self.looks_from.is_some()
+        self.look.is_some()
     }
 
     /// A turn of what a key holds, which is removed where it is over.
@@ -156,7 +184,7 @@ impl<S: Socket, M: Machine> Conversations<S, M> {
         let held = &mut self.held;
         let left = held.turn(key, self.alloc, handler, &mut *self.buffer, occasion)?;
         if let Left::Over(end) = left {
-            remove(held, &mut self.counts, key, end);
+            remove(held, &mut self.counts, key, end, Cause::Turn);
             return Some(left);
         }
         if round.ends || !is_watching(held.table(), key) || held.admit(key) {
@@ -167,7 +195,7 @@ impl<S: Socket, M: Machine> Conversations<S, M> {
         occasion.ready = None;
         let left = held.turn(key, self.alloc, handler, &mut *self.buffer, occasion)?;
         if let Left::Over(end) = left {
-            remove(held, &mut self.counts, key, end);
+            remove(held, &mut self.counts, key, end, Cause::Turn);
         }
         Some(left)
     }
@@ -202,6 +230,29 @@ impl<S: Socket, M: Machine> Conversations<S, M> {
         self.turn_once(registry, handler, key, round, ready);
     }
 
+    /// What was reported of the socket of an open Watch. Where that waits for a change it is seen whether its client has left; else it
+    /// has a turn in the next look, since what a round tells its Watches is bounded.
+    pub(crate) fn meet_event<H: Handler<S, M>>(
+        &mut self,
+        registry: &Registry,
+        handler: &mut H,
+        key: usize,
+        round: Round,
+        ready: Ready,
+    )
+        requires ready { H.is_ready handler.old }
+        ensures account { KeepsAccount (table_of self.old) (table_of self.new) }
+        ensures ready { H.is_ready handler.new }
+        ensures stays { H.stays handler.old handler.new }
+    {
+        if round.ends || self.may_look(key) {
+            return self.turn(registry, handler, key, round, Some(ready));
+        }
+        self.held.put_off(key, ready);
+        self.has_more = true;
+    }
+
+    /// A turn of a registered connection. An open Watch that could go on waits for the next look.
     fn turn_once<H: Handler<S, M>>(
         &mut self,
         registry: &Registry,
@@ -216,6 +267,7 @@ impl<S: Socket, M: Machine> Conversations<S, M> {
         ensures stays { H.stays handler.old handler.new }
     {
         match self.turn_of(handler, key, round, ready) {
+            Some(Left::Ready) if self.could_go_on(key) => self.has_more = true,
             Some(Left::Ready) => self.report(registry, key),
             Some(Left::Waits | Left::Over(_)) | None => {}
         }
@@ -236,6 +288,9 @@ impl<S: Socket, M: Machine> Conversations<S, M> {
         ensures ready { H.is_ready handler.new }
         ensures stays { H.stays handler.old handler.new }
     {
+        if handler.is_full(self.held.talking()) {
+            self.make_room(round.now);
+        }
         let talking = self.held.talking();
         let Some(connection) = handler.open(self.alloc, stream, round.now, talking) else {
             self.held.leave(vacancy);
@@ -251,8 +306,8 @@ impl<S: Socket, M: Machine> Conversations<S, M> {
         true
     }
 
-    /// Looks for what has changed, in slices. A look that comes to its end behind a change begins anew. Once all is to end each
-    /// connection has a turn for that.
+    /// Looks for what has changed, and goes on with Watches that gave way, a part of the keys in each round. A look that comes to its
+    /// end behind a change begins anew. Once all is to end each connection has a turn for that.
     pub(crate) fn look<H: Handler<S, M>>(
         &mut self,
         registry: &Registry,
@@ -265,34 +320,61 @@ impl<S: Socket, M: Machine> Conversations<S, M> {
         ensures stays { H.stays handler.old handler.new }
     {
         self.begin_look(round);
-        for _ in 0..SLICE {
-            let Some(key) = self.next_look() else {
+        let mut cost: usize = 0;
+        for _ in 0..MOST_PASSED {
+            if cost >= ROUND_COST {
+                break;
+            }
+            let Some((key, is_for_all)) = self.next_look() else {
                 break;
             };
-            if round.ends || self.may_look(key) {
+            if round.ends || self.could_go_on(key) || (is_for_all && self.may_look(key)) {
                 self.turn(registry, handler, key, round, None);
+                cost = cost.saturating_add(self.cost_of(key, round.now));
             }
         }
         self.begin_look(round);
     }
 
-    /// Begins a look where none is under way and something has changed since the last began.
-    fn begin_look(&mut self, round: Round)
-        ensures { table_of self.new ≡ table_of self.old }
-    {
-        if self.looks_from.is_none() && round.changes != self.seen {
-            self.seen = round.changes;
-            self.looks_from = Some(0);
+    /// What the turn of a key has cost that it had now.
+    fn cost_of(&self, key: usize, now: Instant) -> usize {
+        if self.could_go_on(key) {
+            return GAVE_WAY_COST;
+        }
+        match self.table().get(key) {
+            Some(connection) if connection.quiet_since() < now => 1,
+            Some(_) | None => SENT_COST,
         }
     }
 
-    /// The next key of a look that holds a connection.
-    fn next_look(&mut self) -> Option<usize>
+    /// Begins a look where none is under way: for all if something has changed since the last of these began, and else for those that
+    /// could go on, if there are any.
+    fn begin_look(&mut self, round: Round)
         ensures { table_of self.new ≡ table_of self.old }
     {
-        let key = self.table().next_key(self.looks_from?);
-        self.looks_from = key.and_then(|key| key.checked_add(1));
-        key
+        let is_for_all = round.changes != self.seen;
+        if self.look.is_some() || !(is_for_all || self.has_more) {
+            return;
+        }
+        self.seen = round.changes;
+        self.has_more = false;
+        self.look = Some(Look {
+            from: 0,
+            is_for_all,
+        });
+    }
+
+    /// The next key of a look that holds a connection, and whether the look is for all.
+    fn next_look(&mut self) -> Option<(usize, bool)>
+        ensures { table_of self.new ≡ table_of self.old }
+    {
+        let Look { from, is_for_all } = self.look?;
+        let Some(key) = self.table().next_key(from) else {
+            self.look = None;
+            return None;
+        };
+        self.look = key.checked_add(1).map(|from| Look { from, is_for_all });
+        Some((key, is_for_all))
     }
 
     /// Whether a key holds an open Watch.
@@ -304,6 +386,14 @@ impl<S: Socket, M: Machine> Conversations<S, M> {
     fn may_look(&self, key: usize) -> bool {
         match self.table().get(key) {
             Some(connection) => connection.may_look(),
+            None => false,
+        }
+    }
+
+    /// Whether a key holds an open Watch whose last turn could have gone on.
+    fn could_go_on(&self, key: usize) -> bool {
+        match self.table().get(key) {
+            Some(connection) => connection.is_watching() && connection.gave_way(),
             None => false,
         }
     }
@@ -341,9 +431,41 @@ impl<S: Socket, M: Machine> Conversations<S, M> {
             };
             if is_over || connection.is_late(now) {
                 let end = connection.late_end();
-                self.end(key, end);
+                self.end(key, end, Cause::Time);
             }
         }
+    }
+
+    /// Ends the conversation that has been quiet for longest, if that is a second or more.
+    fn make_room(&mut self, now: Instant)
+        ensures account { KeepsAccount (table_of self.old) (table_of self.new) }
+    {
+        let Some((key, since)) = self.quietest() else {
+            return;
+        };
+        let until = since.checked_add(Duration::from_millis(QUIET_MILLIS));
+        if until.is_some_and(|until| until <= now) {
+            self.end(key, End::GivenUp(Why::Read), Cause::Turn);
+        }
+    }
+
+    /// The key of the conversation that has been quiet for longest, and since when. One that is over is none.
+    fn quietest(&self) -> Option<(usize, Instant)> {
+        let mut found: Option<(usize, Instant)> = None;
+        let mut from = 0;
+        for _ in 0..self.table().len() {
+            let Some(key) = self.table().next_key(from) else {
+                break;
+            };
+            if let Some(connection) = self.table().get(key) {
+                let since = connection.quiet_since();
+                if !connection.is_draining() && found.is_none_or(|(_, first)| since < first) {
+                    found = Some((key, since));
+                }
+            }
+            from = key.saturating_add(1);
+        }
+        found
     }
 
     /// Has the poll report the connection's socket. Where that fails its conversation is given up, as one that can't read.
@@ -352,13 +474,13 @@ impl<S: Socket, M: Machine> Conversations<S, M> {
     {
         let token = Token(key.saturating_add(FIRST_TOKEN));
         if self.held.report(registry, key, token).is_err() {
-            self.end(key, End::GivenUp(Why::Read));
+            self.end(key, End::GivenUp(Why::Read), Cause::Turn);
         }
     }
 
-    fn end(&mut self, key: usize, end: End)
+    fn end(&mut self, key: usize, end: End, cause: Cause)
         ensures account { KeepsAccount (table_of self.old) (table_of self.new) }
     {
-        remove(&mut self.held, &mut self.counts, key, end);
+        remove(&mut self.held, &mut self.counts, key, end, cause);
     }
 }

@@ -1,5 +1,6 @@
-use Rattle.std.proofs.Common.{sym}
+use Rattle.std.proofs.Common.{ap, sym, ◌∙◌}
 use Rattle.connection_table.specs.Table.{place_at, with_connection}
+use Rattle.reactor.specs.Connection.{may_look_at}
 use Rattle.live_server.proofs.SettledLemmas.{held_so, settled_still}
 use Rattle.live_server.proofs.held.Held.report.Goals as goal
 
@@ -7,5 +8,6 @@ pub returns-in-Some-clause-settled : goal.returns-in-Some-clause-settled
 returns-in-Some-clause-settled g c =
     let table = c.args.self.now.table in
     let held = sym c.in-Some.ensures.value in
-    settled_still g.M.Machine.watches g.M.Machine.waiting table (with_connection table c.args.key c.report.new.self) c.args.key c.in-Some.connection.now c.report.new.self held c.report.ensures.state
+    settled_still g.M.Machine.watches g.M.Machine.waiting table (with_connection table c.args.key c.report.new.self) c.args.key c.in-Some.connection.now c.report.new.self held
+    (λ none. ap (λ state. may_look_at g.M.Machine.watches g.M.Machine.waiting state) c.report.ensures.state ∙ none)
     (c.one_key_changes.ensures.connection table c.args.key c.report.new.self (held_so (place_at table c.args.key) c.in-Some.connection.now held))

@@ -1,4 +1,4 @@
-use crate::tests::scenes::{Place, Scene, client, rest, sent};
+use crate::scenes::{Place, Scene, client, rest, sent};
 use mio::net::{TcpListener, TcpStream};
 use reactor::{Connection, End};
 use std::net;

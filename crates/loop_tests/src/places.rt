@@ -1,7 +1,7 @@
 //! Two loops over one socket, which share the places.
 
-use crate::tests::scenes::{Place, Scene, client, rest, sent};
-use crate::{Acceptor, EventServer, Limits, News, Places};
+use crate::scenes::{Place, Scene, client, rest, sent};
+use live_server::{Acceptor, EventServer, Limits, News, Places};
 use mio::net::TcpListener;
 use std::alloc::Global;
 use std::net;

@@ -1,6 +1,6 @@
 //! Who is woken for a connection.
 
-use crate::{Accept, Acceptor};
+use live_server::{Accept, Acceptor};
 use mio::net::TcpListener;
 use mio::{Events, Poll, Token};
 use std::alloc::Global;

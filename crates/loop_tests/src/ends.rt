@@ -1,4 +1,5 @@
-use crate::tests::scenes::{Place, Scene, client, rest};
+use crate::clocks::{Manner, rounds_at};
+use crate::scenes::{Place, Scene, client, rest};
 use std::io::Write;
 use std::net::{Net, Shutdown, TcpStream};
 use std::test::Fail;
@@ -55,9 +56,7 @@ fn shut_sides<R: Net<Stream = TcpStream> + Clock>(
         let found = rest(place.alloc, &mut stream)?;
         same(&found.ends_with(end), &true, &request)?;
     }
-    let server = &place.server;
-    let found = (server.ended(), server.counts().given_up);
-    same(&found, &(2, 0), &"all have ended")
+    same(&place.ends(), &(2, 0, 0), &"all have ended")
 }
 
 #[test]
@@ -79,11 +78,11 @@ fn send_without_end<R: Net<Stream = TcpStream> + Clock>(
         place.rounds(rt, scene)?;
         same(&place.server.watches(), &watches, &count)?;
     }
-    same(&place.server.counts().given_up, &1, &"the Watch")
+    same(&place.ends(), &(1, 0, 1), &"the Watch")
 }
 
 #[test]
-fn a_client_that_sends_no_end_of_bytes_is_given_up(rt: HostRuntime) -> Result<(), Fail> {
+fn a_watch_ends_behind_which_bytes_come_without_end(rt: HostRuntime) -> Result<(), Fail> {
     let scene = Scene::new(rt.alloc())?;
     let mut place = Place::new(&rt, rt.alloc(), 10, 10)?;
     send_without_end(&rt, &mut place, &scene)
@@ -98,17 +97,12 @@ fn break_off<R: Net<Stream = TcpStream> + Clock>(
         drop(client(rt, place, request)?);
         place.rounds(rt, scene)?;
     }
-    let server = &place.server;
-    let found = (
-        server.connections(),
-        server.ended(),
-        server.counts().given_up,
-    );
-    same(&found, &(0, 2, 2), &"both")
+    same(&place.server.connections(), &0, &"both have ended")?;
+    same(&place.ends(), &(2, 0, 2), &"both")
 }
 
 #[test]
-fn a_request_that_breaks_off_is_given_up(rt: HostRuntime) -> Result<(), Fail> {
+fn a_client_that_breaks_its_request_off_is_gone(rt: HostRuntime) -> Result<(), Fail> {
     let scene = Scene::new(rt.alloc())?;
     let mut place = Place::new(&rt, rt.alloc(), 10, 10)?;
     break_off(&rt, &mut place, &scene)
@@ -139,28 +133,32 @@ fn accepts_none_once_all_is_to_end(rt: HostRuntime) -> Result<(), Fail> {
     come_late(&rt, &mut place, &scene)
 }
 
-/// A request that is half there when all is to end has its ten seconds, and what is left thirty seconds behind that end is given up.
+/// Two minutes more than each has by itself.
+const PATIENT: Manner = Manner {
+    seats: 2,
+    grace_millis: 120_000,
+};
+
+/// What has time left when all is to end is given up thirty seconds behind that.
 fn give_up_what_is_left<R: Net<Stream = TcpStream> + Clock>(
     rt: &R,
     place: &mut Place,
     scene: &Scene,
 ) -> Result<(), Fail> {
+    let begun = rt.monotonic()?;
     let half = client(rt, place, b"POST")?;
-    place.rounds(rt, scene)?;
-    let begun = Instant::now(rt)?;
+    rounds_at(PATIENT, begun, 0, place, scene)?;
+    rounds_at(PATIENT, begun, 40_000, place, scene)?;
+    same(&place.server.connections(), &1, &"nothing has ended")?;
     place.news.end();
-    place.rounds(rt, scene)?;
-    same(&place.server.connections(), &1, &"still read")?;
-    let now = Instant::now(rt)?;
-    for (from, seconds, is_before) in [(begun, 30, true), (now, 30, false)] {
-        let end = from.checked_add(Duration::from_secs(seconds));
-        let found = end.is_some_and(|end| place.server.ends_at >= Some(end));
-        same(&found, &is_before, &"its time")?;
+    for millis in [40_000, 69_999] {
+        rounds_at(PATIENT, begun, millis, place, scene)?;
+        same(&place.server.connections(), &1, &millis)?;
     }
-    place.server.ends_at = Some(now);
-    place.rounds(rt, scene)?;
-    let found = (place.server.connections(), place.server.counts().given_up);
-    same(&found, &(0, 1), &"given up")?;
+    // The loop looks at the times once in a tenth of a second.
+    rounds_at(PATIENT, begun, 70_100, place, scene)?;
+    same(&place.server.connections(), &0, &"given up")?;
+    same(&place.ends(), &(1, 1, 0), &"given up")?;
     drop(half);
     Ok(())
 }
@@ -218,6 +216,7 @@ fn end_beside_silence<R: Net<Stream = TcpStream> + Clock>(
         &true,
         &"closed",
     )?;
+    same(&place.ends(), &(2, 1, 0), &"the Check, and who was silent")?;
     drop(half);
     Ok(())
 }

@@ -1,4 +1,4 @@
-use crate::tests::scenes::{Place, Scene, client, rest};
+use crate::scenes::{Place, Scene, client, rest};
 use std::io::Write;
 use std::net::{Net, TcpStream};
 use std::test::Fail;

@@ -1,6 +1,6 @@
 //! A registry, a loop over a socket of 127.0.0.1, and clients, all in one thread.
 
-use crate::{Acceptor, EventServer, Limits, News, Places};
+use live_server::{Acceptor, EventServer, Limits, News, Places};
 use mio::net::TcpListener;
 use std::alloc::Global;
 use std::io::{Read, Write};
@@ -8,23 +8,23 @@ use std::net::{Net, SocketAddr, TcpStream};
 use std::sync::Arc;
 use std::test::Fail;
 use std::time::{Clock, Duration};
-pub(super) use web_call::staged::Staged as Scene;
+pub(crate) use web_call::staged::Staged as Scene;
 
 /// How many rounds a test lets a loop make at a time.
-const ROUNDS: usize = 4;
+pub(crate) const ROUNDS: usize = 4;
 
 /// A loop over a socket, and the address of that. A test lends it to a function that has the steps: each exit of a function that owns a
 /// loop would have to be proved to drop one.
 #[derive(Drop)]
-pub(super) struct Place {
-    pub(super) alloc: Global,
-    pub(super) server: EventServer,
-    pub(super) addr: SocketAddr,
-    pub(super) news: News,
+pub(crate) struct Place {
+    pub(crate) alloc: Global,
+    pub(crate) server: EventServer,
+    pub(crate) addr: SocketAddr,
+    pub(crate) news: News,
 }
 
 impl Place {
-    pub(super) fn new<R: Net + Clock>(
+    pub(crate) fn new<R: Net + Clock>(
         rt: &R,
         alloc: Global,
         connections: usize,
@@ -51,21 +51,27 @@ impl Place {
     }
 
     /// Lets the loop make some rounds.
-    pub(super) fn rounds<R: Clock>(&mut self, rt: &R, scene: &Scene) -> Result<(), Fail> {
+    pub(crate) fn rounds<R: Clock>(&mut self, rt: &R, scene: &Scene) -> Result<(), Fail> {
         for _ in 0..ROUNDS {
             self.round(rt, scene)?;
         }
         Ok(())
     }
 
-    pub(super) fn round<R: Clock>(&mut self, rt: &R, scene: &Scene) -> Result<(), Fail> {
+    /// How many conversations have ended, how many of them were given up, and how many are gone.
+    pub(crate) fn ends(&self) -> (u64, u64, u64) {
+        let counts = self.server.counts();
+        (self.server.ended(), counts.given_up, counts.gone)
+    }
+
+    pub(crate) fn round<R: Clock>(&mut self, rt: &R, scene: &Scene) -> Result<(), Fail> {
         self.server.round(rt, &mut scene.door(), &self.news)?;
         Ok(())
     }
 }
 
 /// A client that has sent this, and waits for at most five seconds for each read.
-pub(super) fn client<R: Net<Stream = TcpStream>>(
+pub(crate) fn client<R: Net<Stream = TcpStream>>(
     rt: &R,
     place: &Place,
     bytes: &[u8],
@@ -77,14 +83,14 @@ pub(super) fn client<R: Net<Stream = TcpStream>>(
 }
 
 /// All that a client is still sent.
-pub(super) fn rest(alloc: Global, stream: &mut TcpStream) -> Result<Vec<u8>, Fail> {
+pub(crate) fn rest(alloc: Global, stream: &mut TcpStream) -> Result<Vec<u8>, Fail> {
     let mut bytes = Vec::new(alloc);
     stream.read_to_end(&mut bytes)?;
     Ok(bytes)
 }
 
 /// What a client was sent by now, which is at most 512 bytes, and comes in one read.
-pub(super) fn sent(alloc: Global, stream: &mut TcpStream) -> Result<Vec<u8>, Fail> {
+pub(crate) fn sent(alloc: Global, stream: &mut TcpStream) -> Result<Vec<u8>, Fail> {
     let mut buffer = [0u8; 512];
     let count = stream.read(&mut buffer)?;
     Ok(buffer[..count].to_vec(alloc)?)

@@ -1,4 +1,4 @@
-use crate::tests::scenes::{Place, Scene, client, rest, sent};
+use crate::scenes::{Place, Scene, client, rest, sent};
 use desk_core::Setting;
 use std::alloc::Global;
 use std::net::{Net, TcpStream};

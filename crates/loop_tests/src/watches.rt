@@ -1,4 +1,4 @@
-use crate::tests::scenes::{Place, Scene, client, rest, sent};
+use crate::scenes::{Place, Scene, client, rest, sent};
 use desk_core::Setting;
 use std::alloc::Global;
 use std::io::Write;
@@ -62,13 +62,8 @@ fn tell_changes<R: Net<Stream = TcpStream> + Clock>(
         let found = rest(place.alloc, stream)?;
         same(&found.ends_with(b"\r\n0\r\n\r\n"), &true, &"the end")?;
     }
-    let counts = place.server.counts();
-    let found = (
-        place.server.connections(),
-        place.server.ended(),
-        counts.given_up,
-    );
-    same(&found, &(0, 3, 0), &"all have ended")
+    same(&place.server.connections(), &0, &"all have ended")?;
+    same(&place.ends(), &(3, 0, 0), &"all have ended")
 }
 
 #[test]

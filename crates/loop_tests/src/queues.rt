@@ -1,6 +1,6 @@
 //! When connections that wait are accepted.
 
-use crate::Queue;
+use live_server::Queue;
 use std::io::ErrorKind;
 use std::test::Fail;
 use std::time::{Duration, Instant};

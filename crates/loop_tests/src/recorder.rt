@@ -1,0 +1,93 @@
+//! What a loop asks its door.
+
+use crate::scenes::{Place, Scene};
+use desk_core::{Behind, Watch};
+use health_wire::Serving;
+use std::test::Fail;
+use std::time::Clock;
+use web_call::Door;
+
+/// The most that a recorder takes down.
+pub(crate) const MOST: usize = 16;
+
+/// A door that takes down what it is asked first: a Check as `c`, an opening as `o`, a step as `s`, and that it is renewed as `r`. It
+/// counts all.
+#[derive(Drop)]
+struct Recorder<'a, D: Door> {
+    door: &'a mut D,
+    asked: [u8; MOST],
+    count: usize,
+}
+
+impl<D: Door> Recorder<'_, D> {
+    ghost use Rattle.std.specs.Prelude.{◌≡◌};
+
+    fn note(&mut self, asked: u8)
+        ensures { self.new.door ≡ self.old.door }
+    {
+        if let Some(place) = self.asked.get_mut(self.count) {
+            *place = asked;
+        }
+        self.count = self.count.saturating_add(1);
+    }
+}
+
+impl<D: Door> Door for Recorder<'_, D> {
+    ghost names = { λ recorder. D.names recorder.door.now };
+
+    ghost seen = { λ recorder. D.seen recorder.door.now };
+
+    ghost follows = { D.follows };
+
+    ghost kept = { D.kept };
+
+    ghost stays = { λ a b. D.stays a.door.now b.door.now };
+
+    ghost stays_self = { λ a. D.stays_self a.door.now };
+
+    ghost stays_on = { λ a b c. D.stays_on a.door.now b.door.now c.door.now };
+
+    fn check(&mut self, name: &str) -> Option<Serving> {
+        self.note(b'c');
+        self.door.check(name)
+    }
+
+    fn open(&mut self, name: &str) -> (Watch, Serving) {
+        self.note(b'o');
+        self.door.open(name)
+    }
+
+    fn step(&mut self, watch: &mut Watch) -> Result<Option<Serving>, Behind> {
+        self.note(b's');
+        self.door.step(watch)
+    }
+
+    fn renew(&mut self) {
+        self.note(b'r');
+        self.door.renew();
+    }
+}
+
+/// What a loop asks its door first in a round, and how often it asks it.
+fn round_of<R: Clock, D: Door>(
+    rt: &R,
+    place: &mut Place,
+    door: &mut D,
+) -> Result<([u8; MOST], usize), Fail> {
+    let mut recorder = Recorder {
+        door,
+        asked: [b'.'; MOST],
+        count: 0,
+    };
+    place.server.round(rt, &mut recorder, &place.news)?;
+    Ok((recorder.asked, recorder.count))
+}
+
+/// The same over the registry.
+pub(crate) fn asked_in_round<R: Clock>(
+    rt: &R,
+    place: &mut Place,
+    scene: &Scene,
+) -> Result<([u8; MOST], usize), Fail> {
+    round_of(rt, place, &mut scene.door())
+}
