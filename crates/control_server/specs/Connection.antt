@@ -3,17 +3,19 @@
 use Rattle.std.specs.Prelude.{ℕ, ◌≡◌, List, false}
 use Rattle.std.specs.List.{slice_index_or}
 use Rattle.control.specs.declared.stream.ControlStream.{ControlStream}
+use Rattle.control.specs.declared.terms.Terms.{Terms}
 use Rattle.control.specs.Session.{SessionState}
 use Rattle.hall.specs.Looking.{HasLooked}
 use Rattle.hall.specs.Seats.{SeatState}
 use Rattle.reactor.specs.declared.connection.Connection.{Connection}
+use Rattle.reactor.specs.contracts.talking.SessionMachine.TheImpl.{ghosts}
 use Rattle.reactor.specs.Connection.{may_look_at, state_of}
 use Rattle.reactor.specs.Moved.{Moved}
 use Rattle.reactor.specs.Talking.{HasSaid}
 use Rattle.control_server.specs.SeatLines.{IsMetBySeat}
 
 abbrev pub SessionConnection : Type 0
-SessionConnection = Connection ControlStream SessionState
+SessionConnection = Connection ControlStream SessionState ghosts
 
 -- the session of a connection
 abbrev pub session_of : SessionConnection → SessionState
@@ -23,11 +25,11 @@ session_of connection = (state_of connection).machine
 abbrev pub IsQuiet : SessionConnection → Type 0
 IsQuiet connection = may_look_at (λ session. false) (λ session. session.waiting) (state_of connection) ≡ false
 
--- a session moved this by a seat, which has met its lines, each with its answer; in between the seat has at most looked
-abbrev pub SpeaksBy : List (List ℕ) → SeatState → SeatState → SessionState → SessionState → Moved → Type 0
-SpeaksBy names old new session session_now moved = HasSaid HasLooked (IsMetBySeat names) names old new session session_now moved
+-- a session moved this by a seat, which has met its lines by these terms, each with its answer; in between the seat has at most looked
+abbrev pub SpeaksBy : Terms → List (List ℕ) → SeatState → SeatState → SessionState → SessionState → Moved → Type 0
+SpeaksBy terms names old new session session_now moved = HasSaid HasLooked (IsMetBySeat terms names) names old new session session_now moved
 
 -- a session moved this by the seat of this key
-abbrev pub SpeaksAt : List (List ℕ) → ℕ → List SeatState → List SeatState → SessionState → SessionState → Moved → Type 0
-SpeaksAt names key old new session session_now moved =
-    (other : SeatState) → SpeaksBy names (slice_index_or old key other) (slice_index_or new key other) session session_now moved
+abbrev pub SpeaksAt : Terms → List (List ℕ) → ℕ → List SeatState → List SeatState → SessionState → SessionState → Moved → Type 0
+SpeaksAt terms names key old new session session_now moved =
+    (other : SeatState) → SpeaksBy terms names (slice_index_or old key other) (slice_index_or new key other) session session_now moved

@@ -1,6 +1,7 @@
 -- What sessions make of the seat that they have, one after the other, and what of it is in the seat's history.
-use Rattle.std.specs.Prelude.{ℕ, ◌≡◌, Option, Some, List, [], ◌∷◌, ◌++◌, length, Result}
+use Rattle.std.specs.Prelude.{ℕ, ◌≡◌, ◌-◌, Option, Some, None, List, [], ◌∷◌, ◌++◌, length, Result}
 use Rattle.desk_core.specs.declared.call.Call.{Call}
+use Rattle.desk_core.specs.declared.call.Call.TheVariants as calls
 use Rattle.desk_core.specs.declared.refusal.Refusal.{Refusal}
 use Rattle.desk_core.specs.declared.reply.Reply.{Reply}
 use Rattle.desk_core.specs.Past.{past}
@@ -12,20 +13,26 @@ use Rattle.script.specs.declared.line.Line.{Line}
 use Rattle.script.specs.Change.{line_change}
 use Rattle.script.specs.TextLines.{without_cr}
 use Rattle.control.specs.declared.answer.Answer.{Answer}
-use Rattle.control.specs.declared.answer.Answer.TheVariants.{Changed, Checked, Board, Listed, Told, Stopping, BadLine, TooLong, OutOfMemory, Skipped}
+use Rattle.control.specs.declared.answer.Answer.TheVariants.{Changed, Checked, Board, Listed, Told, Stopping, BadLine, TooLong, NotAllowed, OutOfMemory, Skipped}
 use Rattle.control.specs.declared.request.Request.TheVariants as requests
+use Rattle.control.specs.declared.stats.Stats.{Stats}
+use Rattle.control.specs.declared.terms.Terms.{Terms}
 use Rattle.control.specs.Request.{IsRequest}
 use Rattle.control.specs.Meeting.{IsLineMet}
 use Rattle.control.specs.Talk.{AreMet}
 
--- The line is met by the seat with this answer: a change by a change of the seat, anything else by what the seat has seen
-abbrev pub IsMetBySeat : List (List ℕ) → SeatState → SeatState → List ℕ → Answer → Type 0
-IsMetBySeat names old new line answer =
-    IsLineMet names (λ seat. seat.seen) HasLooked IsCarriedOut (λ seat stats. stats.entries ≡ length seat.seen) (λ before after. after ≡ before) old new line answer
+-- the numbers of entries, those that were made and those that may still be made, are those of what the seat has seen
+abbrev pub CountsSeen : Terms → SeatState → Stats → Type 0
+CountsSeen terms seat stats = (stats.entries ≡ length seat.seen) × (stats.left ≡ terms.most - length seat.seen)
+
+-- The line is met by the seat with this answer, by these terms: a change by a change of the seat, anything else by what the seat has seen
+abbrev pub IsMetBySeat : Terms → List (List ℕ) → SeatState → SeatState → List ℕ → Answer → Type 0
+IsMetBySeat terms names old new line answer =
+    IsLineMet terms.rights names (λ seat. seat.seen) HasLooked IsCarriedOut (CountsSeen terms) (λ before after. after ≡ before) old new line answer
 
 -- By this seat these lines were met, one after the other, each with its answer at its point of the history. In between it has at most looked
-abbrev pub HasMet : List (List ℕ) → SeatState → SeatState → List (List ℕ) → List Answer → Type 0
-HasMet names old new lines answers = AreMet HasLooked (IsMetBySeat names) old new lines answers
+abbrev pub HasMet : Terms → List (List ℕ) → SeatState → SeatState → List (List ℕ) → List Answer → Type 0
+HasMet terms names old new lines answers = AreMet HasLooked (IsMetBySeat terms names) old new lines answers
 
 -- the results of the changes among answers
 abbrev pub results_of : List Answer → List (Result Reply Refusal)
@@ -38,6 +45,7 @@ results_of (Told stats ∷ answers) = results_of answers
 results_of (Stopping ∷ answers) = results_of answers
 results_of (BadLine ∷ answers) = results_of answers
 results_of (TooLong ∷ answers) = results_of answers
+results_of (NotAllowed ∷ answers) = results_of answers
 results_of (OutOfMemory ∷ answers) = results_of answers
 results_of (Skipped ∷ answers) = results_of answers
 
@@ -61,3 +69,18 @@ pub record HasMade (old new : SeatState) (calls : List (Option Call)) (results :
   pub same : new ≡ with_seen old new.seen
   pub begins : IsOlder old.seen new.seen
   pub own : own_calls new ≡ past (replied old.number calls results) ++ own_calls old
+
+-- the change tells what was found; one whose name is not listed changes nothing
+abbrev pub IsFindingAsked : Option Call → Type 0
+IsFindingAsked None = Unit {0}
+IsFindingAsked (Some (calls.Register slot rule)) = ⊥
+IsFindingAsked (Some (calls.Retire slot)) = ⊥
+IsFindingAsked (Some (calls.Observe slot finding)) = Unit {0}
+IsFindingAsked (Some (calls.Set slot setting)) = ⊥
+IsFindingAsked (Some calls.Shutdown) = ⊥
+IsFindingAsked (Some calls.Resume) = ⊥
+
+-- each of the changes does
+abbrev pub AreFindings : List (Option Call) → Type 0
+AreFindings [] = Unit {0}
+AreFindings (call ∷ others) = IsFindingAsked call × AreFindings others

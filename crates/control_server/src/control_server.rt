@@ -1,12 +1,17 @@
-ghost use Rattle.std.specs.Prelude.{◌≡◌};
+ghost use Rattle.std.specs.Prelude.{◌≡◌, ℕ, IfSome};
+ghost use Rattle.connection_table.specs.Table.{place_at};
+ghost use Rattle.reactor.specs.Connection.{state_of};
+ghost use Rattle.reactor.specs.Talking.{IsSessionOf};
+ghost use Rattle.control_server.specs.Server.{sessions_of};
 
 use crate::acceptor::ControlAcceptor;
 use crate::context::Context;
 use crate::sessions::{SESSION_SEATS, Sessions};
-use control::{ControlListener, ControlStream, Session};
+use control::{ControlListener, ControlStream, Session, Terms};
 use desk_core::Keep;
 use hall::Seat;
-use live_server::{EventLoop, Limits, Places, Tally};
+use handover::Notifier;
+use live_server::{EventLoop, Limits, Places, Tally, connections_stand};
 use probe_core::{Maker, Probe};
 use std::alloc::Global;
 use std::io;
@@ -29,30 +34,60 @@ pub struct ControlServer {
     tallies: Vec<Arc<Tally>>,
     /// Not 0 once a session was told to stop the server.
     stops: AtomicU64,
+    /// What holds for its sessions.
+    terms: Terms,
+    /// Tells a supervisor that the server was told to stop.
+    notifier: Notifier,
 }
 
 impl ControlServer {
-    ghost use Rattle.std.specs.Prelude.{◌≡◌};
+    ghost use Rattle.std.specs.Prelude.{◌≡◌, IfOk};
     ghost use Rattle.std.specs.List.{All};
     ghost use Rattle.hall.specs.Seats.{IsOf};
     ghost use Rattle.connection_table.specs.Table.{held_count};
-    ghost use Rattle.control_server.specs.Server.{sessions_of};
+    ghost use Rattle.control_server.specs.Server.{sessions_of, terms_of};
     ghost use Rattle.control_server.specs.Seats.{SeatsHaveMet};
     ghost use Rattle.live_server.specs.Settled.{KeepsAccount};
 
-    /// A loop over a control place, whose sessions tell what the loops with these tallies count.
+    /// A loop over a place whose sessions may ask for so much, and tell what the loops with these tallies count.
     pub fn new<R: Net + Clock>(
         rt: &R,
         alloc: Global,
         listener: ControlListener,
         tallies: Vec<Arc<Tally>>,
-    ) -> io::Result<ControlServer> {
+        terms: Terms,
+    ) -> io::Result<ControlServer>
+        ensures { IfOk result (λ server. terms_of server ≡ terms) }
+    {
         let places = Arc::new(alloc, Places::new(LIMITS))?;
         Ok(ControlServer {
             sessions: EventLoop::new(rt, alloc, ControlAcceptor::new(listener), places)?,
             tallies,
             stops: AtomicU64::new(0),
+            terms,
+            notifier: Notifier::nobody(),
         })
+    }
+
+    /// The same loop, which tells a supervisor once a session stops the server.
+    pub fn notifying(self, notifier: Notifier) -> ControlServer
+        ensures terms { terms_of result ≡ terms_of self }
+        ensures sessions { sessions_of result ≡ sessions_of self }
+    {
+        let ControlServer {
+            sessions,
+            tallies,
+            stops,
+            terms,
+            notifier: _,
+        } = self;
+        ControlServer {
+            sessions,
+            tallies,
+            stops,
+            terms,
+            notifier,
+        }
     }
 
     /// Takes the file of a Unix socket away, once it accepts no more, where it is still this one's.
@@ -69,17 +104,29 @@ impl ControlServer {
     where
         R: Wait + Clock,
         requires ours { All (IsOf context.now.hall.now) seats.old }
-        ensures met { SeatsHaveMet context.now.hall.now.names seats.old seats.new }
+        ensures met { SeatsHaveMet (terms_of self.old) context.now.hall.now.names seats.old
+            seats.new }
         ensures ours { All (IsOf context.now.hall.now) seats.new }
         ensures account { KeepsAccount (sessions_of self.old) (sessions_of self.new) }
         ensures all { held_count (sessions_of self.new) ≡ 0 }
+        ensures terms { terms_of self.new ≡ terms_of self.old }
     {
         let mut handler = Sessions {
             context,
             seats,
             tallies: self.tallies.as_slice(),
             stops: &self.stops,
+            terms: self.terms,
+            notifier: &self.notifier,
         };
         self.sessions.run(context.rt, &mut handler, context.news);
     }
+}
+
+/// At any moment, what a key holds is a connection of one session, which is what all comes to that it has moved since it began.
+pub fn sessions_stand(server: &ControlServer)
+    ensures { (key : ℕ) → IfSome (place_at (sessions_of server.now) key) (λ place.
+        ∥ IsSessionOf (state_of place.connection).past (state_of place.connection).machine ∥₁) }
+{
+    connections_stand(&server.sessions);
 }

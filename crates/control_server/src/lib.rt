@@ -7,6 +7,7 @@
 //!
 //! ghost use Rattle.std.specs.List.{All};
 //! ghost use Rattle.control_server.specs.Seats.{SeatsHaveMet};
+//! ghost use Rattle.control_server.specs.Server.{terms_of};
 //! ghost use Rattle.hall.specs.Seats.{IsOf};
 //!
 //! use control_server::{Context, ControlServer};
@@ -27,7 +28,7 @@
 //! where
 //!     R: Wait + Clock + Files,
 //!     requires ours { All (IsOf context.now.hall.now) seats.old }
-//!     ensures met { SeatsHaveMet context.now.hall.now.names seats.old seats.new }
+//!     ensures met { SeatsHaveMet (terms_of server.old) context.now.hall.now.names seats.old seats.new }
 //!     ensures ours { All (IsOf context.now.hall.now) seats.new }
 //! {
 //!     server.run(context, seats);
@@ -44,7 +45,7 @@ mod overview;
 mod sessions;
 
 pub use context::Context;
-pub use control_server::ControlServer;
-pub use laws::{lines_make_changes, turns_make_a_session};
+pub use control_server::{ControlServer, sessions_stand};
+pub use laws::{lines_make_changes, reports_tell_findings, turns_make_a_session};
 pub use overview::Overview;
 pub use sessions::{MAX_SESSIONS, SESSION_SEATS};

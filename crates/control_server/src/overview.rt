@@ -1,4 +1,4 @@
-use control::{Counts, Ended, OpenNow, Server};
+use control::{Counts, Ended, OpenNow, Server, Terms};
 use live_server::{News, Tally};
 use std::sync::Arc;
 use std::sync::atomic::{AtomicU64, Ordering};
@@ -12,6 +12,8 @@ pub struct Overview<'a> {
     pub tallies: &'a [Arc<Tally>],
     /// How many sessions there are.
     pub sessions: u64,
+    /// What holds for them.
+    pub terms: Terms,
     /// Not 0 once a session was told to stop the server.
     pub stops: &'a AtomicU64,
 }
@@ -20,11 +22,17 @@ pub struct Overview<'a> {
 impl<'a> Server for Overview<'a> {
     ghost use Rattle.std.specs.Prelude.{◌≡◌};
 
+    ghost terms = { λ overview. overview.terms };
+
     ghost counted = { λ overview counts. Unit {0} };
 
     ghost woken = { λ old new. new ≡ old };
 
     ghost stopped = { λ old new. new ≡ old };
+
+    fn terms(&self) -> Terms {
+        self.terms
+    }
 
     fn counts(&self) -> Counts {
         counts_of(self.tallies, self.sessions)
@@ -50,6 +58,7 @@ fn counts_of(tallies: &[Arc<Tally>], sessions: u64) -> Counts {
         calls: 0,
         given_up: 0,
         behind: 0,
+        gone: 0,
     };
     for tally in tallies {
         let loaded = tally.load();
@@ -58,6 +67,11 @@ fn counts_of(tallies: &[Arc<Tally>], sessions: u64) -> Counts {
         ended.calls = ended.calls.saturating_add(loaded.ended);
         ended.given_up = ended.given_up.saturating_add(loaded.given_up);
         ended.behind = ended.behind.saturating_add(loaded.behind);
+        ended.gone = ended.gone.saturating_add(loaded.gone);
     }
-    Counts { current, ended }
+    Counts {
+        current,
+        ended,
+        expired: 0,
+    }
 }

@@ -12,10 +12,11 @@ ghost use Rattle.crew.specs.HallDoor.{door_hall, door_seat};
 
 use crate::context::Context;
 use crate::overview::Overview;
-use control::{ControlStream, Session};
+use control::{ControlStream, Session, Terms};
 use crew::HallDoor;
 use desk_core::Keep;
 use hall::Seat;
+use handover::Notifier;
 use live_server::{Handler, Tally, Visit};
 use probe_core::{Maker, Probe};
 use reactor::{Attendant, Connection, End, Left, Occasion};
@@ -25,7 +26,7 @@ use std::marker::PhantomData;
 use std::sync::atomic::{AtomicU64, Ordering};
 use std::sync::{Arc, Wait};
 use std::time::Instant;
-use web_call::Why;
+use web_call::{Turn, Why};
 
 /// The most sessions at once.
 pub const MAX_SESSIONS: u16 = 16;
@@ -47,6 +48,10 @@ pub(crate) struct Sessions<'s, 'a, 'b, R, P: Probe, K: Keep, M> {
     pub(crate) tallies: &'a [Arc<Tally>],
     /// Not 0 once a session was told to stop the server.
     pub(crate) stops: &'a AtomicU64,
+    /// What holds for them.
+    pub(crate) terms: Terms,
+    /// Tells a supervisor that the server was told to stop.
+    pub(crate) notifier: &'a Notifier,
 }
 
 /// A session that begins now.
@@ -85,7 +90,8 @@ fn turn_by<R: Wait, P: Probe, K: Keep, M: Maker<P>>(
 ) -> Left
     requires seat { IsOf context.now.hall.now seat.old }
     requires room { 0 < length buffer.old }
-    ensures { (moved : Moved) × SpeaksBy context.now.hall.now.names seat.old seat.new
+    ensures { (moved : Moved) × SpeaksBy overview.entry.terms context.now.hall.now.names seat.old
+        seat.new
         (session_of connection.old) (session_of connection.new) moved }
 {
     let mut door = HallDoor::new(context.rt, context.hall, seat);
@@ -112,7 +118,8 @@ fn turn_over<R: Wait, P: Probe, K: Keep, M: Maker<P>>(
 ) -> Left
     requires room { 0 < length buffer.old }
     ensures reference { door.new.seat.ghost_name ≡ door.old.seat.ghost_name }
-    ensures spoken { (moved : Moved) × SpeaksBy (door_hall door.old).names (door_seat door.old)
+    ensures spoken { (moved : Moved) × SpeaksBy server.entry.terms (door_hall door.old).names
+        (door_seat door.old)
         (door_seat door.new) (session_of connection.old) (session_of connection.new) moved }
 {
     let mut attendant = Attendant {
@@ -136,7 +143,8 @@ fn turn_at<R: Wait, P: Probe, K: Keep, M: Maker<P>>(
     ensures reference { attendant.new.console.ghost_name ≡ attendant.old.console.ghost_name }
     ensures seat { attendant.new.console.now.seat.ghost_name
         ≡ attendant.old.console.now.seat.ghost_name }
-    ensures spoken { (moved : Moved) × SpeaksBy (door_hall attendant.old.console.now).names
+    ensures spoken { (moved : Moved) × SpeaksBy attendant.old.server.terms
+        (door_hall attendant.old.console.now).names
         (door_seat attendant.old.console.now) (door_seat attendant.new.console.now)
         (session_of connection.old) (session_of connection.new) moved }
 {
@@ -155,10 +163,11 @@ fn turn_by_key<R: Wait, P: Probe, K: Keep, M: Maker<P>>(
 ) -> Left
     requires ours { All (IsOf context.now.hall.now) seats.old }
     requires room { 0 < length buffer.old }
-    ensures met { SeatsHaveMet context.now.hall.now.names seats.old seats.new }
+    ensures met { SeatsHaveMet overview.entry.terms context.now.hall.now.names seats.old seats.new }
     ensures ours { All (IsOf context.now.hall.now) seats.new }
     ensures own { IsByKey visit.key seats.old seats.new }
-    ensures spoken { (moved : Moved) × SpeaksAt context.now.hall.now.names visit.key seats.old seats.new
+    ensures spoken { (moved : Moved) × SpeaksAt overview.entry.terms context.now.hall.now.names
+        visit.key seats.old seats.new
         (session_of connection.old) (session_of connection.new) moved }
 {
     let key = visit.key;
@@ -193,10 +202,14 @@ impl<R: Wait, P: Probe, K: Keep, M: Maker<P>> Handler<ControlStream, Session>
         now: Instant,
         talking: usize,
     ) -> Option<SessionConnection> {
-        if talking >= self.seats.len().min(usize::from(MAX_SESSIONS)) {
+        if self.is_full(talking) {
             return turn_away(alloc, stream, now);
         }
         begin(alloc, stream, now)
+    }
+
+    fn is_full(&self, talking: usize) -> bool {
+        talking >= self.seats.len().min(usize::from(MAX_SESSIONS))
     }
 
     fn turn(
@@ -206,11 +219,17 @@ impl<R: Wait, P: Probe, K: Keep, M: Maker<P>> Handler<ControlStream, Session>
         connection: &mut SessionConnection,
         buffer: &mut [u8],
     ) -> Left {
+        // Another session may have stopped the server since the round began.
+        let mut visit = visit;
+        if self.context.news.has_ended() {
+            visit.occasion.then = Turn::End;
+        }
         let overview = Overview {
             news: self.context.news,
             tallies: self.tallies,
             sessions: visit.talking as u64,
             stops: self.stops,
+            terms: self.terms,
         };
         let left = turn_by_key(
             alloc,
@@ -224,6 +243,7 @@ impl<R: Wait, P: Probe, K: Keep, M: Maker<P>> Handler<ControlStream, Session>
         // The answer to `stop` was sent by then, unless it has to wait for room.
         if self.stops.load(Ordering::SeqCst) != 0 && !self.context.news.has_ended() {
             self.context.news.end();
+            let _ = self.notifier.stopping();
         }
         left
     }

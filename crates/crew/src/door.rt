@@ -42,7 +42,13 @@ impl<'a, R: Wait, P: Probe, K: Keep> HallDoor<'a, R, P, K> {
     pub(crate) fn made(&self) -> u64
         ensures { IsLegal (door_seat self.now).seen }
     {
-        self.seat.made()
+        // Every field is named: one to answer from could not be added unseen.
+        let HallDoor {
+            rt: _,
+            hall: _,
+            seat,
+        } = self;
+        seat.made()
     }
 
     /// Takes over into the copy what the status changes are by now. It waits for the seat's turn.
@@ -144,6 +150,3 @@ impl<'a, R: Wait, P: Probe, K: Keep> Console<P> for HallDoor<'a, R, P, K> {
         self.hall.extent(self.rt, self.seat)
     }
 }
-
-#[cfg(test)]
-mod tests;

@@ -1,3 +1,4 @@
 pub mod LoopLemmas
 pub mod RunLemmas
+pub mod SeatingLemmas
 pub mod SetupLines

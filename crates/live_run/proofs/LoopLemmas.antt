@@ -1,5 +1,5 @@
 -- The seats of a hall before and after loops have served by them.
-use Rattle.std.proofs.Common.{◌≡◌, ℕ, zero, suc, ◌+◌, ◌-◌, ◌<◌, List, [], ◌∷◌, ◌++◌, map, take, drop, length, get_or, sym, refl, ap, subst, ◌∙◌, arith, length-append, ⊎_elim}
+use Rattle.std.proofs.Common.{◌≡◌, ℕ, zero, suc, ◌+◌, ◌-◌, ◌<◌, ◌≤◌, List, [], ◌∷◌, ◌++◌, map, take, drop, length, get_or, sym, refl, ap, subst, ◌∙◌, arith, length-append, ⊎_elim}
 use Rattle.std.specs.List.{All, sum_by}
 use Rattle.std.proofs.lemmas.Bool.{cases_lt}
 use Rattle.std.proofs.lemmas.List.{append-nil, drop_all, take_all, length-map, get_or-map, get_or_append_left, get_or-append_right}
@@ -12,7 +12,9 @@ use Rattle.live_run.specs.declared.seated_loop.SeatedLoop.{SeatedLoop}
 use Rattle.live_server.specs.Loop.{EventServer}
 use Rattle.control_server.specs.Seats.{MetLines, SeatsHaveMet}
 use Rattle.control_server.proofs.SeatLemmas.{met_line_ours}
-use Rattle.control_server.specs.Sessions.{unused}
+use Rattle.control.specs.declared.rights.Rights.TheVariants.{All as AllRights, Reports}
+use Rattle.control.specs.declared.terms.Terms.{Terms}
+use Rattle.live_run.specs.Sitting.{terms_by}
 use Rattle.live_run.specs.Loops.{HasServedAll, HaveServed, HaveServedAll, SeatsHaveLooked, SeatsHaveServed}
 
 -- an element of the middle one of three parts
@@ -60,35 +62,57 @@ seats_looked {P} {K} first rest old new loops one count same served =
           ∙ (ap (λ (n : ℕ). get_or rest (place - 1 - n) other) same ∙ sym (behind seat first rest old place other one (omega (arith, past, count))));
     }
 
--- where only loops have served, no lines were met
-pub looked_served : (names : List (List ℕ)) (loops : ℕ) (old new : List SeatState) → SeatsHaveLooked loops old new → SeatsHaveServed names loops old new
-looked_served names loops old new looked = record {
-  seats = looked.seats;
-  first = looked.first;
-  looked = looked.looked;
-  sessions = λ place other past below.
-      subst (λ (seat : SeatState). MetLines names (get_or old place other) seat) (sym (looked.spare place other past)) (unused names (get_or old place other));
-}
+-- where nobody held sessions, the seats behind the loops' are as they were
+pub seats_looked_by : {P K : Type 0} (first control control' report report' : List SeatState) (old new : List (SeatedLoop P K)) (loops : ℕ) → length first ≡ 1 → length old ≡ loops → length new ≡ length old
+    → HaveServed old new → control' ≡ control → report' ≡ report
+    → SeatsHaveLooked loops (first ++ (map (λ seated. seated.seat) old ++ (control ++ report))) (first ++ (map (λ seated. seated.seat) new ++ (control' ++ report')))
+seats_looked_by {P} {K} first control control' report report' old new loops one count same served still quiet =
+    let seat : SeatedLoop P K → SeatState = λ one. one.seat in
+    subst (λ (c : List SeatState). SeatsHaveLooked loops (first ++ (map seat old ++ (control ++ report))) (first ++ (map seat new ++ (c ++ report')))) (sym still)
+    (subst (λ (r : List SeatState). SeatsHaveLooked loops (first ++ (map seat old ++ (control ++ report))) (first ++ (map seat new ++ (control ++ r)))) (sym quiet)
+    (seats_looked first (control ++ report) old new loops one count same served))
+
+-- a seat of the first of two parts, and one of the second
+in_first : (terms : Terms) (names : List (List ℕ)) (control control' report report' : List SeatState) (k : ℕ) (other : SeatState) → SeatsHaveMet terms names control control' → k < length control
+    → MetLines terms names (get_or (control ++ report) k other) (get_or (control' ++ report') k other)
+in_first terms names control control' report report' k other met below =
+    rw (get_or_append_left control report other k below, get_or_append_left control' report' other k (omega (arith, below, met.count))) (met.each k other below)
+
+in_second : (terms mine : Terms) (names : List (List ℕ)) (control control' report report' : List SeatState) (k : ℕ) (other : SeatState) → SeatsHaveMet mine names control control'
+    → SeatsHaveMet terms names report report' → length control ≤ k → k < length control + length report → MetLines terms names (get_or (control ++ report) k other) (get_or (control' ++ report') k other)
+in_second terms mine names control control' report report' k other first met past below =
+    rw (get_or-append_right control report (length control) k other refl past, get_or-append_right control' report' (length control) k other first.count past)
+    (met.each (k - length control) other (omega (arith, past, below)))
 
 -- where sessions were held beside loops, the loops' seats have looked, and lines were met by those behind them
-pub seats_served : {P K : Type 0} (names : List (List ℕ)) (first rest rest' : List SeatState) (old new : List (SeatedLoop P K)) (loops : ℕ) → length first ≡ 1 → length old ≡ loops
-    → length new ≡ length old → HaveServed old new → SeatsHaveMet names rest rest'
-    → SeatsHaveServed names loops (first ++ (map (λ seated. seated.seat) old ++ rest)) (first ++ (map (λ seated. seated.seat) new ++ rest'))
-seats_served {P} {K} names first rest rest' old new loops one count same served met =
-    let seat : SeatedLoop P K → SeatState = λ one. one.seat in record {
-      seats = omega (arith, long seat first rest old, long seat first rest' new, same, met.count);
+pub seats_served : {P K : Type 0} (most : ℕ) (names : List (List ℕ)) (first control control' report report' : List SeatState) (old new : List (SeatedLoop P K)) (loops controlled : ℕ) → length first ≡ 1
+    → length old ≡ loops → length new ≡ length old → length control ≡ controlled → HaveServed old new
+    → SeatsHaveMet (terms_by AllRights most) names control control' → SeatsHaveMet (terms_by Reports most) names report report'
+    → SeatsHaveServed most names loops controlled (first ++ (map (λ seated. seated.seat) old ++ (control ++ report))) (first ++ (map (λ seated. seated.seat) new ++ (control' ++ report')))
+seats_served {P} {K} most names first control control' report report' old new loops controlled one count same split served met reported =
+    let seat : SeatedLoop P K → SeatState = λ one. one.seat in
+    let rest : List SeatState = control ++ report in
+    let rest' : List SeatState = control' ++ report' in
+    let lens : length rest' ≡ length rest = omega (arith, length-append control report, length-append control' report', met.count, reported.count) in
+    let at : (place : ℕ) (other : SeatState) → loops < place → get_or (first ++ (map seat old ++ rest)) place other ≡ get_or rest (place - 1 - loops) other =
+    λ place other past. behind seat first rest old place other one (omega (arith, past, count)) ∙ ap (λ (n : ℕ). get_or rest (place - 1 - n) other) count in
+    let at' : (place : ℕ) (other : SeatState) → loops < place → get_or (first ++ (map seat new ++ rest')) place other ≡ get_or rest' (place - 1 - loops) other =
+    λ place other past. behind seat first rest' new place other one (omega (arith, past, count, same)) ∙ ap (λ (n : ℕ). get_or rest' (place - 1 - n) other) (same ∙ count) in
+    let all : length (first ++ (map seat old ++ rest)) ≡ length first + (length old + length rest) = long seat first rest old in
+    record {
+      seats = omega (arith, all, long seat first rest' new, same, lens);
       first = λ other. get_or_append_left first (map seat new ++ rest') other 0 (omega (arith, one)) ∙ sym (get_or_append_left first (map seat old ++ rest) other 0 (omega (arith, one)));
-      looked = λ place other least most.
-          let at : 1 + (place - 1) ≡ place = omega (arith, least) in
-          subst (λ (n : ℕ). HasLooked (get_or (first ++ (map seat old ++ rest)) n other) (get_or (first ++ (map seat new ++ rest')) n other)) at
-          (loops_looked first rest rest' old new one same served (place - 1) other (omega (arith, least, most, count)));
-      sessions = λ place other past below.
-          let k : ℕ = place - 1 - loops in
-          let at : get_or (first ++ (map seat old ++ rest)) place other ≡ get_or rest k other =
-          behind seat first rest old place other one (omega (arith, past, count)) ∙ ap (λ (n : ℕ). get_or rest (place - 1 - n) other) count in
-          let at' : get_or (first ++ (map seat new ++ rest')) place other ≡ get_or rest' k other =
-          behind seat first rest' new place other one (omega (arith, past, count, same)) ∙ ap (λ (n : ℕ). get_or rest' (place - 1 - n) other) (same ∙ count) in
-          rw (at, at') (met.each k other (omega (arith, below, long seat first rest old, one, count, past)));
+      looked = λ place other least most_of.
+          let here : 1 + (place - 1) ≡ place = omega (arith, least) in
+          subst (λ (n : ℕ). HasLooked (get_or (first ++ (map seat old ++ rest)) n other) (get_or (first ++ (map seat new ++ rest')) n other)) here
+          (loops_looked first rest rest' old new one same served (place - 1) other (omega (arith, least, most_of, count)));
+      sessions = λ place other past within below.
+          rw (at place other past, at' place other past) (in_first (terms_by AllRights most) names control control' report report' (place - 1 - loops) other met (omega (arith, past, within, split)));
+      reports = λ place other past below.
+          let behind_loops : loops < place = omega (arith, past) in
+          rw (at place other behind_loops, at' place other behind_loops)
+          (in_second (terms_by Reports most) (terms_by AllRights most) names control control' report report' (place - 1 - loops) other met reported (omega (arith, past, split))
+          (omega (arith, past, below, all, one, count, length-append control report)));
     }
 
 -- the server of a loop that has served
@@ -154,27 +178,43 @@ loops_ours {P} {K} hall first rest loops one ours place other below =
     (All-get_or (IsOf hall) (first ++ (map seat loops ++ rest)) (1 + place) other.seat (omega (arith, long seat first rest loops, one, below)) ours)
 
 -- all seats stay the hall's beside sessions too
-ours_at : (names : List (List ℕ)) (hall : HallState) (loops : ℕ) (old new : List SeatState) → SeatsHaveServed names loops old new → (place : ℕ) (other : SeatState) → place < length old
-    → IsOf hall (get_or old place other) → IsOf hall (get_or new place other)
-ours_at names hall loops old new served zero other below was = subst (IsOf hall) (sym (served.first other)) was
-ours_at names hall loops old new served (suc place) other below was =
+ours_at : (most : ℕ) (names : List (List ℕ)) (hall : HallState) (loops controlled : ℕ) (old new : List SeatState) → SeatsHaveServed most names loops controlled old new → (place : ℕ) (other : SeatState)
+    → place < length old → IsOf hall (get_or old place other) → IsOf hall (get_or new place other)
+ours_at most names hall loops controlled old new served zero other below was = subst (IsOf hall) (sym (served.first other)) was
+ours_at most names hall loops controlled old new served (suc place) other below was =
     ⊎_elim
-    (λ past. met_line_ours names hall (get_or old (suc place) other) (get_or new (suc place) other) (served.sessions (suc place) other past below) was)
-    (λ most. looked_ours hall (get_or old (suc place) other) (get_or new (suc place) other) was (served.looked (suc place) other (omega arith) most))
+    (λ past. ⊎_elim
+    (λ far. met_line_ours (terms_by Reports most) names hall (get_or old (suc place) other) (get_or new (suc place) other) (served.reports (suc place) other far below) was)
+    (λ near. met_line_ours (terms_by AllRights most) names hall (get_or old (suc place) other) (get_or new (suc place) other) (served.sessions (suc place) other past near below) was)
+    (cases_lt (loops + controlled) (suc place)))
+    (λ most_of. looked_ours hall (get_or old (suc place) other) (get_or new (suc place) other) was (served.looked (suc place) other (omega arith) most_of))
     (cases_lt loops (suc place))
 
-pub all_ours : (names : List (List ℕ)) (hall : HallState) (loops : ℕ) (old new : List SeatState) → SeatsHaveServed names loops old new → All (IsOf hall) old → All (IsOf hall) new
-all_ours names hall loops old new served ours place other below =
+pub all_ours : (most : ℕ) (names : List (List ℕ)) (hall : HallState) (loops controlled : ℕ) (old new : List SeatState) → SeatsHaveServed most names loops controlled old new → All (IsOf hall) old
+    → All (IsOf hall) new
+all_ours most names hall loops controlled old new served ours place other below =
     let within : place < length old = omega (arith, served.seats, below) in
-    ours_at names hall loops old new served place other within (All-get_or (IsOf hall) old place other within ours)
+    ours_at most names hall loops controlled old new served place other within (All-get_or (IsOf hall) old place other within ours)
 
 -- the seats that sessions use are the hall's
-pub spare_ours : {X : Type 0} (seat : X → SeatState) (hall : HallState) (first rest : List SeatState) (loops : List X) → length first ≡ 1
+spare_ours : {X : Type 0} (seat : X → SeatState) (hall : HallState) (first rest : List SeatState) (loops : List X) → length first ≡ 1
     → All (IsOf hall) (first ++ (map seat loops ++ rest)) → All (IsOf hall) rest
 spare_ours seat hall first rest loops one ours place other below =
     subst (IsOf hall)
     (behind seat first rest loops (1 + length loops + place) other one (omega arith) ∙ ap (λ (n : ℕ). get_or rest n other) (omega arith))
     (All-get_or (IsOf hall) (first ++ (map seat loops ++ rest)) (1 + length loops + place) other (omega (arith, long seat first rest loops, one, below)) ours)
+
+pub control_ours : {X : Type 0} (seat : X → SeatState) (hall : HallState) (first control report : List SeatState) (loops : List X) → length first ≡ 1
+    → All (IsOf hall) (first ++ (map seat loops ++ (control ++ report))) → All (IsOf hall) control
+control_ours seat hall first control report loops one ours place other below =
+    subst (IsOf hall) (get_or_append_left control report other place below)
+    (All-get_or (IsOf hall) (control ++ report) place other (omega (arith, below, length-append control report)) (spare_ours seat hall first (control ++ report) loops one ours))
+
+pub report_ours : {X : Type 0} (seat : X → SeatState) (hall : HallState) (first control report : List SeatState) (loops : List X) → length first ≡ 1
+    → All (IsOf hall) (first ++ (map seat loops ++ (control ++ report))) → All (IsOf hall) report
+report_ours seat hall first control report loops one ours place other below =
+    subst (IsOf hall) (get_or-append_right control report (length control) (length control + place) other refl (omega arith) ∙ ap (λ (n : ℕ). get_or report n other) (omega arith))
+    (All-get_or (IsOf hall) (control ++ report) (length control + place) other (omega (arith, below, length-append control report)) (spare_ours seat hall first (control ++ report) loops one ours))
 
 -- a list whose slice was changed as a whole
 pub whole_again : {X : Type 0} (xs ys : List X) (len : ℕ) → length ys ≡ length xs → len ≡ length xs → take len (ys ++ drop (length ys) xs) ≡ ys

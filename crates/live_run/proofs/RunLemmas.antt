@@ -1,6 +1,6 @@
 -- The history of a hall that was run, where its first seat alone has made changes.
 use Rattle.std.proofs.Common.{◌≡◌, ℕ, zero, suc, ◌+◌, ◌-◌, ◌<◌, ◌≤◌, ◌≢◌, List, [], ◌∷◌, map, length, get_or, sym, refl, ap, subst, ◌∙◌, arith}
-use Rattle.std.specs.Prelude.{Bool, true, false, cond, ◌==◌, filter, reverse, Option, None, Some, IfNone, Result, slice_set, vec_len}
+use Rattle.std.specs.Prelude.{Bool, true, false, cond, min, ◌==◌, filter, reverse, Option, None, Some, IfNone, Result, slice_set, vec_len}
 use Rattle.std.specs.List.{All, sum_by, range_with_len}
 use Rattle.std.proofs.lemmas.List.{append-nil, length-map, length-reverse, reverse-reverse}
 use Rattle.std.proofs.lemmas.List.Elements.{All-get_or}
@@ -116,19 +116,28 @@ has_run hall own loops seats after journal same looked all legal seen counted = 
 }
 
 -- the same beside sessions
-pub served_by : {P K : Type 0} (names : List (List ℕ)) (servers : List EventServer) (loops : ℕ) (seats places after : List SeatState) (seating : Seating P K)
+pub served_by : {P K : Type 0} (most : ℕ) (names : List (List ℕ)) (servers : List EventServer) (loops : ℕ) (seats places after : List SeatState) (seating : Seating P K)
     → loops ≡ length servers → vec_len seating.loops ≡ length seating.loops.items → places ≡ seats → IsSeatingOf servers places seating
-    → SeatsHaveServed names (vec_len seating.loops) (seats_of seating) after → SeatsHaveServed names loops seats after
-served_by {P} {K} names servers loops seats places after seating count len same are served =
+    → SeatsHaveServed most names (vec_len seating.loops) (vec_len seating.control) (seats_of seating) after → SeatsHaveServed most names loops (vec_len seating.control) seats after
+served_by {P} {K} most names servers loops seats places after seating count len same are served =
     let server : SeatedLoop P K → EventServer = λ seated. seated.server in
     let many : vec_len seating.loops ≡ loops = len ∙ (sym (length-map seating.loops.items server) ∙ (ap length are.servers ∙ sym count)) in
-    subst (λ (some : List SeatState). SeatsHaveServed names loops some after) (are.seats ∙ same) (subst (λ (n : ℕ). SeatsHaveServed names n (seats_of seating) after) many served)
+    subst (λ (some : List SeatState). SeatsHaveServed most names loops (vec_len seating.control) some after) (are.seats ∙ same)
+    (subst (λ (n : ℕ). SeatsHaveServed most names n (vec_len seating.control) (seats_of seating) after) many served)
 
-pub has_run_beside : (hall own : HallState) (loops : ℕ) (seats after : List SeatState) (journal : List Entry) → own ≡ hall → SeatsHaveServed own.names loops seats after → length after ≡ own.seats
+-- how many seats the control place has
+pub controlled_by : {P K : Type 0} (servers : List EventServer) (loops : ℕ) (seats places : List SeatState) (seating : Seating P K) → loops ≡ length servers → places ≡ seats → IsSeatingOf servers places seating
+    → vec_len seating.control ≡ min 32 (length seats - (1 + loops))
+controlled_by servers loops seats places seating count same are =
+    are.control_are ∙ (ap (λ (n : ℕ). min 32 (length places - (1 + n))) (sym count) ∙ ap (λ (all : List SeatState). min 32 (length all - (1 + loops))) same)
+
+pub has_run_beside : (hall own : HallState) (loops controlled : ℕ) (seats after : List SeatState) (journal : List Entry) → own ≡ hall → controlled ≡ min 32 (length seats - (1 + loops)) → SeatsHaveServed own.most own.names loops controlled seats after → length after ≡ own.seats
     → IsLegal (past journal) → All (IsSeenIn (past journal)) after → length journal ≡ sum_by made after → HasRun hall loops seats (past journal)
-has_run_beside hall own loops seats after journal same served all legal seen counted = record {
+has_run_beside hall own loops controlled seats after journal same split served all legal seen counted = record {
+  controlled = controlled;
+  controlled_are = split;
   after = after;
-  served = subst (λ (one : HallState). SeatsHaveServed one.names loops seats after) same served;
+  served = subst (λ (one : HallState). SeatsHaveServed one.most one.names loops controlled seats after) same served;
   all = all ∙ ap (λ (one : HallState). one.seats) same;
   legal = legal;
   seen = seen;

@@ -1,4 +1,5 @@
 pub mod Loops
 pub mod RefusedLine
 pub mod Seating
+pub mod Sitting
 pub mod WholeRun

@@ -1,15 +1,15 @@
 -- What loops leave of a hall's seats.
-use Rattle.std.specs.Prelude.{ℕ, ◌≡◌, ◌<◌, ◌≤◌, ◌↔◌, List, length, Option, IfSome, IsSome}
+use Rattle.std.specs.Prelude.{ℕ, ◌≡◌, ◌<◌, ◌≤◌, ◌+◌, List, length}
 use Rattle.std.specs.List.{slice_index_or}
 use Rattle.hall.specs.Seats.{SeatState}
 use Rattle.hall.specs.Looking.{HasLooked}
 use Rattle.connection_table.specs.Table.{held_count}
 use Rattle.control_server.specs.Seats.{MetLines}
-use Rattle.control_server.specs.Server.{sessions_of}
-use Rattle.control_server.specs.declared.control_server.ControlServer.{ControlServer}
+use Rattle.control.specs.declared.rights.Rights.TheVariants.{All, Reports}
 use Rattle.live_server.specs.Loop.{EventServer, held_by}
 use Rattle.live_server.specs.Settled.{KeepsAccount}
 use Rattle.live_run.specs.declared.seated_loop.SeatedLoop.{SeatedLoop}
+use Rattle.live_run.specs.Sitting.{terms_by}
 
 -- a loop has served until no connection was left: as many may be held as before, and none that it took in or that ended is forgotten
 pub record HasServedAll (old new : EventServer) : Type 0 where
@@ -31,11 +31,6 @@ pub record HaveServedAll (old new : List EventServer) : Type 0 where
   pub count : length new ≡ length old
   pub each : (place : ℕ) (other : EventServer) → place < length old → HasServedAll (slice_index_or old place other) (slice_index_or new place other)
 
--- the loop over sessions has come back, if there was one, and holds no connection any more
-pub record HasEnded (old new : Option ControlServer) : Type 0 where
-  pub back : IsSome new ↔ IsSome old
-  pub none_left : IfSome new (λ server. held_count (sessions_of server) ≡ 0)
-
 -- Loops have looked by so many seats behind the first, and done nothing else by them. The first seat and those behind the loops' are
 -- as they were
 pub record SeatsHaveLooked (loops : ℕ) (old new : List SeatState) : Type 0 where
@@ -45,12 +40,15 @@ pub record SeatsHaveLooked (loops : ℕ) (old new : List SeatState) : Type 0 whe
       → HasLooked (slice_index_or old place other) (slice_index_or new place other)
   pub spare : (place : ℕ) (other : SeatState) → loops < place → slice_index_or new place other ≡ slice_index_or old place other
 
--- Loops have looked by so many seats behind the first, and by each of those behind these lines of sessions were met, one after the other,
--- over a catalogue of these names. The first seat is as it was
-pub record SeatsHaveServed (names : List (List ℕ)) (loops : ℕ) (old new : List SeatState) : Type 0 where
+-- Loops have looked by so many seats behind the first. By each of the seats behind these, so many, lines of the control place's sessions
+-- were met, one after the other, and by each of those behind them lines of the report place's, over a catalogue of these names and a
+-- history of at most so many entries. The first seat is as it was
+pub record SeatsHaveServed (most : ℕ) (names : List (List ℕ)) (loops controlled : ℕ) (old new : List SeatState) : Type 0 where
   pub seats : length new ≡ length old
   pub first : (other : SeatState) → slice_index_or new 0 other ≡ slice_index_or old 0 other
   pub looked : (place : ℕ) (other : SeatState) → 1 ≤ place → place ≤ loops
       → HasLooked (slice_index_or old place other) (slice_index_or new place other)
-  pub sessions : (place : ℕ) (other : SeatState) → loops < place → place < length old
-      → MetLines names (slice_index_or old place other) (slice_index_or new place other)
+  pub sessions : (place : ℕ) (other : SeatState) → loops < place → place ≤ loops + controlled → place < length old
+      → MetLines (terms_by All most) names (slice_index_or old place other) (slice_index_or new place other)
+  pub reports : (place : ℕ) (other : SeatState) → loops + controlled < place → place < length old
+      → MetLines (terms_by Reports most) names (slice_index_or old place other) (slice_index_or new place other)

@@ -1,5 +1,5 @@
 -- How a hall is run by loops, or why it is not. Histories have their newest entry first.
-use Rattle.std.specs.Prelude.{ℕ, ◌≡◌, ◌≢◌, ◌+◌, ◌==◌, nat_lt, if◌then◌else◌, List, Option, None, Some, length}
+use Rattle.std.specs.Prelude.{ℕ, ◌≡◌, ◌≢◌, ◌+◌, ◌-◌, min, ◌==◌, nat_lt, if◌then◌else◌, List, Option, None, Some, IfSome, IsNone, length}
 use Rattle.std.specs.List.{All, sum_by}
 use Rattle.desk_core.specs.declared.entry.Entry.{Entry}
 use Rattle.desk_core.specs.Legal.{IsLegal}
@@ -7,7 +7,11 @@ use Rattle.hall.specs.Seats.{HallState, SeatState, IsSeenIn, own_calls}
 use Rattle.server.specs.Setup.{SetUpState}
 use Rattle.live_run.specs.declared.run_fault.RunFault.{RunFault}
 use Rattle.live_run.specs.declared.run_fault.RunFault.TheVariants as faults
+use Rattle.control.specs.declared.rights.Rights.TheVariants as Rights
+use Rattle.control_server.specs.Server.{terms_of}
+use Rattle.live_run.specs.declared.ran.SessionPlaces.{SessionPlaces}
 use Rattle.live_run.specs.Loops.{SeatsHaveLooked, SeatsHaveServed}
+use Rattle.live_run.specs.Sitting.{HasEnded, terms_by}
 
 -- why so many loops can't have seats of their own behind the first; none where they can
 abbrev pub run_fault : ℕ → ℕ → Option RunFault
@@ -29,12 +33,30 @@ pub record HasRunLoops (hall : HallState) (loops : ℕ) (seats : List SeatState)
   pub seen : All (IsSeenIn history) after
   pub counted : length history ≡ sum_by (λ seat. length (own_calls seat)) after
 
--- The same where lines of sessions were met by the seats behind the loops': the history has what the setup made, and the changes that
--- lines asked for, and no others
+-- The same where lines of sessions were met by the seats behind the loops', those of the control place by 32 of them at most, and those of
+-- the report place by the others: the history has what the setup made, the changes that lines of the control place asked for, and the findings
+-- that lines of the report place told, and no others
 pub record HasRun (hall : HallState) (loops : ℕ) (seats : List SeatState) (history : List Entry) : Type 0 where
+  pub controlled : ℕ
+  pub controlled_are : controlled ≡ min 32 (length seats - (1 + loops))
   pub after : List SeatState
-  pub served : SeatsHaveServed hall.names loops seats after
+  pub served : SeatsHaveServed hall.most hall.names loops controlled seats after
   pub all : length after ≡ hall.seats
   pub legal : IsLegal history
   pub seen : All (IsSeenIn history) after
   pub counted : length history ≡ sum_by (λ seat. length (own_calls seat)) after
+
+-- there is neither a control place nor a report place
+pub record AreNone (places : SessionPlaces) : Type 0 where
+  pub control : IsNone places.control
+  pub report : IsNone places.report
+
+-- both have come back, if they were there, and hold no connection any more
+pub record HaveEnded (old new : SessionPlaces) : Type 0 where
+  pub control : HasEnded old.control new.control
+  pub report : HasEnded old.report new.report
+
+-- sessions of the control place may ask for all that there is, and those of the report place may report
+pub record HaveTerms (most : ℕ) (places : SessionPlaces) : Type 0 where
+  pub control : IfSome places.control (λ server. terms_of server ≡ terms_by Rights.All most)
+  pub report : IfSome places.report (λ server. terms_of server ≡ terms_by Rights.Reports most)

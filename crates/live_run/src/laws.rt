@@ -10,7 +10,8 @@ ghost use Rattle.server.specs.Setup.{AreSetUp};
 
 /// Each line of a script that sets a hall up has a result, so that the numbers of the lines are those of the results.
 pub fn results_in_place()
-    ensures { (mode : Mode) (bytes : List ℕ) (script : ScriptParts) (results : List (Result Reply Refusal)) (dealt seats : List SeatState)
+    ensures { (mode : Mode) (bytes : List ℕ) (script : ScriptParts) (results : List
+        (Result Reply Refusal)) (dealt seats : List SeatState)
         → mode ≢ Replay → IsScript mode bytes script → AreSetUp (line_changes script.names script.lines) results dealt seats
         → length script.numbers ≡ length results }
 {}

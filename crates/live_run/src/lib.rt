@@ -10,7 +10,7 @@
 //! ghost use Rattle.hall.specs.Seats.{own_calls};
 //!
 //! use desk_core::Keep;
-//! use live_run::{Ran, RunFault, run_live};
+//! use live_run::{Ran, RunFault, SessionPlaces, run_live};
 //! use live_server::{EventServer, News};
 //! use probe_core::{Maker, Probe};
 //! use server::SetUpHall;
@@ -19,7 +19,7 @@
 //! use std::thread::Threads;
 //! use std::time::Clock;
 //!
-//! /// Serves by loops alone, with no place for sessions. So the journal has the changes of the setup and no others.
+//! /// Serves by loops alone, with no places for sessions. So the journal has the changes of the setup and no others.
 //! pub fn run_loops<R, P: Probe + Send, K: Keep + Send, M>(
 //!     rt: &R,
 //!     alloc: Global,
@@ -33,7 +33,11 @@
 //!     M: Maker<P> + Sync,
 //!     ensures entries { IfOk result (λ ran. length ran.desk.journal ≡ sum_by (λ seat. length (own_calls seat)) made.seats) }
 //! {
-//!     run_live(rt, alloc, made, servers, None, maker, news)
+//!     let places = SessionPlaces {
+//!         control: None,
+//!         report: None,
+//!     };
+//!     run_live(rt, alloc, made, servers, places, maker, news)
 //! }
 //! ```
 #![tactic(auto)]
@@ -42,13 +46,15 @@ mod beside;
 mod laws;
 mod ran;
 mod refused_line;
+mod reported;
 mod run_fault;
 mod seated_loop;
 mod seating;
+mod sitting;
 mod whole_run;
 
 pub use laws::results_in_place;
-pub use ran::Ran;
+pub use ran::{Ran, SessionPlaces};
 pub use refused_line::{RefusedLine, first_refused};
 pub use run_fault::RunFault;
 pub use seated_loop::{SeatedLoop, serve_loops};

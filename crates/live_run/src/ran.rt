@@ -3,13 +3,20 @@ use desk_core::{Desk, Keep, KeepAll, board_entries};
 use live_server::EventServer;
 use probe_core::Probe;
 
+/// The loops over sessions of a server, those of its control place and those of its report place, as far as it has these places.
+#[derive(Drop)]
+pub struct SessionPlaces {
+    pub control: Option<ControlServer>,
+    pub report: Option<ControlServer>,
+}
+
 /// What is left of a hall that was run to its end.
 #[derive(Drop)]
 pub struct Ran<P: Probe, K: Keep = KeepAll> {
     /// The loops, which tell how many calls they have served.
     pub servers: Vec<EventServer>,
-    /// The loop over sessions, if there was one. The file of its socket still stands.
-    pub sessions: Option<ControlServer>,
+    /// The loops over sessions, if there were any. The files of their sockets still stand.
+    pub places: SessionPlaces,
     /// The registry that the hall had.
     pub desk: Desk<P, K>,
 }

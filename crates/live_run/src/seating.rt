@@ -1,11 +1,14 @@
-ghost use Rattle.std.specs.Prelude.{◌≡◌, vec_len};
+ghost use Rattle.std.specs.Prelude.{◌≡◌, vec_len, IfOk};
 ghost use Rattle.std.specs.List.{All};
 ghost use Rattle.hall.specs.Seats.{IsOf};
 ghost use Rattle.live_run.specs.Loops.{HaveServed};
+ghost use Rattle.live_run.specs.Seating.{AreDivided};
 
-use crate::beside::serve_beside;
+use crate::ran::SessionPlaces;
+use crate::reported::serve_reported;
 use crate::seated_loop::{SeatedLoop, serve_loops};
-use control_server::ControlServer;
+use crate::sitting::Sitting;
+use control_server::SESSION_SEATS;
 use desk_core::Keep;
 use hall::{Hall, Seat};
 use live_server::{EventServer, News};
@@ -19,23 +22,26 @@ use std::time::Clock;
 #[derive(Drop)]
 pub(crate) struct Seating<P: Probe, K: Keep> {
     pub(crate) loops: Vec<SeatedLoop<P, K>>,
-    pub(crate) spare: Vec<Seat<P, K>>,
+    /// Those of the control place.
+    pub(crate) control: Vec<Seat<P, K>>,
+    /// Those of the report place.
+    pub(crate) report: Vec<Seat<P, K>>,
     pub(crate) back: Back<P, K>,
 }
 
-/// What comes back of loops: their servers, all seats, and the sessions if there were any. While they serve, it holds the first seat alone.
+/// What comes back of loops: their servers, all seats, and the loops over sessions if there were any. While they serve, it holds the first seat alone.
 #[derive(Drop)]
 pub(crate) struct Back<P: Probe, K: Keep> {
     pub(crate) servers: Vec<EventServer>,
     pub(crate) seats: Vec<Seat<P, K>>,
-    pub(crate) sessions: Option<ControlServer>,
+    pub(crate) places: SessionPlaces,
 }
 
 impl<P: Probe, K: Keep> Seating<P, K> {
     ghost use Rattle.std.specs.Prelude.{◌≡◌, ◌<◌, vec_len, IfOk};
-    ghost use Rattle.live_run.specs.Seating.{HasRoom, IsSeatingOf, seats_of, servers_of};
+    ghost use Rattle.live_run.specs.Seating.{HasRoom, IsSeatingOf, IsUndivided, seats_of, servers_of};
 
-    /// Gives each loop one of the seats behind the first. It takes all memory.
+    /// Gives each loop one of the seats behind the first, and divides those behind theirs. It takes all memory.
     pub(crate) fn new(
         alloc: Global,
         servers: Vec<EventServer>,
@@ -44,13 +50,40 @@ impl<P: Probe, K: Keep> Seating<P, K> {
         requires enough { vec_len servers < vec_len seats }
         ensures { IfOk result (IsSeatingOf servers.items seats.items) }
     {
+        let Seating {
+            loops,
+            report,
+            back,
+            ..
+        } = Seating::undivided(alloc, servers, seats)?;
+        let (control, report) = divided(alloc, report)?;
+        Ok(Seating {
+            loops,
+            control,
+            report,
+            back,
+        })
+    }
+
+    /// The same, where the report place has all seats behind the loops'.
+    fn undivided(
+        alloc: Global,
+        servers: Vec<EventServer>,
+        seats: Vec<Seat<P, K>>,
+    ) -> Result<Seating<P, K>, AllocError>
+        requires enough { vec_len servers < vec_len seats }
+        ensures { IfOk result (IsUndivided servers.items seats.items) }
+    {
         let mut loops = Vec::with_capacity(alloc, servers.len())?;
         let mut back = Back {
             servers: Vec::with_capacity(alloc, servers.len())?,
             seats: Vec::with_capacity(alloc, seats.len())?,
-            sessions: None,
+            places: SessionPlaces {
+                control: None,
+                report: None,
+            },
         };
-        let mut spare = Vec::with_capacity(alloc, seats.len())?;
+        let mut report = Vec::with_capacity(alloc, seats.len())?;
         let mut rest = seats.into_iter();
         back.seats.push(rest.next().unwrap()).unwrap();
         for server in servers {
@@ -58,9 +91,14 @@ impl<P: Probe, K: Keep> Seating<P, K> {
             loops.push(SeatedLoop { server, seat }).unwrap();
         }
         for seat in rest {
-            spare.push(seat).unwrap();
+            report.push(seat).unwrap();
         }
-        Ok(Seating { loops, spare, back })
+        Ok(Seating {
+            loops,
+            control: Vec::new(alloc),
+            report,
+            back,
+        })
     }
 
     /// Puts all servers and seats back.
@@ -68,42 +106,71 @@ impl<P: Probe, K: Keep> Seating<P, K> {
         requires { HasRoom self }
         ensures seats { result.seats.items ≡ seats_of self }
         ensures servers { result.servers.items ≡ servers_of self }
-        ensures sessions { result.sessions ≡ self.back.sessions }
+        ensures places { result.places ≡ self.back.places }
     {
-        let Seating { loops, spare, back } = self;
+        let Seating {
+            loops,
+            control,
+            report,
+            back,
+        } = self;
         let Back {
             mut servers,
             mut seats,
-            sessions,
+            places,
         } = back;
         for SeatedLoop { server, seat } in loops {
             servers.push(server).unwrap();
             seats.push(seat).unwrap();
         }
-        for seat in spare {
+        for seat in control {
             seats.push(seat).unwrap();
+        }
+        for spare in report {
+            seats.push(spare).unwrap();
         }
         Back {
             servers,
             seats,
-            sessions,
+            places,
         }
     }
 }
 
+/// The seats of the control place, and those behind them, for the report place.
+fn divided<P: Probe, K: Keep>(
+    alloc: Global,
+    seats: Vec<Seat<P, K>>,
+) -> Result<(Vec<Seat<P, K>>, Vec<Seat<P, K>>), AllocError>
+    ensures { IfOk result (AreDivided seats.items) }
+{
+    let first = usize::from(SESSION_SEATS).min(seats.len());
+    let mut control = Vec::with_capacity(alloc, first)?;
+    let mut report = Vec::with_capacity(alloc, seats.len())?;
+    let mut rest = seats.into_iter();
+    while control.len() < first {
+        control.push(rest.next().unwrap()).unwrap();
+    }
+    for seat in rest {
+        report.push(seat).unwrap();
+    }
+    Ok((control, report))
+}
+
 impl<P: Probe + Send, K: Keep + Send> Seating<P, K> {
-    ghost use Rattle.std.specs.Prelude.{◌≡◌, vec_len, IsNone, None, Some};
+    ghost use Rattle.std.specs.Prelude.{vec_len};
     ghost use Rattle.std.specs.List.{All};
     ghost use Rattle.hall.specs.Seats.{IsOf};
-    ghost use Rattle.live_run.specs.Loops.{HasEnded, HaveServedAll, SeatsHaveLooked, SeatsHaveServed};
+    ghost use Rattle.live_run.specs.Loops.{HaveServedAll, SeatsHaveLooked, SeatsHaveServed};
+    ghost use Rattle.live_run.specs.WholeRun.{AreNone, HaveEnded, HaveTerms};
     ghost use Rattle.live_run.specs.Seating.{HasRoom, seats_of, servers_of};
 
-    /// Lets the loops serve until all is to end, beside sessions where there is a place for them, and gives everything back.
+    /// Lets the loops serve until all is to end, beside sessions where there are places for them, and gives everything back.
     pub(crate) fn serve<R, M>(
         self,
         rt: &R,
         hall: &Hall<P, K>,
-        control: Option<ControlServer>,
+        places: SessionPlaces,
         maker: &M,
         news: &News,
     ) -> Back<P, K>
@@ -112,72 +179,51 @@ impl<P: Probe + Send, K: Keep + Send> Seating<P, K> {
         M: Maker<P> + Sync,
         requires ours { All (IsOf hall.now) (seats_of self) }
         requires room { HasRoom self }
-        ensures served { SeatsHaveServed hall.now.names (vec_len self.loops) (seats_of self) result.seats.items }
-        ensures looked { IsNone control → SeatsHaveLooked (vec_len self.loops) (seats_of self) result.seats.items }
+        requires terms { HaveTerms hall.now.most places }
+        ensures served { SeatsHaveServed hall.now.most hall.now.names (vec_len self.loops)
+            (vec_len self.control)
+            (seats_of self) result.seats.items }
+        ensures looked { AreNone places → SeatsHaveLooked (vec_len self.loops)
+            (seats_of self) result.seats.items }
         ensures servers { HaveServedAll (servers_of self) result.servers.items }
         ensures ours { All (IsOf hall.now) result.seats.items }
-        ensures sessions { HasEnded control result.sessions }
+        ensures places { HaveEnded places result.places }
     {
-        match control {
-            None => self.serve_alone(rt, hall, news),
-            Some(control) => self.serve_controlled(rt, hall, control, maker, news),
-        }
-    }
-
-    fn serve_alone<R: Wait + Threads + Clock + Sync>(
-        self,
-        rt: &R,
-        hall: &Hall<P, K>,
-        news: &News,
-    ) -> Back<P, K>
-        requires ours { All (IsOf hall.now) (seats_of self) }
-        requires room { HasRoom self }
-        ensures looked { SeatsHaveLooked (vec_len self.loops) (seats_of self) result.seats.items }
-        ensures servers { HaveServedAll (servers_of self) result.servers.items }
-        ensures ours { All (IsOf hall.now) result.seats.items }
-        ensures sessions { HasEnded None result.sessions }
-    {
-        let (loops, spare) = (after_serving(rt, hall, self.loops, news), self.spare);
-        let Back { servers, seats, .. } = self.back;
-        let seating = Seating {
+        let Seating {
             loops,
-            spare,
-            back: Back {
-                servers,
-                seats,
-                sessions: None,
-            },
+            control,
+            report,
+            back,
+        } = self;
+        let reporters = Sitting {
+            server: places.report,
+            seats: report,
         };
-        seating.give_back()
-    }
-
-    fn serve_controlled<R, M>(
-        self,
-        rt: &R,
-        hall: &Hall<P, K>,
-        control: ControlServer,
-        maker: &M,
-        news: &News,
-    ) -> Back<P, K>
-    where
-        R: Wait + Threads + Clock + Sync,
-        M: Maker<P> + Sync,
-        requires ours { All (IsOf hall.now) (seats_of self) }
-        requires room { HasRoom self }
-        ensures served { SeatsHaveServed hall.now.names (vec_len self.loops) (seats_of self) result.seats.items }
-        ensures servers { HaveServedAll (servers_of self) result.servers.items }
-        ensures ours { All (IsOf hall.now) result.seats.items }
-        ensures sessions { HasEnded (Some control) result.sessions }
-    {
-        let (held, loops) = serve_beside(rt, hall, maker, news, control, self.spare, self.loops);
-        let Back { servers, seats, .. } = self.back;
+        let controllers = Sitting {
+            server: places.control,
+            seats: control,
+        };
+        let (reported, (controlled, loops)) = serve_reported(
+            rt,
+            hall,
+            maker,
+            news,
+            reporters,
+            controllers,
+            loops,
+        );
+        let Back { servers, seats, .. } = back;
         let seating = Seating {
             loops,
-            spare: held.seats,
+            control: controlled.seats,
+            report: reported.seats,
             back: Back {
                 servers,
                 seats,
-                sessions: Some(held.control),
+                places: SessionPlaces {
+                    control: controlled.server,
+                    report: reported.server,
+                },
             },
         };
         seating.give_back()

@@ -1,17 +1,16 @@
-ghost use Rattle.std.specs.Prelude.{◌≡◌, List, Option, length, vec_len, Err, IfSome, IfNone, IsNone, IfOk, IfErr};
+ghost use Rattle.std.specs.Prelude.{◌≡◌, List, Option, length, vec_len, Err, IfSome, IfNone, IfOk, IfErr};
 ghost use Rattle.std.specs.List.{sum_by};
 ghost use Rattle.desk_core.specs.declared.call.Call.{Call};
 ghost use Rattle.desk_core.specs.Past.{past};
 ghost use Rattle.hall.specs.Seats.{own_calls, new_seats};
 ghost use Rattle.hall.specs.CarriedOut.{replied};
 ghost use Rattle.server.specs.Setup.{AreSetUp};
-ghost use Rattle.live_run.specs.Loops.{HasEnded, HaveServedAll};
-ghost use Rattle.live_run.specs.WholeRun.{HasRun, HasRunLoops, IsLaterFault, run_fault};
+ghost use Rattle.live_run.specs.Loops.{HaveServedAll};
+ghost use Rattle.live_run.specs.WholeRun.{AreNone, HasRun, HasRunLoops, HaveEnded, HaveTerms, IsLaterFault, run_fault};
 
-use crate::ran::Ran;
+use crate::ran::{Ran, SessionPlaces};
 use crate::run_fault::RunFault;
 use crate::seating::{Back, Seating};
-use control_server::ControlServer;
 use desk_core::Keep;
 use hall::Closed;
 use live_server::{EventServer, News};
@@ -22,41 +21,49 @@ use std::sync::Wait;
 use std::thread::Threads;
 use std::time::Clock;
 
-/// Serves by loops over a hall that is set up, beside sessions where there is a place for them, until `news` tells that all is to end
+/// Serves by loops over a hall that is set up, beside sessions where there are places for them, until `news` tells that all is to end
 /// and no connection is left, and then closes the hall.
 ///
-/// The first seat has set the hall up. Those behind it are the loops', in their order, and those behind these the sessions', which make
-/// their changes by them, with probes that `maker` gives.
+/// The first seat has set the hall up. Those behind it are the loops', in their order; behind these 32 are the control place's, and the
+/// others the report place's. Sessions make their changes by them, with probes that `maker` gives.
 pub fn run_live<R, P: Probe + Send, K: Keep + Send, M>(
     rt: &R,
     alloc: Global,
     made: SetUpHall<P, K>,
     servers: Vec<EventServer>,
-    control: Option<ControlServer>,
+    places: SessionPlaces,
     maker: &M,
     news: &News,
 ) -> Result<Ran<P, K>, RunFault>
 where
     R: Wait + Threads + Clock + Sync,
     M: Maker<P> + Sync,
+    requires terms { HaveTerms made.hall.most places }
     // Too few loops or seats is told first. That memory ran out where it says so, tests show.
-    ensures refused { IfSome (run_fault (vec_len servers) (length made.seats)) (λ fault. result ≡ Err fault) }
-    ensures failed { IfNone (run_fault (vec_len servers) (length made.seats)) (IfErr result (IsLaterFault made)) }
+    ensures refused { IfSome (run_fault (vec_len servers) (length made.seats))
+        (λ fault. result ≡ Err fault) }
+    ensures failed { IfNone (run_fault (vec_len servers) (length made.seats)) (IfErr result
+        (IsLaterFault made)) }
     // Each loop has served what it took in, and holds no connection any more.
     ensures servers { IfOk result (λ ran. HaveServedAll servers.items ran.servers.items) }
 
     // The history that is left is one legal history of what all seats saw and made: the loops have made nothing, and sessions what their
-    // lines asked for.
-    ensures ran { IfOk result (λ ran. HasRun made.hall (vec_len servers) made.seats (past ran.desk.journal)) }
+    // lines asked for, those of the report place findings alone.
+    ensures ran { IfOk result (λ ran. HasRun made.hall (vec_len servers) made.seats
+        (past ran.desk.journal)) }
     ensures most { IfOk result (λ ran. ran.desk.max_entries ≡ made.hall.most) }
-    // The loop over sessions comes back, so that its caller can take its socket's file away, and holds none any more.
-    ensures sessions { IfOk result (λ ran. HasEnded control ran.sessions) }
+    // The loops over sessions come back, so that their caller can take their sockets' files away, and hold none any more.
+    ensures sessions { IfOk result (λ ran. HaveEnded places ran.places) }
 
     // Without sessions nobody has made changes since the setup.
-    ensures alone { IsNone control → IfOk result (λ ran. HasRunLoops made.hall (vec_len servers) made.seats (past ran.desk.journal)) }
-    ensures entries { IsNone control → IfOk result (λ ran. length ran.desk.journal ≡ sum_by (λ seat. length (own_calls seat)) made.seats) }
+    ensures alone { AreNone places → IfOk result (λ ran. HasRunLoops made.hall
+        (vec_len servers) made.seats (past ran.desk.journal)) }
+    ensures entries { AreNone places → IfOk result (λ ran. length ran.desk.journal ≡ sum_by
+        (λ seat. length (own_calls seat)) made.seats) }
     // Where the first seat alone has made changes, as `hall_of` leaves it, they are the history.
-    ensures setup { IsNone control → IfOk result (λ ran. (calls : List (Option Call)) → AreSetUp calls made.results (new_seats made.hall.table made.hall.most made.hall.seats) made.seats
+    ensures setup { AreNone places → IfOk result (λ ran. (calls : List (Option Call))
+        → AreSetUp calls made.results (new_seats made.hall.table made.hall.most made.hall.seats)
+        made.seats
         → ran.desk.journal ≡ replied 0 calls made.results) }
 {
     let (hall, seats) = made.into_hall();
@@ -69,14 +76,14 @@ where
     let Back {
         servers,
         seats,
-        sessions,
-    } = seating.serve(rt, &hall, control, maker, news);
+        places,
+    } = seating.serve(rt, &hall, places, maker, news);
     let Ok(Closed { desk, catalogue: _ }) = hall.close(seats) else {
         return Err(RunFault::SeatsMissing);
     };
     Ok(Ran {
         servers,
-        sessions,
+        places,
         desk,
     })
 }

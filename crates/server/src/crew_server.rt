@@ -68,6 +68,7 @@ where
         seats,
         results: _,
         orders,
+        most: _,
     } = made;
     let Ok((jobs, lists)) = work_of(alloc, listener, capacity.calls, orders) else {
         return Err(ServeFault::NoMemory);

@@ -22,9 +22,12 @@ pub struct SetUpHall<P: Probe, K: Keep = KeepAll> {
     pub(crate) seats: Vec<Seat<P, K>>,
     pub(crate) results: Vec<Result<Reply, Refusal>>,
     pub(crate) orders: Vec<Order>,
+    /// The most entries of the hall's journal.
+    pub(crate) most: u32,
 }
 
 impl<P: Probe, K: Keep> Model for SetUpHall<P, K> {
+    ghost use Rattle.std.specs.Prelude.{◌≡◌};
     ghost use Rattle.std.specs.List.{All};
     ghost use Rattle.hall.specs.Seats.{IsOf};
     ghost use Rattle.server.specs.Setup.{SetUpState};
@@ -33,7 +36,7 @@ impl<P: Probe, K: Keep> Model for SetUpHall<P, K> {
 
     ghost view = { λ made. record { hall = made.hall; seats = made.seats.items; results = made.results.items; orders = made.orders.items } };
 
-    ghost invariant = { λ made. All (IsOf made.hall) made.seats.items };
+    ghost invariant = { λ made. All (IsOf made.hall) made.seats.items × (made.most ≡ made.hall.most) };
 }
 
 impl<P: Probe, K: Keep> SetUpHall<P, K> {
@@ -48,6 +51,13 @@ impl<P: Probe, K: Keep> SetUpHall<P, K> {
         self.results.as_slice()
     }
 
+    /// The most entries of the hall's journal.
+    pub fn most(&self) -> u32
+        ensures { result ≡ self.now.hall.most }
+    {
+        self.most
+    }
+
     /// The hall, and its seats in the order of their numbers. Orders are dropped: a script that is read to be run has none.
     pub fn into_hall(self) -> (Hall<P, K>, Vec<Seat<P, K>>)
         ensures hall { result.0 ≡ self.hall }
@@ -59,6 +69,7 @@ impl<P: Probe, K: Keep> SetUpHall<P, K> {
             seats,
             results: _,
             orders: _,
+            most: _,
         } = self;
         (hall, seats)
     }
@@ -127,5 +138,6 @@ pub fn hall_of<R: Wait, P: Probe, K: Keep, M: Maker<P>>(
         seats: dealt,
         results,
         orders,
+        most: max,
     })
 }

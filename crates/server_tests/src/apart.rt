@@ -55,5 +55,10 @@ where
 fn each_loop_serves_beside_the_others(rt: HostRuntime) -> Result<(), Fail> {
     let (hall, mut seats) = hall_of_a(&rt, rt.alloc(), 3)?;
     let counts = serve_apart(&rt, rt.alloc(), &hall, &mut seats)?;
-    same(&(counts.ended, counts.given_up), &(4, 0), &"calls")
+    let expected = Counts {
+        ended: 4,
+        given_up: 0,
+        gone: 0,
+    };
+    same(&counts, &expected, &"calls")
 }

@@ -120,6 +120,7 @@ fn watchers_are_told_each_change_of_two_makers_in_order(rt: HostRuntime) -> Resu
     let expected = Counts {
         ended: u64::from(WATCHERS),
         given_up: 0,
+        gone: 0,
     };
     let found = serve_watchers(&rt, alloc, &hall, &mut seats)?;
     same(&found, &expected, &"calls")

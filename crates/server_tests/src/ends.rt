@@ -111,7 +111,8 @@ fn ends_with_open_watches_and_half_read_requests(rt: HostRuntime) -> Result<(), 
     let found = serve_clients(&rt, rt.alloc(), Scene::EndUnderLoad)?;
     let expected = Counts {
         ended: 9,
-        given_up: 3,
+        given_up: 0,
+        gone: 3,
     };
     same(&found, &expected, &"calls")
 }
@@ -121,7 +122,8 @@ fn answers_checks_beside_silent_clients(rt: HostRuntime) -> Result<(), Fail> {
     let found = serve_clients(&rt, rt.alloc(), Scene::CheckBesideSilence)?;
     let expected = Counts {
         ended: 12,
-        given_up: 6,
+        given_up: 0,
+        gone: 6,
     };
     same(&found, &expected, &"calls")
 }
@@ -132,6 +134,7 @@ fn answers_checks_beside_slow_clients_and_gives_these_up(rt: HostRuntime) -> Res
     let expected = Counts {
         ended: 20,
         given_up: 6,
+        gone: 0,
     };
     same(&found, &expected, &"calls")
 }

@@ -74,6 +74,7 @@ fn checks_and_watches_go_on_where_the_history_is_full(rt: HostRuntime) -> Result
     let expected = Counts {
         ended: 3,
         given_up: 0,
+        gone: 0,
     };
     let found = serve_full(&rt, alloc, &hall, &mut seats)?;
     same(&found, &expected, &"calls")

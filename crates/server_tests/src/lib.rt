@@ -27,6 +27,8 @@ mod ready;
 #[cfg(test)]
 mod refused;
 #[cfg(test)]
+mod reporting;
+#[cfg(test)]
 mod reports;
 #[cfg(test)]
 mod runs;
@@ -38,6 +40,8 @@ mod serving;
 mod sessions;
 #[cfg(test)]
 mod setup;
+#[cfg(test)]
+mod sixteen;
 #[cfg(test)]
 mod slices;
 #[cfg(test)]

@@ -16,11 +16,11 @@ use test_support::same;
 const WATCHERS: u8 = 200;
 
 const COUNTED: &[u8] =
-    b"entries 3 kept 3 connections 200 watches 200 sessions 1 calls 0 given_up 0 behind 0\n";
+    b"entries 3 kept 3 connections 200 watches 200 sessions 1 calls 0 given_up 0 behind 0 gone 0 expired 0 left 9997\n";
 
 /// The beginning of what is counted once all of them have closed.
 const COUNTED_THEN: &[u8] =
-    b"entries 3 kept 3 connections 0 watches 0 sessions 1 calls 200 given_up ";
+    b"entries 3 kept 3 connections 0 watches 0 sessions 1 calls 200 given_up 0 behind 0 gone ";
 
 /// Asks what the loops count, which they tell at the end of a round.
 fn expect_counted<R: Wait + Clock>(

@@ -47,18 +47,19 @@ impl Maker<Manual> for Manuals {
 }
 
 /// A hall that forgets, set up by the script, and the first line of it that was not made.
-pub(super) fn set_up<R: Wait, K: Keep>(
+pub(super) fn set_up<R: Wait, P: Probe, K: Keep, M: Maker<P>>(
     rt: &R,
     alloc: Global,
+    maker: &M,
     script: &[u8],
     seats: u16,
-) -> Result<(SetUpHall<Manual, K>, Option<RefusedLine>), Fail>
+) -> Result<(SetUpHall<P, K>, Option<RefusedLine>), Fail>
     requires some { 1 ≤ seats }
     requires not_too_many { seats ≤ 1024 }
 {
     let script = read_script(alloc, script, Mode::Run)?;
     let numbers = script.numbers().to_vec(alloc)?;
-    let made = hall_of(rt, alloc, script, &Manuals, seats)?;
+    let made = hall_of(rt, alloc, script, maker, seats)?;
     let refused = first_refused(&numbers, made.results());
     Ok((made, refused))
 }
@@ -86,6 +87,7 @@ fn runs_what_a_script_has_set_up(rt: HostRuntime) -> Result<(), Fail> {
         calls: Counts {
             ended: 2,
             given_up: 0,
+            gone: 0,
         },
         told: 0,
         changes: 0,
@@ -94,7 +96,7 @@ fn runs_what_a_script_has_set_up(rt: HostRuntime) -> Result<(), Fail> {
 }
 
 fn refused_line<R: Wait>(rt: &R, alloc: Global) -> Result<Option<RefusedLine>, Fail> {
-    let (_, refused) = set_up::<R, KeepMany>(rt, alloc, FAILING, 2)?;
+    let (_, refused) = set_up::<R, Manual, KeepMany, Manuals>(rt, alloc, &Manuals, FAILING, 2)?;
     Ok(refused)
 }
 

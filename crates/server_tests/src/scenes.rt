@@ -69,25 +69,29 @@ impl Place {
     }
 }
 
-/// How many calls have ended, and how many of them were given up.
+/// How many calls have ended, how many of them were given up, and how many are gone.
 #[derive(Clone, Copy, Debug, PartialEq, Eq)]
 pub(super) struct Counts {
     pub(super) ended: u64,
     pub(super) given_up: u64,
+    pub(super) gone: u64,
 }
 
 impl Counts {
     pub(super) const NONE: Counts = Counts {
         ended: 0,
         given_up: 0,
+        gone: 0,
     };
 
     /// The same with those of one loop more, which may have no connection left.
     pub(super) fn and(self, server: &EventServer) -> Result<Counts, Fail> {
         same(&server.connections(), &0, &"connections")?;
+        let counts = server.counts();
         Ok(Counts {
             ended: self.ended.saturating_add(server.ended()),
-            given_up: self.given_up.saturating_add(server.counts().given_up),
+            given_up: self.given_up.saturating_add(counts.given_up),
+            gone: self.gone.saturating_add(counts.gone),
         })
     }
 }

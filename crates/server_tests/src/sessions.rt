@@ -1,18 +1,20 @@
-//! A run with a place for sessions, and clients of both.
+//! A run with places for sessions, and clients of all.
 
-ghost use Rattle.std.specs.Prelude.{◌≤◌};
+ghost use Rattle.std.specs.Prelude.{◌≡◌, ◌≤◌, IfOk, IfSome};
+ghost use Rattle.control_server.specs.Server.{terms_of};
+ghost use Rattle.live_run.specs.WholeRun.{HaveTerms};
 
 use crate::buffers::small_listener;
 use crate::ready::Ready;
-use crate::runs::set_up;
+use crate::runs::{Manuals, set_up};
 use crate::scenes::{Counts, LIMITS, Place};
 use crate::talks::Talk;
-use control::ControlListener;
+use control::{Access, ControlListener, Rights, Terms};
 use control_server::{ControlServer, SESSION_SEATS};
 use desk_core::{Call, Entry, Keep, KeepMany, Setting, Slot};
-use live_run::{Ran, RunFault};
+use live_run::{Ran, RunFault, SessionPlaces};
 use live_server::{EventServer, News};
-use probe_core::Manual;
+use probe_core::{Maker, Manual, Probe};
 use std::alloc::Global;
 use std::net::{IpAddr, Ipv4Addr, Net, SocketAddr, TcpListener, TcpStream};
 use std::rt::Files;
@@ -31,23 +33,32 @@ register - manual
 /// How many loops serve.
 const LOOPS: u8 = 2;
 
-/// Where clients of both kinds connect to.
+/// A seat that sets the hall up, those of the loops, and those of both places for sessions.
+const SEATS: u16 = 1 + LOOPS as u16 + 2 * SESSION_SEATS;
+
+/// Where clients of each kind connect to.
 #[derive(Clone, Copy)]
 pub(super) struct Addresses {
     /// Where calls are answered.
     pub(super) calls: SocketAddr,
-    /// Where sessions are held.
+    /// Where sessions are held that may ask for all.
     pub(super) sessions: SocketAddr,
+    /// Where findings are reported.
+    pub(super) reports: SocketAddr,
 }
 
 /// A loop over sessions at a port that the system picks, and where that is.
-fn control_of<R: Net + Files + Clock>(
+fn sessions_of<R: Net + Files + Clock>(
     rt: &R,
     alloc: Global,
     servers: &[EventServer],
-) -> Result<(ControlServer, SocketAddr), Fail> {
+    terms: Terms,
+) -> Result<(ControlServer, SocketAddr), Fail>
+    ensures { IfOk result (λ made. terms_of made.0 ≡ terms) }
+{
     let any = SocketAddr::new(IpAddr::V4(Ipv4Addr::LOCALHOST), 0);
-    let listener = ControlListener::bind(rt, alloc, control::Place::Address(any))?;
+    let place = control::Place::Address(any);
+    let listener = ControlListener::bind(rt, alloc, place, Access::Owner)?;
     let control::Place::Address(addr) = listener.place()? else {
         return Err(Fail::new("no address"));
     };
@@ -55,8 +66,48 @@ fn control_of<R: Net + Files + Clock>(
     for server in servers {
         tallies.push(server.tally()?)?;
     }
-    let control = ControlServer::new(rt, alloc, listener, tallies)?;
-    Ok((control, addr))
+    let server = ControlServer::new(rt, alloc, listener, tallies, terms)?;
+    Ok((server, addr))
+}
+
+/// The loop, where it is wanted.
+fn wanted(server: ControlServer, is_wanted: bool) -> Option<ControlServer>
+    ensures { IfSome result (λ one. terms_of one ≡ terms_of server) }
+{
+    if is_wanted { Some(server) } else { None }
+}
+
+/// The places for sessions that a talk wants, over a history of at most so many entries, and where clients connect to.
+fn places_of<R: Net + Files + Clock>(
+    rt: &R,
+    alloc: Global,
+    servers: &[EventServer],
+    calls: SocketAddr,
+    most: u32,
+    talk: Talk,
+) -> Result<(SessionPlaces, Addresses), Fail>
+    ensures { IfOk result (λ made. HaveTerms most made.0) }
+{
+    let all = Terms {
+        rights: Rights::All,
+        most,
+    };
+    let reports = Terms {
+        rights: Rights::Reports,
+        most,
+    };
+    let (control, sessions) = sessions_of(rt, alloc, servers, all)?;
+    let (report, reports) = sessions_of(rt, alloc, servers, reports)?;
+    let places = SessionPlaces {
+        control: wanted(control, talk != Talk::Calls),
+        report: wanted(report, talk.has_reports()),
+    };
+    let addresses = Addresses {
+        calls,
+        sessions,
+        reports,
+    };
+    Ok((places, addresses))
 }
 
 /// Clients that wait to talk, and end all behind that.
@@ -69,7 +120,7 @@ struct Clients<'a, R> {
     news: &'a News,
 }
 
-impl<R: Wait + Clock + Net<Stream = TcpStream>> Clients<'_, R> {
+impl<R: Wait + Threads + Clock + Sync + Net<Stream = TcpStream>> Clients<'_, R> {
     fn talk(self) -> Result<usize, Fail> {
         let found = self
             .talk
@@ -80,13 +131,14 @@ impl<R: Wait + Clock + Net<Stream = TcpStream>> Clients<'_, R> {
 }
 
 /// Runs the hall by the loops and the sessions, and lets clients talk beside them.
-fn run_and_talk<R, K: Keep + Send>(
-    ready: Ready<'_, R, K>,
+fn run_and_talk<R, P: Probe + Send, K: Keep + Send, M>(
+    ready: Ready<'_, R, P, K, M>,
     talk: Talk,
     addresses: Addresses,
-) -> (Result<Ran<Manual, K>, RunFault>, Result<usize, Fail>)
+) -> (Result<Ran<P, K>, RunFault>, Result<usize, Fail>)
 where
     R: Wait + Threads + Clock + Sync + Net<Stream = TcpStream>,
+    M: Maker<P> + Sync,
 {
     let rt = ready.rt;
     let clients = Clients {
@@ -98,7 +150,7 @@ where
     };
     thread::join(
         rt,
-        move || -> Result<Ran<Manual, K>, RunFault> { ready.run() },
+        move || -> Result<Ran<P, K>, RunFault> { ready.run() },
         move || clients.talk(),
     )
 }
@@ -140,8 +192,8 @@ pub(super) struct Outcome {
     pub(super) changes: usize,
 }
 
-fn outcome_of<K: Keep>(
-    ran: &Result<Ran<Manual, K>, RunFault>,
+fn outcome_of<P: Probe, K: Keep>(
+    ran: &Result<Ran<P, K>, RunFault>,
     watched: Option<Slot>,
     told: usize,
 ) -> Result<Outcome, Fail> {
@@ -184,41 +236,35 @@ pub(super) fn run_beside<R>(
 where
     R: Wait + Threads + Clock + Files + Sync + Net<Listener = TcpListener, Stream = TcpStream>,
 {
-    run_keeping::<R, KeepMany>(rt, alloc, script, talk)
+    run_keeping::<R, Manual, KeepMany, Manuals>(rt, alloc, &Manuals, script, talk)
 }
 
-/// The same, where the hall keeps so much.
-pub(super) fn run_keeping<R, K: Keep + Send>(
+/// The same by probes of any kind, where the hall keeps so much.
+pub(super) fn run_keeping<R, P: Probe + Send, K: Keep + Send, M>(
     rt: &R,
     alloc: Global,
+    maker: &M,
     script: &[u8],
     talk: Talk,
 ) -> Result<Outcome, Fail>
 where
     R: Wait + Threads + Clock + Files + Sync + Net<Listener = TcpListener, Stream = TcpStream>,
+    M: Maker<P> + Sync,
 {
     let Place {
         servers,
         news,
         addr,
     } = place_of(rt, alloc, talk)?;
-    let (control, sessions) = control_of(rt, alloc, &servers)?;
-    let addresses = Addresses {
-        calls: addr,
-        sessions,
-    };
-    let control = if talk == Talk::Calls {
-        None
-    } else {
-        Some(control)
-    };
-    let (made, _) = set_up::<R, K>(rt, alloc, script, u16::from(LOOPS) + 1 + SESSION_SEATS)?;
+    let (made, _) = set_up::<R, P, K, M>(rt, alloc, maker, script, SEATS)?;
+    let (places, addresses) = places_of(rt, alloc, &servers, addr, made.most(), talk)?;
     let ready = Ready {
         rt,
         alloc,
         made,
         servers,
-        control,
+        places,
+        maker,
         news: &news,
     };
     let (ran, talked) = run_and_talk(ready, talk, addresses);

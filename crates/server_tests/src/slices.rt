@@ -82,6 +82,7 @@ fn each_of_hundreds_of_watches_in_a_loop_is_told_a_change(rt: HostRuntime) -> Re
     let expected = Counts {
         ended: u64::from(WATCHERS),
         given_up: 0,
+        gone: 0,
     };
     let found = serve_all(&rt, alloc, &hall, &mut seats)?;
     same(&found, &expected, &"calls")

@@ -1,10 +1,12 @@
 //! Watches whose clients take nothing while their sockets are full.
 
 use crate::buffers::small_watcher;
+use crate::runs::Manuals;
 use crate::scenes::Watcher;
 use crate::sessions::{Addresses, Outcome, run_keeping};
 use crate::talks::{Talk, Talker};
 use desk_core::Keep;
+use probe_core::Manual;
 use std::alloc::Global;
 use std::net::{Net, TcpListener, TcpStream};
 use std::rt::Files;
@@ -24,26 +26,27 @@ register a manual
 /// How often `a` is taken down and up again before what is told of it is read.
 const FLIPS: usize = 100;
 
-/// How many of these fill a socket: their statuses have 24,000 bytes. The registry keeps all of these changes.
-const FULL: usize = 10;
+/// How many of these are more than a socket holds: their statuses have 72,000 bytes, and a client lets no more than 65,536 come that it
+/// has not read, beside some 4,600 that wait to be sent. The registry keeps all of these changes.
+const FULL: usize = 30;
 
 /// How many of these are more than it keeps.
-const FORGOTTEN: usize = 25;
+const FORGOTTEN: usize = 45;
 
 /// The loops tell what they count at the end of a round, which comes within so many milliseconds.
 const ROUND_MILLIS: u64 = 300;
 
-/// The last 4,096: more than a socket holds.
+/// The last 8,192: more than a socket holds.
 #[derive(Drop)]
 struct KeepSome;
 
 impl Keep for KeepSome {
     ghost use Rattle.std.specs.Prelude.{Some};
 
-    ghost kept = { Some 4096 };
+    ghost kept = { Some 8192 };
 
     fn kept() -> Option<u32> {
-        Some(4_096)
+        Some(8_192)
     }
 }
 
@@ -101,10 +104,10 @@ impl Flips {
 
 /// Both Watches are open, and none was found behind: that whose client takes nothing waits for room.
 const BOTH: &[u8] =
-    b"entries 7001 kept 4096 connections 2 watches 2 sessions 1 calls 0 given_up 0 behind 0\n";
+    b"entries 15001 kept 8192 connections 2 watches 2 sessions 1 calls 0 given_up 0 behind 0 gone 0 expired 0 left 84999\n";
 
 const ONE_BEHIND: &[u8] =
-    b"entries 7001 kept 4096 connections 1 watches 1 sessions 1 calls 1 given_up 0 behind 1\n";
+    b"entries 15001 kept 8192 connections 1 watches 1 sessions 1 calls 1 given_up 0 behind 1 gone 0 expired 0 left 84999\n";
 
 /// The Watch is told the first statuses, which its socket held, in their order, and then the end.
 pub(super) fn behind<R: Wait + Clock + Net<Stream = TcpStream>>(
@@ -141,7 +144,7 @@ fn run<R>(rt: &R, alloc: Global, talk: Talk) -> Result<Outcome, Fail>
 where
     R: Wait + Threads + Clock + Files + Sync + Net<Listener = TcpListener, Stream = TcpStream>,
 {
-    run_keeping::<R, KeepSome>(rt, alloc, SCRIPT, talk)
+    run_keeping::<R, Manual, KeepSome, Manuals>(rt, alloc, &Manuals, SCRIPT, talk)
 }
 
 #[test]
@@ -149,6 +152,6 @@ fn a_watch_whose_client_takes_nothing_is_told_the_first_statuses_and_counts_as_b
     rt: HostRuntime,
 ) -> Result<(), Fail> {
     let found = run(&rt, rt.alloc(), Talk::Behind)?;
-    same(&found.entries, &7_001, &"entries")?;
+    same(&found.entries, &15_001, &"entries")?;
     same(&found.calls.given_up, &0, &"given up")
 }

@@ -2,9 +2,11 @@
 
 use crate::many::many;
 use crate::pouring::pouring;
+use crate::reporting::reporting;
 use crate::runs::ask;
 use crate::scenes::{Watcher, expect_checked};
 use crate::sessions::{Addresses, SCRIPT, run_beside};
+use crate::sixteen::{quiet, sixteen};
 use crate::slots::slots;
 use crate::stalled::behind;
 use crate::stopping::stopping;
@@ -16,6 +18,7 @@ use std::net::{Net, Shutdown, SocketAddr, TcpStream};
 use std::sync::Wait;
 use std::test::Fail;
 use std::thread;
+use std::thread::Threads;
 use std::time::{Clock, Duration};
 use test_support::requests::{CHECK_OF_A, WATCH_OF_A};
 use test_support::same;
@@ -66,6 +69,14 @@ impl Talker {
         same(&bytes.as_slice(), &answer, &"an answer")
     }
 
+    /// Whether it is answered that `a` is serving.
+    pub(super) fn is_answered(&mut self) -> bool {
+        let mut answer = [0u8; 8];
+        self.stream.write_all(b"check a\n").is_ok()
+            && self.stream.read_exact(&mut answer).is_ok()
+            && &answer == b"serving\n"
+    }
+
     /// A line of answer has to come next that is one of these.
     fn expect_one_of(&mut self, answers: &[&[u8]]) -> Result<(), Fail> {
         let mut line = [0u8; 16];
@@ -106,8 +117,14 @@ pub(super) enum Talk {
     Two,
     /// Two sessions that register and retire a service, while a third checks it, and a Watch of it.
     Same,
-    /// Sessions in pieces, with bad lines, and one too many.
+    /// Sessions in pieces, with bad lines.
     Limits,
+    /// Sixteen sessions that say nothing, and one more.
+    Quiet,
+    /// Sixteen sessions at each place that say lines without pause, and one more at each.
+    Sixteen,
+    /// Findings that are reported, beside a Watch.
+    Reports,
     /// A session beside two hundred Watches, which all close.
     Many,
     /// Changes that a session pours, beside a Watch whose client takes nothing until much is forgotten.
@@ -122,7 +139,7 @@ pub(super) enum Talk {
 
 impl Talk {
     /// Gives how many statuses a Watch was told, where they are counted.
-    pub(super) fn play<R: Wait + Clock + Net<Stream = TcpStream>>(
+    pub(super) fn play<R: Wait + Threads + Clock + Sync + Net<Stream = TcpStream>>(
         self,
         rt: &R,
         alloc: Global,
@@ -135,6 +152,9 @@ impl Talk {
             Talk::Two => two(rt, alloc, addresses),
             Talk::Same => same_name(rt, alloc, addresses),
             Talk::Limits => limits(rt, alloc, addresses).map(|()| 0),
+            Talk::Quiet => quiet(rt, alloc, addresses.sessions).map(|()| 0),
+            Talk::Sixteen => sixteen(rt, alloc, addresses).map(|()| 0),
+            Talk::Reports => reporting(rt, alloc, addresses).map(|()| 0),
             Talk::Many => many(rt, alloc, addresses).map(|()| 0),
             Talk::Behind => behind(rt, alloc, addresses).map(|()| 0),
             Talk::Slots => slots(rt, alloc, addresses).map(|()| 0),
@@ -146,6 +166,11 @@ impl Talk {
     /// Whether the sockets of calls hold little of what is sent.
     pub(super) fn has_small_buffers(self) -> bool {
         self == Talk::Behind
+    }
+
+    /// Whether there is a report place.
+    pub(super) fn has_reports(self) -> bool {
+        matches!(self, Talk::Sixteen | Talk::Reports)
     }
 
     /// The service whose Watch counts what it is told.
@@ -175,7 +200,7 @@ const ROWS: [(&[u8], &[u8]); 13] = [
     (b"up \xff\n", b"bad line\n"),
     (
         b"stats\n",
-        b"entries 7 kept 7 connections 1 watches 1 sessions 2 calls 2 given_up 1 behind 0\n",
+        b"entries 7 kept 7 connections 1 watches 1 sessions 2 calls 2 given_up 0 behind 0 gone 1 expired 0 left 9993\n",
     ),
 ];
 
@@ -304,8 +329,8 @@ fn a_service_is_registered_and_retired_while_others_look(rt: HostRuntime) -> Res
     same(&found.told, &found.changes.wrapping_add(1), &"messages")
 }
 
-/// Sessions in pieces, with bad lines, and one too many.
-fn limits<R: Wait + Clock + Net<Stream = TcpStream>>(
+/// Sessions in pieces, with bad lines.
+fn limits<R: Net<Stream = TcpStream>>(
     rt: &R,
     alloc: Global,
     addresses: Addresses,
@@ -324,38 +349,11 @@ fn limits<R: Wait + Clock + Net<Stream = TcpStream>>(
     long.say(&vec![in alloc; b'x'; 1_025]?)?;
     long.say(b"\ndown a\n")?;
     long.expect(alloc, b"line too long\n")?;
-    long.expect_end()?;
-    seventeen(rt, alloc, addr)
-}
-
-/// Sixteen sessions, and one more, which has said a line before it is told so, and whose socket stays open.
-fn seventeen<R: Wait + Clock + Net<Stream = TcpStream>>(
-    rt: &R,
-    alloc: Global,
-    addr: SocketAddr,
-) -> Result<(), Fail> {
-    // The sessions before may still be ending.
-    thread::sleep(rt, Duration::from_millis(300));
-    let mut talkers = Vec::new(alloc);
-    for _ in 0..16u8 {
-        let mut talker = Talker::open(rt, addr)?;
-        talker.say(b"check a\n")?;
-        talker.expect(alloc, b"serving\n")?;
-        talkers.push(talker)?;
-    }
-    let mut other = Talker::open(rt, addr)?;
-    other.say(b"check a\n")?;
-    thread::sleep(rt, Duration::from_millis(50));
-    other.expect(alloc, b"too many sessions\n")?;
-    other.expect_end()?;
-    drop(talkers.pop());
-    let mut next = Talker::open(rt, addr)?;
-    next.say(b"down a\n")?;
-    next.expect(alloc, b"done\n")
+    long.expect_end()
 }
 
 #[test]
-fn sessions_are_cut_anywhere_and_are_sixteen_at_most(rt: HostRuntime) -> Result<(), Fail> {
+fn sessions_are_cut_anywhere(rt: HostRuntime) -> Result<(), Fail> {
     let found = run_beside(&rt, rt.alloc(), SCRIPT, Talk::Limits)?;
-    same(&found.entries, &7, &"entries")
+    same(&found.entries, &6, &"entries")
 }

@@ -3,7 +3,7 @@ use crate::serve::live_loops::{LOOPS, LiveLoops};
 use crate::serve::load::Load;
 use crate::serve::script_hall::script_hall;
 use desk_core::KeepMany;
-use live_run::run_live;
+use live_run::{SessionPlaces, run_live};
 use live_server::{EventServer, News};
 use probe_core::{Maker, Probe};
 use server::SetUpHall;
@@ -59,7 +59,11 @@ fn run_loops<R, P: Probe + Send, M: Maker<P> + Sync>(
 where
     R: Clock + Wait + Threads + Sync,
 {
-    let ran = run_live(rt, alloc, made, servers, None, maker, news).ok()?;
+    let places = SessionPlaces {
+        control: None,
+        report: None,
+    };
+    let ran = run_live(rt, alloc, made, servers, places, maker, news).ok()?;
     let mut ended = 0u64;
     for server in &ran.servers {
         ended = ended.saturating_add(server.ended());

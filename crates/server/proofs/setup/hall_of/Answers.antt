@@ -1,4 +1,4 @@
-use Rattle.std.proofs.Common.{ap, ◌∙◌, arith}
+use Rattle.std.proofs.Common.{ap, sym, ◌∙◌, arith}
 use Rattle.hall.specs.Seats.{new_seats}
 use Rattle.script.specs.Change.{line_changes}
 use Rattle.server.proofs.SeatLemmas.{new_len, first_ours, set_up_ours, set_up_by_first}
@@ -22,7 +22,9 @@ returns-clause-seats g c =
     c.in_ok-results.ensures.met
 
 pub invariant_of-result : goal.invariant_of-result
-invariant_of-result g c =
-    set_up_ours c.in-Ok.hall _ _ c.in-Ok.dealt.items c.index_mut.result.now c.run_setup.new.seat _ _ c.in-Ok.ensures.hall.0 c.in-Ok.ensures.seats
-    (first_ours c.in-Ok.hall _ _ c.in-Ok.dealt.items c.index_mut.result.now c.in-Ok.ensures.hall.0 c.in-Ok.ensures.seats c.requires.some c.index_mut.ensures.value)
-    c.in_ok-results.ensures.met
+invariant_of-result g c = (
+  set_up_ours c.in-Ok.hall _ _ c.in-Ok.dealt.items c.index_mut.result.now c.run_setup.new.seat _ _ c.in-Ok.ensures.hall.0 c.in-Ok.ensures.seats
+      (first_ours c.in-Ok.hall _ _ c.in-Ok.dealt.items c.index_mut.result.now c.in-Ok.ensures.hall.0 c.in-Ok.ensures.seats c.requires.some c.index_mut.ensures.value)
+      c.in_ok-results.ensures.met,
+  sym c.in-Ok.ensures.hall.0,
+)

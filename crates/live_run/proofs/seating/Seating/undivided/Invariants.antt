@@ -1,6 +1,6 @@
 use Rattle.std.proofs.Common.{◌≡◌, ◌≤◌, ◌+◌, ◌++◌, map, length, vec_len, vec_capacity}
 use Rattle.std.specs.Vec.Iter.{into_iter_items, into_iter_len}
-use Rattle.live_run.proofs.seating.Seating.new.Given as goal
+use Rattle.live_run.proofs.seating.Seating.undivided.Given as goal
 
 abbrev pub invariant-loop-server : goal.invariant-loop-server
 invariant-loop-server g l =
@@ -11,5 +11,5 @@ invariant-loop-server g l =
 
 abbrev pub invariant-loop-seat : goal.invariant-loop-seat
 invariant-loop-seat g l =
-    (l.fn.seats.items ≡ l.back.seats.items ++ (map (λ seated. seated.seat) l.loops.items ++ (l.spare.items ++ into_iter_items l.seat-iterator)))
-    × (length l.spare.items + into_iter_len l.seat-iterator ≤ vec_capacity l.spare)
+    (l.fn.seats.items ≡ l.back.seats.items ++ (map (λ seated. seated.seat) l.loops.items ++ (l.report.items ++ into_iter_items l.seat-iterator)))
+    × (length l.report.items + into_iter_len l.seat-iterator ≤ vec_capacity l.report)
