@@ -20,5 +20,5 @@ pub(crate) fn ask_at<R: Net<Stream = TcpStream>>(
     requires most { 1 ≤ most }
 {
     let addr = SocketAddr::from(([127, 0, 0, 1], port));
-    ask_for_good(rt, alloc, addr, method, name, most)
+    ask_for_good(rt, alloc, addr, method, name, most).map_err(|failure| failure.plain())
 }

@@ -62,3 +62,28 @@ fn takes_nine_tenths_where_no_watches_are_asked_for(_rt: HostRuntime) -> Result<
     }
     Ok(())
 }
+
+/// Connections and Watches, how many connections can be held, and the bounds within that, where there are any.
+const WITHIN: [(u32, u32, u32, Option<(u32, u32)>); 9] = [
+    (10_000, 9_000, 20_000, Some((10_000, 9_000))),
+    (10_000, 9_000, 10_000, Some((10_000, 9_000))),
+    (10_000, 9_000, 960, Some((960, 864))),
+    // as many Watches as connections, as long as these are not fewer
+    (10, 10, 10, Some((10, 10))),
+    (10, 10, 9, Some((9, 8))),
+    (10, 2, 5, Some((5, 2))),
+    (10, 9, 1, Some((1, 0))),
+    (10, 9, 0, None),
+    (1, 0, 0, None),
+];
+
+#[test]
+fn takes_fewer_where_fewer_can_be_held(_rt: HostRuntime) -> Result<(), Fail> {
+    for row in &WITHIN {
+        let (connections, watches, most, expected) = *row;
+        let within = Bounds::new(connections, watches).and_then(|bounds| bounds.within(most));
+        let found = within.map(|bounds| (bounds.connections(), bounds.limits().watches as u32));
+        same(&found, &expected, row)?;
+    }
+    Ok(())
+}

@@ -5,7 +5,7 @@ use std::test::Fail;
 use test_support::same;
 
 /// The words behind the program's name, and why they are refused, if they are. `--help` and `--version` refuse to run anything.
-static ROWS: [(&[&str], Option<ErrorKind>); 56] = [
+static ROWS: [(&[&str], Option<ErrorKind>); 61] = [
     (&["body", "0000000000"], None),
     (&["body"], Some(ErrorKind::MissingRequiredArgument)),
     (&["replay"], None),
@@ -72,6 +72,8 @@ static ROWS: [(&[&str], Option<ErrorKind>); 56] = [
     (&["run", "--listen"], Some(ErrorKind::InvalidValue)),
     (&["run", "--script"], Some(ErrorKind::InvalidValue)),
     (&["run", "--listen", "[::1]:8080", "--script", "s"], None),
+    (&["run", "--report", "/run/healthd-report.sock"], None),
+    (&["run", "--report"], Some(ErrorKind::InvalidValue)),
     (&["run", "--threads", "64"], None),
     (&["run", "--threads", "0"], Some(ErrorKind::ValueValidation)),
     (
@@ -154,6 +156,18 @@ static ROWS: [(&[&str], Option<ErrorKind>); 56] = [
         Some(ErrorKind::MissingRequiredArgument),
     ),
     (&["tell", "--control"], Some(ErrorKind::InvalidValue)),
+    (
+        &["tell", "--control", "/s", "--timeout", "3600", "stop"],
+        None,
+    ),
+    (
+        &["tell", "--control", "/s", "--timeout", "0"],
+        Some(ErrorKind::ValueValidation),
+    ),
+    (
+        &["tell", "--control", "/s", "--timeout", "3601"],
+        Some(ErrorKind::ValueValidation),
+    ),
     (&["tell", "--help"], Some(ErrorKind::DisplayHelp)),
 ];
 
@@ -177,9 +191,11 @@ fn takes_and_refuses_command_lines(rt: HostRuntime) -> Result<(), Fail> {
 }
 
 /// What the help of `run` has to say: each option with its example, and each line of a script.
-const RUN_HELP: [&str; 22] = [
+const RUN_HELP: [&str; 25] = [
     "--listen <ADDR>",
     "e.g. 0.0.0.0:8080 or [::1]:8080",
+    "--report <PLACE>",
+    "its owner's group may open too",
     "--script <FILE>",
     "e.g. /etc/healthd",
     "--threads <T>",
@@ -199,6 +215,7 @@ const RUN_HELP: [&str; 22] = [
     "shutdown",
     "resume",
     "begins with # is a comment",
+    "max N",
     "not answered done or replaced",
 ];
 
@@ -220,14 +237,16 @@ const ASK_HELP: [&str; 13] = [
 ];
 
 /// What the help of `tell` has to say: where it sends, what, and the exit status.
-const TELL_HELP_PARTS: [&str; 7] = [
+const TELL_HELP_PARTS: [&str; 9] = [
     "--control <PLACE>",
     "e.g. 127.0.0.1:8081",
     "e.g. /run/healthd",
     "e.g. fail db",
     "standard input",
     "exit status is 3",
-    "refused .., missing, wrong kind",
+    "refused .., missing, wrong kind, ignored, not allowed",
+    "--timeout <S>",
+    "1 to 3600, e.g. 2",
 ];
 
 fn expect_help(alloc: Global, name: &str, parts: &[&str]) -> Result<(), Fail> {

@@ -20,6 +20,8 @@ mod expect;
 #[cfg(test)]
 mod fault;
 #[cfg(test)]
+mod files;
+#[cfg(test)]
 mod replay;
 #[cfg(test)]
 mod run;
@@ -33,5 +35,7 @@ mod serve;
 mod tell;
 #[cfg(test)]
 mod tell_failure;
+#[cfg(test)]
+mod terminal;
 #[cfg(test)]
 mod texts;

@@ -8,10 +8,8 @@ use commands::run::{listen, listening_line, script_bytes, set_up};
 use commands::run_failure::RunFailure;
 use commands::run_options::Source;
 use control::Place;
-use desk_core::{CatalogueFault, KeepMany, Refusal, Reply};
-use live_run::RefusedLine;
+use desk_core::KeepMany;
 use probe_core::{Depends, FnMaker, Maker, Manual, Probe, ProbeFn, Rule, Threshold};
-use script::ScriptFault;
 use server::SetUpHall;
 use std::alloc::{AllocError, Global};
 use std::io;
@@ -55,62 +53,55 @@ fn failure_of<'a, R: Wait>(rt: &R, alloc: Global, bytes: &[u8]) -> Option<RunFai
     failure_with(rt, alloc, make, bytes)
 }
 
-/// Scripts, and why they set up no hall.
-const SCRIPTS: [(&[u8], RunFailure<'static>); 9] = [
-    (b"", RunFailure::Script(ScriptFault::BadLine(1))),
-    (b"\xff", RunFailure::Script(ScriptFault::NotText)),
+/// Scripts, and what is told of them where they set up no hall.
+const SCRIPTS: [(&[u8], &str); 10] = [
+    (b"", "no catalogue line"),
+    (b"\xff", "script not text"),
     (
         b"catalogue a\n",
-        RunFailure::Script(ScriptFault::Catalogue(CatalogueFault::NoEmptyName)),
+        "catalogue: no empty name, expected - among the names",
     ),
     (
         b"catalogue -\nmax 1\ngo\n",
-        RunFailure::Script(ScriptFault::BadLine(3)),
+        "script line 3: \"go\": not in a script to run",
+    ),
+    (
+        b"catalogue db -\n# two\nregister db treshold 2\n",
+        "script line 3: \"register db treshold 2\": no such rule, expected threshold, manual or depends",
     ),
     // comments and empty lines have numbers, and a line may end in CR LF
     (
         b"# names\r\ncatalogue a -\r\n\r\nmax 9\r\npass a\r\n",
-        RunFailure::Refused(RefusedLine {
-            number: 5,
-            answer: Ok(Reply::Missing),
-        }),
+        "script line 5: missing",
     ),
     (
         b"catalogue a -\nmax 1\nregister a manual\n\nregister - manual\n",
-        RunFailure::Refused(RefusedLine {
-            number: 5,
-            answer: Err(Refusal::Full),
-        }),
+        "script line 5: refused full",
     ),
     (
-        b"catalogue a -\nmax 9\nregister b manual\n",
-        RunFailure::Refused(RefusedLine {
-            number: 3,
-            answer: Err(Refusal::NotListed),
-        }),
+        b"catalogue a -\nregister b manual\n",
+        "script line 2: refused not listed",
     ),
     (
-        b"catalogue a -\nmax 9\nregister a threshold 0\n",
-        RunFailure::Refused(RefusedLine {
-            number: 3,
-            answer: Err(Refusal::BadRule),
-        }),
+        b"catalogue a -\nregister a threshold 0\n",
+        "script line 2: refused bad rule",
     ),
     // the first of two counts
     (
         b"catalogue a -\nmax 9\nregister a manual\npass a\nretire -\n",
-        RunFailure::Refused(RefusedLine {
-            number: 4,
-            answer: Ok(Reply::WrongKind),
-        }),
+        "script line 4: wrong kind",
     ),
 ];
 
 #[test]
 fn ends_where_a_script_is_none_or_a_change_is_not_made(rt: HostRuntime) -> Result<(), Fail> {
+    let alloc = rt.alloc();
     for (script, expected) in &SCRIPTS {
-        let failure = failure_of(&rt, rt.alloc(), *script);
-        same(&failure.as_ref(), &Some(expected), script)?;
+        let told = match failure_of(&rt, alloc, *script) {
+            Some(failure) => format!(in alloc; "{failure}")?,
+            None => String::new(alloc),
+        };
+        same(&told.as_str(), expected, script)?;
     }
     Ok(())
 }

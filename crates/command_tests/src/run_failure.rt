@@ -1,5 +1,5 @@
 use commands::cause::Cause;
-use commands::run_failure::RunFailure;
+use commands::run_failure::{RunFailure, script_failure};
 use commands::run_options::Source;
 use control::Place;
 use desk_core::{Refusal, Reply};
@@ -22,6 +22,7 @@ fn cause(code: i32) -> Cause {
 
 #[test]
 fn tells_each_fault_with_its_cause(rt: HostRuntime) -> Result<(), Fail> {
+    let bytes = b"catalogue db -\nfail";
     let rows = [
         (
             RunFailure::Read(Source::File("/etc/healthd"), cause(13)),
@@ -31,7 +32,18 @@ fn tells_each_fault_with_its_cause(rt: HostRuntime) -> Result<(), Fail> {
             RunFailure::Read(Source::StandardInput, cause(21)),
             "read standard input: is a directory",
         ),
-        (RunFailure::Script(ScriptFault::BadLine(3)), "script line 3"),
+        (
+            script_failure(rt.alloc(), bytes, ScriptFault::BadLine(2)),
+            "script line 2: \"fail\": expected fail NAME",
+        ),
+        (
+            script_failure(rt.alloc(), b"\xff", ScriptFault::NotText),
+            "script not text",
+        ),
+        (
+            script_failure(rt.alloc(), bytes, ScriptFault::NoMemory),
+            "out of memory",
+        ),
         (
             RunFailure::Refused(RefusedLine {
                 number: 4,
@@ -56,6 +68,11 @@ fn tells_each_fault_with_its_cause(rt: HostRuntime) -> Result<(), Fail> {
         (
             RunFailure::Bind(Place::Path("/run/healthd"), cause(98)),
             "bind /run/healthd: address in use",
+        ),
+        (RunFailure::TooFewFiles, "too few open files"),
+        (
+            RunFailure::HandedOver,
+            "LISTEN_FDS: descriptor 3 is no listening TCP socket",
         ),
         (
             RunFailure::EventLoop(cause(24)),

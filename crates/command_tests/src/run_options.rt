@@ -73,6 +73,7 @@ fn expect_read(alloc: Global, row: &Row<'_>) -> Result<(), Fail> {
         (Ok(listen), Some(bounds)) => Some(Ok(RunOptions {
             listen,
             control: None,
+            report: None,
             script,
             threads,
             bounds,
@@ -91,17 +92,24 @@ fn reads_its_options(rt: HostRuntime) -> Result<(), Fail> {
     Ok(())
 }
 
-fn expect_control(alloc: Global, text: &str, expected: Place<'_>) -> Result<(), Fail> {
-    let words = ["healthd", "run", "--control", text];
-    let matches = command(alloc)?.try_get_matches_from(words.as_slice())?;
-    let is_read = matches.subcommand().is_some_and(|named| {
-        RunOptions::read(named.1).is_ok_and(|options| options.control == Some(expected))
-    });
-    same(&is_read, &true, &text)
+/// The text is read as that place, behind the option of each kind of place.
+fn expect_place(alloc: Global, text: &str, expected: Place<'_>) -> Result<(), Fail> {
+    for (option, places) in [
+        ("--control", (Some(expected), None)),
+        ("--report", (None, Some(expected))),
+    ] {
+        let words = ["healthd", "run", option, text];
+        let matches = command(alloc)?.try_get_matches_from(words.as_slice())?;
+        let is_read = matches.subcommand().is_some_and(|named| {
+            RunOptions::read(named.1).is_ok_and(|read| (read.control, read.report) == places)
+        });
+        same(&is_read, &true, &(option, text))?;
+    }
+    Ok(())
 }
 
 #[test]
-fn reads_where_changes_are_asked_for(rt: HostRuntime) -> Result<(), Fail> {
+fn reads_where_changes_are_asked_for_and_findings_reported(rt: HostRuntime) -> Result<(), Fail> {
     let rows = [
         (
             "127.0.0.1:8081",
@@ -118,13 +126,13 @@ fn reads_where_changes_are_asked_for(rt: HostRuntime) -> Result<(), Fail> {
         ("/run/healthd", Place::Path("/run/healthd")),
     ];
     for (text, expected) in &rows {
-        expect_control(rt.alloc(), *text, *expected)?;
+        expect_place(rt.alloc(), *text, *expected)?;
     }
     Ok(())
 }
 
 /// The words behind `run`, and the first line of the text by which they are refused.
-const BAD: [(&[&str], &str); 11] = [
+const BAD: [(&[&str], &str); 14] = [
     (
         &["--listen", "8080"],
         "error: invalid value '8080' for '--listen <ADDR>': not an address and a port",
@@ -160,6 +168,19 @@ const BAD: [(&[&str], &str); 11] = [
     (
         &["--control", ""],
         "error: invalid value '' for '--control <PLACE>': not a loopback address and a port, and no path of a socket that begins with '/'",
+    ),
+    (
+        &["--report", "0.0.0.0:8081"],
+        "error: invalid value '0.0.0.0:8081' for '--report <PLACE>': not a loopback address and a port, and no path of a socket that begins with '/'",
+    ),
+    (
+        &["--report", "run/healthd"],
+        "error: invalid value 'run/healthd' for '--report <PLACE>': not a loopback address and a port, and no path of a socket that begins with '/'",
+    ),
+    // the first of two counts
+    (
+        &["--report", "", "--control", "-"],
+        "error: invalid value '-' for '--control <PLACE>': not a loopback address and a port, and no path of a socket that begins with '/'",
     ),
     (
         &["--watches", "10001"],

@@ -10,9 +10,10 @@ use test_support::same;
 const PLACE: Place<'static> = Place::Path("/run/healthd");
 
 /// What goes wrong between the client and the server, and its text behind the program's name.
-fn texts() -> [(TellFailure<'static>, &'static str); 8] {
+fn texts() -> [(TellFailure<'static>, &'static str); 10] {
     let refused = io::Error::from(ErrorKind::ConnectionRefused);
     let broken = io::Error::from(ErrorKind::BrokenPipe);
+    let late = io::Error::from(ErrorKind::TimedOut);
     [
         (
             TellFailure::Connect(PLACE, Cause::from(refused)),
@@ -25,6 +26,14 @@ fn texts() -> [(TellFailure<'static>, &'static str); 8] {
         (
             failure_at(PLACE, TellFault::Read(refused)),
             "read /run/healthd: connection refused",
+        ),
+        (
+            failure_at(PLACE, TellFault::Read(late)),
+            "timed out, the change may still be made",
+        ),
+        (
+            failure_at(PLACE, TellFault::Write(late)),
+            "timed out, the change may still be made",
         ),
         (failure_at(PLACE, TellFault::NoAnswer), "no answer"),
         (failure_at(PLACE, TellFault::TooLong), "answer too long"),

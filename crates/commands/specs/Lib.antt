@@ -1,4 +1,5 @@
 pub mod Answer
+pub mod AskFailure
 pub mod Bounds
 pub mod Expect
 pub mod Fault
@@ -8,3 +9,4 @@ pub mod RunFailure
 pub mod RunOptions
 pub mod Service
 pub mod Tell
+pub mod Terminal

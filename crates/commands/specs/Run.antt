@@ -1,5 +1,5 @@
 -- How the command `run` sets its hall up, and how much its loops may hold.
-use Rattle.std.specs.Prelude.{ℕ, ◌≡◌, List, [], length, Option, Result}
+use Rattle.std.specs.Prelude.{ℕ, ◌≡◌, List, [], length, string_bytes, Option, Result}
 use Rattle.std.specs.List.{All}
 use Rattle.desk_core.specs.declared.call.Call.{Call}
 use Rattle.desk_core.specs.declared.entry.Entry.{Entry}
@@ -9,6 +9,7 @@ use Rattle.desk_core.specs.Mutation.{AreAnswered, IsAnswered}
 use Rattle.hall.specs.Seats.{new_seats}
 use Rattle.script.specs.Change.{line_changes}
 use Rattle.script.specs.declared.script.Mode.TheVariants.{Run}
+use Rattle.script.specs.Explanation.{IsExplanation}
 use Rattle.script.specs.Script.{ScriptParts, IsScript, IsScriptFault}
 use Rattle.server.specs.Setup.{SetUpState, AreSetUp}
 use Rattle.live_server.specs.Loop.{EventServer}
@@ -18,7 +19,7 @@ use Rattle.live_run.specs.declared.refused_line.RefusedLine.{RefusedLine}
 use Rattle.live_run.specs.RefusedLine.{IsFirstRefused, IsMade}
 use Rattle.commands.specs.declared.bounds.Bounds.{Bounds}
 use Rattle.commands.specs.declared.run_failure.RunFailure.{RunFailure}
-use Rattle.commands.specs.declared.run_failure.RunFailure.TheVariants.{Read, Script, Refused, Bind, EventLoop, Write, OutOfMemory}
+use Rattle.commands.specs.declared.run_failure.RunFailure.TheVariants.{Read, Script, Refused, Bind, TooFewFiles, HandedOver, EventLoop, Write, OutOfMemory}
 
 -- a hall whose first seat alone has made changes: these, and each as it was asked for
 pub record IsWhollySetUp (calls : List (Option Call)) (made : SetUpState) : Type 0 where
@@ -49,12 +50,15 @@ pub record IsRefusedLine (bytes : List ℕ) (line : RefusedLine) : Type 0 where
   pub alone : AreMadeAlone script.max (line_changes script.names script.lines) results
   pub first : IsFirstRefused script.numbers results line
 
--- a failure of the setup: the first fault of the bytes as a script, the first line that is refused, or out of memory
+-- a failure of the setup: the first fault of the bytes as a script, with what is said of it, the first line that is refused, or out of
+-- memory
 abbrev pub EndsSetUp : List ℕ → RunFailure → Type 0
 EndsSetUp bytes (Read source cause) = ⊥
-EndsSetUp bytes (Script fault) = IsScriptFault Run bytes fault
+EndsSetUp bytes (Script fault text) = IsScriptFault Run bytes fault × IsExplanation bytes fault (string_bytes text)
 EndsSetUp bytes (Refused line) = IsRefusedLine bytes line
 EndsSetUp bytes (Bind addr cause) = ⊥
+EndsSetUp bytes TooFewFiles = ⊥
+EndsSetUp bytes HandedOver = ⊥
 EndsSetUp bytes (EventLoop cause) = ⊥
 EndsSetUp bytes (Write cause) = ⊥
 EndsSetUp bytes OutOfMemory = Unit {0}

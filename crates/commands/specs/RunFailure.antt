@@ -1,13 +1,19 @@
 -- What ends the command `run`.
+use Rattle.std.specs.Prelude.{ℕ, ◌≡◌, ◌≢◌, List, string_bytes}
 use Rattle.script.specs.declared.script_fault.ScriptFault.{ScriptFault}
-use Rattle.script.specs.declared.script_fault.ScriptFault.TheVariants as script
+use Rattle.script.specs.declared.script_fault.ScriptFault.TheVariants.{NoMemory}
+use Rattle.script.specs.Explanation.{IsExplanation}
 use Rattle.commands.specs.declared.run_failure.RunFailure.{RunFailure}
-use Rattle.commands.specs.declared.run_failure.RunFailure.TheVariants.{Script, OutOfMemory}
+use Rattle.commands.specs.declared.run_failure.RunFailure.TheVariants.{Read, Script, Refused, Bind, TooFewFiles, HandedOver, EventLoop, Write, OutOfMemory}
 
--- the failure of a run whose bytes are no script, or that has no memory for it
-abbrev pub failure_of : ScriptFault → RunFailure
-failure_of script.TooLong = Script script.TooLong
-failure_of script.NotText = Script script.NotText
-failure_of (script.BadLine number) = Script (script.BadLine number)
-failure_of (script.Catalogue fault) = Script (script.Catalogue fault)
-failure_of script.NoMemory = OutOfMemory
+-- the failure of a run whose bytes have this fault as a script: the fault with what is said of it, or out of memory
+abbrev pub IsScriptFailure : List ℕ → ScriptFault → RunFailure → Type 0
+IsScriptFailure bytes fault (Read source cause) = ⊥
+IsScriptFailure bytes fault (Script told text) = (told ≡ fault) × (fault ≢ NoMemory) × IsExplanation bytes fault (string_bytes text)
+IsScriptFailure bytes fault (Refused line) = ⊥
+IsScriptFailure bytes fault (Bind place cause) = ⊥
+IsScriptFailure bytes fault TooFewFiles = ⊥
+IsScriptFailure bytes fault HandedOver = ⊥
+IsScriptFailure bytes fault (EventLoop cause) = ⊥
+IsScriptFailure bytes fault (Write cause) = ⊥
+IsScriptFailure bytes fault OutOfMemory = Unit {0}

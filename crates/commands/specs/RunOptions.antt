@@ -7,7 +7,7 @@ use Rattle.control.specs.Place.{IsPlaceText}
 use Rattle.commands.specs.Bounds.{watches_of}
 use Rattle.commands.specs.declared.bounds.Bounds.{Bounds}
 use Rattle.commands.specs.declared.run_options.BadOption.{BadOption}
-use Rattle.commands.specs.declared.run_options.BadOption.TheVariants.{Listen, Control, Watches}
+use Rattle.commands.specs.declared.run_options.BadOption.TheVariants.{Listen, Control, Report, Watches}
 use Rattle.commands.specs.declared.run_options.Source.{Source}
 use Rattle.commands.specs.declared.run_options.Source.TheVariants.{StandardInput, File}
 
@@ -30,12 +30,12 @@ pub record AreBoundsIn {E : Type 0} (gives : List ℕ → Result ℕ E → Type 
   pub connections_are : bounds.connections ≡ unwrap_or connections 1
   pub watches_are : bounds.watches ≡ watches_of bounds.connections watches
 
--- the control place is what the option's text says, and there is none exactly where there is no such option
-abbrev pub IsControlIn : Option (List ℕ) → Option Place → Type 0
-IsControlIn None None = Unit {0}
-IsControlIn None (Some place) = ⊥
-IsControlIn (Some text) None = ⊥
-IsControlIn (Some text) (Some place) = IsPlaceText text place
+-- the place is what the option's text says, and there is none exactly where there is no such option
+abbrev pub IsPlaceIn : Option (List ℕ) → Option Place → Type 0
+IsPlaceIn None None = Unit {0}
+IsPlaceIn None (Some place) = ⊥
+IsPlaceIn (Some text) None = ⊥
+IsPlaceIn (Some text) (Some place) = IsPlaceText text place
 
 -- the numbers of the options `connections` and `watches` are no bounds: there are no connections, or more Watches than those
 pub record AreTooMany {E : Type 0} (gives : List ℕ → Result ℕ E → Type 0) (found : Found) (watches connections : ℕ) : Type 0 where
@@ -47,9 +47,9 @@ pub record AreTooMany {E : Type 0} (gives : List ℕ → Result ℕ E → Type 0
   pub watches_are : watches ≡ unwrap_or watches_asked 0
   pub many : (connections ≡ 0) ⊎ (connections < watches_of connections watches_asked)
 
--- the option `control` has this text, which names no place
-pub record IsNoControl (found : Found) (text : List ℕ) : Type 0 where
-  pub has : first_value found (codes "control") ≡ Some text
+-- the option of this name has this text, which names no place
+pub record IsNoPlace (found : Found) (name text : List ℕ) : Type 0 where
+  pub has : first_value found name ≡ Some text
   pub none : (place : Place) → ¬ IsPlaceText text place
 
 module _ {T A E : Type 0} (addr_gives : List ℕ → Result T A → Type 0) (number_gives : List ℕ → Result ℕ E → Type 0) (found : Found) where
@@ -57,21 +57,34 @@ module _ {T A E : Type 0} (addr_gives : List ℕ → Result T A → Type 0) (num
   abbrev pub HasListen : Type 0
   HasListen = (addr : T) × IsReadAs addr_gives found (codes "listen") (Some addr)
 
-  -- the first that is wrong of these: the address to listen at, the place of changes, the bounds
+  -- the option of this name is there and names a place, or is not there
+  abbrev pub HasPlace : List ℕ → Type 0
+  HasPlace name = (place : Option Place) × IsPlaceIn (first_value found name) place
+
+  -- the first that is wrong of these: the address to listen at, the place of changes, that of reports, the bounds
   abbrev pub IsBadIn : BadOption → Type 0
   IsBadIn (Listen text) = IsReadAs addr_gives found (codes "listen") None × (text.now ≡ unwrap_or (first_value found (codes "listen")) [])
-  IsBadIn (Control text) = HasListen × IsNoControl found text.now
-  IsBadIn (Watches watches connections) = HasListen × ((place : Option Place) × IsControlIn (first_value found (codes "control")) place)
-      × AreTooMany number_gives found watches connections
+  IsBadIn (Control text) = HasListen × IsNoPlace found (codes "control") text.now
+  IsBadIn (Report text) = HasListen × HasPlace (codes "control") × IsNoPlace found (codes "report") text.now
+  IsBadIn (Watches watches connections) = HasListen × HasPlace (codes "control") × HasPlace (codes "report") × AreTooMany number_gives found watches connections
 
 -- the bounds alone are wrong
 abbrev pub IsBadBounds : {E : Type 0} → (List ℕ → Result ℕ E → Type 0) → Found → BadOption → Type 0
 IsBadBounds gives found (Listen text) = ⊥
 IsBadBounds gives found (Control text) = ⊥
+IsBadBounds gives found (Report text) = ⊥
 IsBadBounds gives found (Watches watches connections) = AreTooMany gives found watches connections
 
 -- the place of changes alone is wrong
 abbrev pub IsBadControl : Found → BadOption → Type 0
 IsBadControl found (Listen text) = ⊥
-IsBadControl found (Control text) = IsNoControl found text.now
+IsBadControl found (Control text) = IsNoPlace found (codes "control") text.now
+IsBadControl found (Report text) = ⊥
 IsBadControl found (Watches watches connections) = ⊥
+
+-- the place of reports alone is wrong
+abbrev pub IsBadReport : Found → BadOption → Type 0
+IsBadReport found (Listen text) = ⊥
+IsBadReport found (Control text) = ⊥
+IsBadReport found (Report text) = IsNoPlace found (codes "report") text.now
+IsBadReport found (Watches watches connections) = ⊥

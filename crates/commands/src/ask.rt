@@ -1,11 +1,14 @@
 ghost use Rattle.std.specs.Prelude.{◌≡◌, ◌≤◌, ◌↔◌, ◌⊎◌, IfNone, IfOk, IfSome, length};
 ghost use Rattle.commands.specs.Expect.{IsExpected};
 
+use crate::ask_failure::AskFailure;
+use crate::cause::Cause;
 use crate::command::port_in;
 use crate::deadline::{Deadline, TimedStream};
 use crate::expect::{exit_status, status_name};
 use crate::fault::Fault;
 use clap::ArgMatches;
+use clap::parser::ValueSource;
 use client::{Ended, Told, ask};
 use std::alloc::{AllocError, Global};
 use std::fmt::Write as _;
@@ -19,7 +22,25 @@ use web_call::Method;
 const MAX_NAME_LEN: usize = 1_048_576;
 
 /// The command `ask`, which asks the server that listens there. It tells the exit status.
-pub fn run<R>(rt: &R, matches: &ArgMatches<'_>, addr: SocketAddr) -> Result<u8, Fault>
+pub fn run<R>(rt: &R, matches: &ArgMatches<'_>, addr: SocketAddr) -> Result<u8, AskFailure>
+where
+    R: Print + Clock + AllocGlobal + Net<Stream = TcpStream>,
+    ensures one_of_two { IfOk result (λ status. (status ≡ 0) ⊎ (status ≡ 3)) }
+{
+    match ask_and_print(rt, matches, addr) {
+        Ok(status) => Ok(status),
+        Err(failure) if tells_cause(matches) => Err(failure),
+        Err(failure) => Err(AskFailure::Plain(failure.plain())),
+    }
+}
+
+/// Whether a failure tells its cause: where one of the options is given that came with it. Without them the texts stay as they were.
+pub fn tells_cause(matches: &ArgMatches<'_>) -> bool {
+    ["host", "timeout", "expect"].iter().any(|id| matches.value_source(id)
+        == Some(ValueSource::CommandLine))
+}
+
+fn ask_and_print<R>(rt: &R, matches: &ArgMatches<'_>, addr: SocketAddr) -> Result<u8, AskFailure>
 where
     R: Print + Clock + AllocGlobal + Net<Stream = TcpStream>,
     ensures one_of_two { IfOk result (λ status. (status ≡ 0) ⊎ (status ≡ 3)) }
@@ -27,20 +48,15 @@ where
     let alloc = rt.alloc();
     let name = name_in(matches);
     if name.len() > MAX_NAME_LEN {
-        return Err(Fault::NameTooLong);
+        return Err(AskFailure::Plain(Fault::NameTooLong));
     }
     let (method, most) = call_in(matches);
     let told = match timeout_in(matches) {
         Some(timeout) => ask_within(rt, alloc, addr, timeout, method, name, most)?,
         None => ask_for_good(rt, alloc, addr, method, name, most)?,
     };
-    print_told(
-        alloc,
-        &mut io::writer(rt),
-        method,
-        matches.get_str("expect"),
-        &told,
-    )
+    let expected = matches.get_str("expect");
+    Ok(print_told(alloc, &mut io::writer(rt), method, expected, &told)?)
 }
 
 /// Prints what was told. It tells the exit status, where a status of this name may be expected.
@@ -98,15 +114,16 @@ pub fn ask_for_good<R: Net<Stream = TcpStream>>(
     method: Method,
     name: &str,
     most: u32,
-) -> Result<Told, Fault>
+) -> Result<Told, AskFailure>
     requires name { length name.now ≤ 1048576 }
     requires most { 1 ≤ most }
 {
-    let Ok(stream) = TcpStream::connect(rt, addr) else {
-        return Err(Fault::Connect);
+    let stream = match TcpStream::connect(rt, addr) {
+        Ok(stream) => stream,
+        Err(error) => return Err(AskFailure::Connect(addr, Cause::from(error))),
     };
     let Ok(mut reader) = BufReader::new(alloc, &stream) else {
-        return Err(Fault::OutOfMemory);
+        return Err(AskFailure::Plain(Fault::OutOfMemory));
     };
     let mut writer = &stream;
     Ok(ask(alloc, &mut reader, &mut writer, method, name, most)?)
@@ -121,22 +138,27 @@ pub fn ask_within<R: Clock + Net<Stream = TcpStream>>(
     method: Method,
     name: &str,
     most: u32,
-) -> Result<Told, Fault>
+) -> Result<Told, AskFailure>
     requires name { length name.now ≤ 1048576 }
     requires most { 1 ≤ most }
 {
+    let late = AskFailure::TimedOut(timeout.as_secs());
     let Ok(deadline) = Deadline::after(rt, timeout) else {
-        return Err(Fault::TimedOut);
+        return Err(late);
     };
-    let stream = connect_by(rt, addr, deadline)?;
+    let stream = match connect_by(rt, addr, deadline) {
+        Ok(stream) => stream,
+        Err(error) if error.kind() == ErrorKind::TimedOut => return Err(late),
+        Err(error) => return Err(AskFailure::Connect(addr, Cause::from(error))),
+    };
     let Ok(mut reader) = BufReader::new(alloc, TimedStream::new(rt, &stream, deadline)) else {
-        return Err(Fault::OutOfMemory);
+        return Err(AskFailure::Plain(Fault::OutOfMemory));
     };
     let mut writer = TimedStream::new(rt, &stream, deadline);
     match ask(alloc, &mut reader, &mut writer, method, name, most) {
         Ok(told) => Ok(told),
-        Err(_) if reader.get_ref().is_late() || writer.is_late() => Err(Fault::TimedOut),
-        Err(fault) => Err(Fault::Ask(fault)),
+        Err(_) if reader.get_ref().is_late() || writer.is_late() => Err(late),
+        Err(fault) => Err(AskFailure::Plain(Fault::Ask(fault))),
     }
 }
 
@@ -144,15 +166,8 @@ fn connect_by<R: Clock + Net<Stream = TcpStream>>(
     rt: &R,
     addr: SocketAddr,
     deadline: Deadline,
-) -> Result<TcpStream, Fault> {
-    let Ok(left) = deadline.left(rt) else {
-        return Err(Fault::TimedOut);
-    };
-    match TcpStream::connect_timeout(rt, &addr, left) {
-        Ok(stream) => Ok(stream),
-        Err(error) if error.kind() == ErrorKind::TimedOut => Err(Fault::TimedOut),
-        Err(_) => Err(Fault::Connect),
-    }
+) -> io::Result<TcpStream> {
+    TcpStream::connect_timeout(rt, &addr, deadline.left(rt)?)
 }
 
 /// A line for each status, and one for the end of the call if it has one.

@@ -1,4 +1,4 @@
-ghost use Rattle.std.specs.Prelude.{min, max, ◌≡◌, ◌≤◌, ◌<◌, ◌↔◌, ◌⊎◌, IsSome, IsNone, IfSome};
+ghost use Rattle.std.specs.Prelude.{min, max, ◌≡◌, ◌≤◌, ◌<◌, ◌↔◌, ◌⊎◌, IsSome, IsNone, IfSome, None};
 ghost use Rattle.commands.specs.Bounds.{watches_of};
 
 use live_server::Limits;
@@ -18,8 +18,10 @@ pub struct Bounds {
 /// The bounds that a command line asks for: nine tenths of the connections may be Watches where it does not say how many. None where
 /// there are no connections, or more Watches than connections.
 pub fn bounds_of(connections: u32, watches: Option<u32>) -> Option<Bounds>
-    ensures value { IfSome result (λ bounds. (bounds.connections ≡ connections) × (bounds.watches ≡ watches_of connections watches)) }
-    ensures none { IsNone result ↔ ((connections ≡ 0) ⊎ (connections < watches_of connections watches)) }
+    ensures value { IfSome result (λ bounds. (bounds.connections ≡ connections) ×
+        (bounds.watches ≡ watches_of connections watches)) }
+    ensures none { IsNone result ↔ ((connections ≡ 0) ⊎ (connections < watches_of connections
+        watches)) }
 {
     Bounds::new(connections, watches_of(connections, watches))
 }
@@ -34,7 +36,8 @@ impl Bounds {
     /// None where there are no connections, or more Watches than connections.
     pub fn new(connections: u32, watches: u32) -> Option<Bounds>
         ensures lawful { IsSome result ↔ ((1 ≤ connections) × (watches ≤ connections)) }
-        ensures value { IfSome result (λ bounds. (bounds.connections ≡ connections) × (bounds.watches ≡ watches)) }
+        ensures value { IfSome result (λ bounds. (bounds.connections ≡ connections) ×
+            (bounds.watches ≡ watches)) }
     {
         if connections == 0 || watches > connections {
             return None;
@@ -43,6 +46,31 @@ impl Bounds {
             connections,
             watches,
         })
+    }
+
+    /// How many connections are open at once, at most.
+    pub fn connections(self) -> u32
+        ensures { result ≡ self.connections }
+    {
+        self.connections
+    }
+
+    /// The same bounds, as far as so many connections can be held: where they are fewer, Watches are nine tenths of them at most. None
+    /// where no connection can be.
+    pub fn within(self, connections: u32) -> Option<Bounds>
+        ensures none { IsNone result ↔ (connections ≡ 0) }
+        ensures connections { IfSome result (λ bounds. bounds.connections ≡ min self.connections
+            connections) }
+        ensures same { self.connections ≤ connections → IfSome result
+            (λ bounds. bounds.watches ≡ self.watches) }
+        ensures fewer { connections < self.connections
+            → IfSome result (λ bounds. bounds.watches ≡ min self.watches (watches_of connections None)) }
+    {
+        if connections >= self.connections {
+            return Some(self);
+        }
+        let watches = self.watches.min(watches_of(connections, None));
+        Bounds::new(connections, watches)
     }
 
     /// How many loops serve with so many threads: no more than there are connections, since more have nothing to do.

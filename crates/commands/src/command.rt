@@ -17,17 +17,23 @@ const MAX_CONNECTIONS: i64 = 1_000_000;
 const VERSION: &str = "0.1.0";
 
 const SCRIPT_HELP: &str = "\
-A script names the services, says how many changes there may be, and registers them:
+A script names the services, and registers them:
 
   # The whole server, -, is up where the database and the interface are.
   catalogue db api -
-  max 1000000
   register db threshold 2
   register api manual
   register - depends db api
 
 The word - is the empty name, which is the whole server's. A line that begins with # is a comment. \
-After max there may be these lines, in any order:
+Right after the catalogue there may be
+
+  max N
+      at most N changes are made while the server runs, and each later one is answered
+      refused full; without it 4294967295. It is for a test, or to stop a client that
+      makes changes without end
+
+and after these, in any order:
 
   register NAME threshold F [R [unknown]]
       down from F failures in a row until R passes in a row (R is 1 if omitted);
@@ -52,12 +58,17 @@ const TELL_HELP: &str = "\
 Each line has one answer, which is printed before the next line is sent; a line without a byte has none. \
 The exit status is 3 if an answer is one of
 
-  refused .., missing, wrong kind
+  refused .., missing, wrong kind, ignored, not allowed
       no service was changed
   bad line, line too long
       the line was not understood
+  not allowed
+      the place does not take such a line
 
-and 0 if there is no such answer.";
+and 0 if there is no such answer.
+
+Where an answer takes longer than --timeout, tell ends with \
+timed out, the change may still be made, and exit status 1.";
 
 /// The command line. A command that is not listed here is refused with clap's text.
 pub fn command<'a>(alloc: Global) -> Result<Command<'a>, AllocError> {
@@ -135,6 +146,7 @@ fn run<'a>(alloc: Global) -> Result<Command<'a>, AllocError> {
         .after_help(SCRIPT_HELP)
         .arg(listen(alloc))?
         .arg(control(alloc))?
+        .arg(report(alloc))?
         .arg(script)?
         .arg(threads)?
         .arg(connections(alloc))?
@@ -155,6 +167,15 @@ fn control<'a>(alloc: Global) -> Arg<'a> {
         .value_name("PLACE")
         .help(
             "Where changes are asked for, as by healthd tell: a loopback address and a port, e.g. 127.0.0.1:8081, or a path of a Unix socket that only its owner may open, e.g. /run/healthd.sock; without it there are no changes after the script's",
+        )
+}
+
+fn report<'a>(alloc: Global) -> Arg<'a> {
+    Arg::new(alloc, "report")
+        .long("report")
+        .value_name("PLACE")
+        .help(
+            "Where findings are reported, as by healthd tell, and nothing else is changed: a loopback address and a port, or a path of a Unix socket that its owner's group may open too, e.g. /run/healthd-report.sock; without it findings are reported at the control place",
         )
 }
 
@@ -271,7 +292,17 @@ fn tell<'a>(alloc: Global) -> Result<Command<'a>, AllocError> {
         .about("Send lines to a server that takes changes while it runs, and print its answers")
         .after_help(TELL_HELP)
         .arg(control)?
+        .arg(answer_timeout(alloc))?
         .arg(words)
+}
+
+fn answer_timeout<'a>(alloc: Global) -> Arg<'a> {
+    Arg::new(alloc, "timeout")
+        .long("timeout")
+        .value_name("S")
+        .help("How many seconds connecting, and each answer, may take, 1 to 3600, e.g. 2")
+        .default_value("10")
+        .value_parser(value_parser!(u16).range(1..=3_600))
 }
 
 /// The command line of a `tell` that is refused for this reason, with the text that clap has for such.

@@ -1,4 +1,5 @@
-ghost use Rattle.std.specs.Prelude.{◌≡◌, ◌<◌, IfOk};
+ghost use Rattle.std.specs.Prelude.{◌≡◌, ◌≢◌, ◌<◌, IfOk};
+ghost use Rattle.std.specs.IoError.{error_kind};
 ghost use Rattle.std.specs.Duration.{as_nanos};
 ghost use Rattle.std.specs.Io.{ReadsAtMost, WritesAtMost};
 
@@ -32,6 +33,17 @@ impl Deadline {
     }
 }
 
+/// An error of a call that waited as long as it might: `TimedOut` also where the system says that the call would block.
+pub(crate) fn as_timed_out(error: io::Error) -> io::Error
+    ensures late { error_kind error ≡ ErrorKind.WouldBlock → error_kind result ≡ ErrorKind.TimedOut }
+    ensures others { error_kind error ≢ ErrorKind.WouldBlock → result ≡ error }
+{
+    match error.kind() {
+        ErrorKind::WouldBlock => io::Error::from(ErrorKind::TimedOut),
+        _ => error,
+    }
+}
+
 /// A stream each of whose reads and writes ends at a deadline, and is `TimedOut` then.
 #[derive(Drop)]
 pub struct TimedStream<'a, C: Clock> {
@@ -58,13 +70,11 @@ impl<'a, C: Clock> TimedStream<'a, C> {
 
     /// Notes whether the time was up.
     fn note(&mut self, error: io::Error) -> io::Error {
-        match error.kind() {
-            ErrorKind::TimedOut | ErrorKind::WouldBlock => {
-                self.is_late = true;
-                io::Error::from(ErrorKind::TimedOut)
-            }
-            _ => error,
+        let error = as_timed_out(error);
+        if error.kind() == ErrorKind::TimedOut {
+            self.is_late = true;
         }
+        error
     }
 
     fn read_in_time(&self, buf: &mut [u8]) -> io::Result<usize>

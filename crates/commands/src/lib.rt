@@ -24,6 +24,7 @@
 
 pub mod answer;
 pub mod ask;
+pub mod ask_failure;
 pub mod body;
 pub mod bounds;
 pub mod cause;
@@ -31,6 +32,7 @@ pub mod command;
 pub mod deadline;
 pub mod expect;
 pub mod fault;
+pub mod files;
 pub mod input;
 pub mod replay;
 pub mod run;
@@ -38,5 +40,8 @@ pub mod run_failure;
 pub mod run_options;
 pub mod serve;
 pub mod service;
+pub mod supervisor;
 pub mod tell;
 pub mod tell_failure;
+pub mod terminal;
+pub mod timed_control;

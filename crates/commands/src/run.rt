@@ -1,25 +1,32 @@
 ghost use Rattle.std.specs.Net.Text.{socket_text};
-ghost use Rattle.std.specs.Prelude.{◌≡◌, ◌↔◌, ◌≤◌, ◌<◌, ◌++◌, List, Option, IfOk, IfErr, IsNone, IsSome, codes, decimal, length, string_bytes, vec_len};
+ghost use Rattle.std.specs.Prelude.{◌≡◌, ◌↔◌, ◌≤◌, ◌<◌, ◌++◌, List, Option, IfOk, IfErr, IfSome, IsSome, codes, decimal, drop, length, string_bytes, vec_len};
 ghost use Rattle.desk_core.specs.declared.call.Call.{Call};
 ghost use Rattle.desk_core.specs.Past.{past};
 ghost use Rattle.hall.specs.Seats.{new_seats};
 ghost use Rattle.server.specs.Setup.{AreSetUp};
-ghost use Rattle.live_run.specs.Loops.{HasEnded, HaveServedAll};
+ghost use Rattle.control.specs.declared.terms.Terms.{Terms};
+ghost use Rattle.control_server.specs.Server.{terms_of};
+ghost use Rattle.live_run.specs.Sitting.{terms_by};
+ghost use Rattle.live_run.specs.Loops.{HaveServedAll};
 ghost use Rattle.control.specs.Place.{place_text};
-ghost use Rattle.live_run.specs.WholeRun.{HasRun, HasRunLoops};
+ghost use Rattle.live_run.specs.WholeRun.{AreNone, HasRun, HasRunLoops, HaveEnded, HaveTerms};
 ghost use Rattle.live_run.specs.declared.run_fault.RunFault.TheVariants.{NoMemory};
 ghost use Rattle.commands.specs.declared.run_failure.RunFailure.TheVariants.{OutOfMemory, Refused};
 ghost use Rattle.commands.specs.Run.{AreLoopsOf, AreMadeAlone, EndsSetUp, IsSetUpBy, IsWhollySetUp, limits_in};
 
-use crate::bounds::MAX_LOOPS;
+use crate::bounds::{Bounds, MAX_LOOPS};
+use crate::files::{bounds_within, reserved};
 use crate::input::read_script_bytes;
-use crate::run_failure::{RunFailure, failure_by};
+use crate::run_failure::{RunFailure, failure_by, script_failure};
 use crate::run_options::{RunOptions, Source};
-use control::{ControlListener, Place};
+use crate::supervisor::Supervisor;
+use control::{Access, ControlListener, Place, Rights, Terms};
 use control_server::{ControlServer, SESSION_SEATS};
 use desk_core::KeepMany;
-use live_run::{Ran, RefusedLine, RunFault, first_refused, run_live};
+use handover::{HandedOver, Notifier};
+use live_run::{Ran, RefusedLine, RunFault, SessionPlaces, first_refused, run_live};
 use live_server::{Acceptor, EventServer, Limits, News, Places, Tally};
+use open_files::open_files;
 use probe_core::{Maker, Probe};
 use script::{Mode, read_script};
 use server::{SetUpHall, hall_of};
@@ -36,10 +43,12 @@ pub fn run<'a, R, P: Probe + Send, M: Maker<P> + Sync>(
     rt: &R,
     maker: &M,
     options: RunOptions<'a>,
+    supervisor: Supervisor,
 ) -> Result<(), RunFailure<'a>>
 where
     R: Input
         + Print
+        + Eprint
         + AllocGlobal
         + Files
         + Clock
@@ -51,16 +60,43 @@ where
     let alloc = rt.alloc();
     let bytes = script_bytes(rt, alloc, options.script)?;
     let threads = options.threads.unwrap_or_else(|| processors(rt));
-    let loops = options.bounds.loops(threads);
-    let made = set_up(rt, alloc, maker, &bytes, loops + 1 + SESSION_SEATS)?;
+    let bounds = bounded(rt, alloc, options, threads)?;
+    let options = RunOptions { bounds, ..options };
+    let loops = bounds.loops(threads);
+    let made = set_up(rt, alloc, maker, &bytes, loops + 1 + 2 * SESSION_SEATS)?;
     let Begun {
         servers,
         news,
-        control,
-    } = begin(rt, alloc, &made, options, loops)?;
-    let ran = serve_to_end(rt, alloc, made, servers, control, maker, &news)?;
-    remove_socket(rt, &ran);
+        places,
+    } = begin(rt, alloc, &made, options, loops, supervisor)?;
+    let ran = serve_to_end(rt, alloc, made, servers, places, maker, &news)?;
+    remove_sockets(rt, &ran);
     print_line(rt, &journal_line(alloc, &ran)?)
+}
+
+/// The bounds of a run with so many threads, as far as the files allow that the process may have open. Where they allow less, standard
+/// error is told.
+fn bounded<'a, R: Files + Eprint>(
+    rt: &R,
+    alloc: Global,
+    options: RunOptions<'a>,
+    threads: u16,
+) -> Result<Bounds, RunFailure<'a>> {
+    let bounds = options.bounds;
+    let Ok(limit) = open_files(rt, alloc) else {
+        return Ok(bounds);
+    };
+    let places = u16::from(options.control.is_some()) + u16::from(options.report.is_some());
+    let Some(within) = bounds_within(bounds, limit, reserved(bounds.loops(threads), places)) else {
+        return Err(RunFailure::TooFewFiles);
+    };
+    if within != bounds {
+        let (files, fewer, wanted) = (limit.count(), within.connections(), bounds.connections());
+        let _ = eprintln!(rt;
+            "healthd: {files} open files allow {fewer} connections, not {wanted}"
+        );
+    }
+    Ok(within)
 }
 
 /// What listens, and has told where.
@@ -68,16 +104,17 @@ where
 pub struct Begun {
     pub servers: Vec<EventServer>,
     pub news: News,
-    pub control: Option<ControlServer>,
+    pub places: SessionPlaces,
 }
 
-/// Listens at both places with so many loops, for a hall that is set up, and prints the lines that tell so.
+/// Listens at all places with so many loops, for a hall that is set up, and prints the lines that tell so.
 pub fn begin<'a, R, P: Probe>(
     rt: &R,
     alloc: Global,
     made: &SetUpHall<P, KeepMany>,
     options: RunOptions<'a>,
     loops: u16,
+    supervisor: Supervisor,
 ) -> Result<Begun, RunFailure<'a>>
 where
     R: Print + Files + Clock + Net<Listener = TcpListener, Stream = TcpStream>,
@@ -85,21 +122,65 @@ where
     requires some { 1 ≤ loops }
     requires served { loops ≤ options.bounds.connections }
     ensures each { IfOk result (λ begun. vec_len begun.servers ≡ loops) }
-    ensures limits { IfOk result (λ begun. AreLoopsOf (limits_in options.entry.bounds) begun.servers.items) }
-    ensures controlled { IfOk result (λ begun. IsSome begun.control ↔ IsSome options.entry.control) }
+    ensures limits { IfOk result (λ begun. AreLoopsOf (limits_in options.entry.bounds)
+        begun.servers.items) }
+    ensures controlled { IfOk result (λ begun. IsSome begun.places.control ↔ IsSome
+        options.entry.control) }
+    ensures reported { IfOk result (λ begun. IsSome begun.places.report ↔ IsSome
+        options.entry.report) }
+    ensures terms { IfOk result (λ begun. HaveTerms made.now.hall.most begun.places) }
 {
-    let listener = listen(rt, made, options.listen)?;
-    let place = control_at(rt, alloc, made, options.control)?;
+    let Supervisor {
+        mut sockets,
+        notifier,
+    } = supervisor;
+    let listener = listener_of(rt, made, options.listen, &mut sockets)?;
+    let control = sessions_at(rt, alloc, made, options.control, Access::Owner)?;
+    let report = sessions_at(rt, alloc, made, options.report, Access::Group)?;
     // Each loop has the socket too, and closes it at the end, so that clients which come late are refused.
     let (servers, news) = event_loops(rt, alloc, &listener, options.bounds.limits(), loops)?;
-    let place_line = place_line(alloc, &place)?;
-    let control = control_loop(rt, alloc, place, &servers)?;
-    tell_places(rt, alloc, &listener, options.listen, place_line)?;
+    let control_line = place_line(alloc, "control", &control)?;
+    let report_line = place_line(alloc, "report", &report)?;
+    let most = made.most();
+    let control = session_loop(rt, alloc, control, &servers, terms_with(Rights::All, most))?;
+    let report = session_loop(
+        rt,
+        alloc,
+        report,
+        &servers,
+        terms_with(Rights::Reports, most),
+    )?;
+    tell_listener(rt, alloc, &listener, options.listen)?;
+    tell_place(rt, control_line)?;
+    tell_place(rt, report_line)?;
+    let _ = notifier.ready();
     Ok(Begun {
         servers,
         news,
-        control,
+        places: SessionPlaces {
+            control: notifying(control, notifier),
+            report,
+        },
     })
+}
+
+/// The loop over the control place, if there is one, which tells a supervisor once it is told to stop.
+fn notifying(server: Option<ControlServer>, notifier: Notifier) -> Option<ControlServer>
+    ensures some { IsSome result ↔ IsSome server }
+    ensures terms { (terms : Terms) → IfSome server (λ one. terms_of one ≡ terms) → IfSome result
+        (λ one. terms_of one ≡ terms) }
+{
+    match server {
+        Some(server) => Some(server.notifying(notifier)),
+        None => None,
+    }
+}
+
+/// The terms of sessions with these rights, over a history of at most so many entries.
+fn terms_with(rights: Rights, most: u32) -> Terms
+    ensures { result ≡ terms_by rights most }
+{
+    Terms { rights, most }
 }
 
 /// As many as the system lets this process use, and no more than a server has loops.
@@ -145,7 +226,10 @@ pub fn set_up<'a, R: Wait, P: Probe, M: Maker<P>>(
     ensures ok { IfOk result (IsSetUpBy bytes.now seats) }
     ensures failure { IfErr result (EndsSetUp bytes.now) }
 {
-    let script = read_script(alloc, bytes, Mode::Run)?;
+    let script = match read_script(alloc, bytes, Mode::Run) {
+        Ok(script) => script,
+        Err(fault) => return Err(script_failure(alloc, bytes, fault)),
+    };
     let numbers = Vec::from_slice(alloc, script.numbers())?;
     let made = hall_of(rt, alloc, script, maker, seats)?;
     match first_refused(&numbers, made.results()) {
@@ -159,13 +243,34 @@ fn refused<'a, P: Probe>(made: SetUpHall<P, KeepMany>, line: RefusedLine) -> Run
     requires whole { length made.seats ≡ made.hall.seats }
     requires some { 1 ≤ made.hall.seats }
     ensures value { result ≡ Refused line }
-    ensures alone { (calls : List (Option Call)) → AreSetUp calls made.results (new_seats made.hall.table made.hall.most made.hall.seats) made.seats
+    ensures alone { (calls : List (Option Call)) → AreSetUp calls made.results
+        (new_seats made.hall.table made.hall.most made.hall.seats) made.seats
         → AreMadeAlone made.hall.most calls made.results }
 {
     let (hall, seats) = made.into_hall();
     match hall.close(seats) {
         Ok(_) => RunFailure::Refused(line),
         Err(_) => unreachable!(),
+    }
+}
+
+/// The socket that calls come to, for a hall that is set up: the first that was handed over, or else one that listens at the address.
+fn listener_of<'a, R, P: Probe>(
+    rt: &R,
+    made: &SetUpHall<P, KeepMany>,
+    addr: SocketAddr,
+    sockets: &mut HandedOver,
+) -> Result<TcpListener, RunFailure<'a>>
+where
+    R: Net<Listener = TcpListener, Stream = TcpStream>,
+    // nothing is bound before
+    requires set_up { (calls : List (Option Call)) × IsWhollySetUp calls made.now }
+    ensures one { sockets.new ≡ drop 1 sockets.old }
+{
+    match sockets.take() {
+        Some(Ok(listener)) => Ok(listener),
+        Some(Err(_)) => Err(RunFailure::HandedOver),
+        None => listen(rt, made, addr),
     }
 }
 
@@ -190,12 +295,13 @@ fn bind_failure<'a>(error: io::Error, place: Place<'a>) -> RunFailure<'a> {
     failure_by(error, |cause| RunFailure::Bind(place, cause))
 }
 
-/// A socket that listens at the control place, if there is one, for a hall that is set up.
-pub fn control_at<'a, R: Files + Net, P: Probe>(
+/// A socket that listens at a place for sessions, if there is one, for a hall that is set up.
+pub fn sessions_at<'a, R: Files + Net, P: Probe>(
     rt: &R,
     alloc: Global,
     _made: &SetUpHall<P, KeepMany>,
     place: Option<Place<'a>>,
+    access: Access,
 ) -> Result<Option<ControlListener>, RunFailure<'a>>
     // nothing is bound before
     requires set_up { (calls : List (Option Call)) × IsWhollySetUp calls _made.now }
@@ -204,26 +310,28 @@ pub fn control_at<'a, R: Files + Net, P: Probe>(
     let Some(place) = place else {
         return Ok(None);
     };
-    match ControlListener::bind(rt, alloc, place) {
+    match ControlListener::bind(rt, alloc, place, access) {
         Ok(listener) => Ok(Some(listener)),
         Err(error) => Err(bind_failure(error, place)),
     }
 }
 
-/// Prints where the socket listens, which tells the port that the system picked for port 0, and the line of the control place, if there
-/// is one.
-fn tell_places<'a, R: Print>(
+/// Prints where the socket listens, which tells the port that the system picked for port 0.
+fn tell_listener<'a, R: Print>(
     rt: &R,
     alloc: Global,
     listener: &TcpListener,
     asked: SocketAddr,
-    place_line: Option<String>,
 ) -> Result<(), RunFailure<'a>> {
     match listener.local_addr() {
-        Ok(addr) => print_line(rt, &listening_line(alloc, addr)?)?,
-        Err(error) => return Err(bind_failure(error, Place::Address(asked))),
+        Ok(addr) => print_line(rt, &listening_line(alloc, addr)?),
+        Err(error) => Err(bind_failure(error, Place::Address(asked))),
     }
-    match place_line {
+}
+
+/// Prints the line of a place for sessions, if there is one.
+fn tell_place<'a, R: Print>(rt: &R, line: Option<String>) -> Result<(), RunFailure<'a>> {
+    match line {
         Some(line) => print_line(rt, &line),
         None => Ok(()),
     }
@@ -236,30 +344,33 @@ pub fn listening_line(alloc: Global, addr: SocketAddr) -> Result<String, AllocEr
     format!(in alloc; "listening {addr}")
 }
 
-/// The line that tells where changes are asked for, if they are.
+/// The line that tells where sessions are held, if they are, behind this word.
 fn place_line<'a>(
     alloc: Global,
+    word: &str,
     listener: &Option<ControlListener>,
 ) -> Result<Option<String>, RunFailure<'a>> {
     let Some(listener) = listener else {
         return Ok(None);
     };
     match listener.place() {
-        Ok(place) => Ok(Some(control_line(alloc, place)?)),
+        Ok(place) => Ok(Some(session_line(alloc, word, place)?)),
         Err(error) => Err(failure_by(error, RunFailure::EventLoop)),
     }
 }
 
-/// The line that tells where changes are asked for.
-fn control_line(alloc: Global, place: Place<'_>) -> Result<String, AllocError>
-    ensures { IfOk result (λ line. string_bytes line ≡ codes "control " ++ place_text place.entry) }
+/// The line that tells where sessions are held.
+fn session_line(alloc: Global, word: &str, place: Place<'_>) -> Result<String, AllocError>
+    ensures { IfOk result (λ line. string_bytes line ≡ word.now ++ codes " " ++ place_text
+        place.entry) }
 {
-    format!(in alloc; "control {place}")
+    format!(in alloc; "{word} {place}")
 }
 
 /// The line that tells how many entries the history has.
 fn journal_line<P: Probe>(alloc: Global, ran: &Ran<P, KeepMany>) -> Result<String, AllocError>
-    ensures { IfOk result (λ line. string_bytes line ≡ codes "journal " ++ decimal (length ran.now.desk.journal)) }
+    ensures { IfOk result (λ line. string_bytes line ≡ codes "journal " ++ decimal
+        (length ran.now.desk.journal)) }
 {
     let entries = ran.entries();
     format!(in alloc; "journal {entries}")
@@ -315,21 +426,23 @@ where
     Ok((servers, News::new(wakers)))
 }
 
-/// A loop over the sessions of a control place, if there is one.
-pub fn control_loop<'a, R: Clock + Net>(
+/// A loop over the sessions of a place, if there is one.
+pub fn session_loop<'a, R: Clock + Net>(
     rt: &R,
     alloc: Global,
     listener: Option<ControlListener>,
     servers: &[EventServer],
+    terms: Terms,
 ) -> Result<Option<ControlServer>, RunFailure<'a>>
-    ensures some { IfOk result (λ control. IsSome control ↔ IsSome listener) }
+    ensures some { IfOk result (λ server. IsSome server ↔ IsSome listener) }
+    ensures terms { IfOk result (λ server. IfSome server (λ server. terms_of server ≡ terms)) }
 {
     let Some(listener) = listener else {
         return Ok(None);
     };
     let tallies = tallies_of(alloc, servers)?;
-    match ControlServer::new(rt, alloc, listener, tallies) {
-        Ok(control) => Ok(Some(control)),
+    match ControlServer::new(rt, alloc, listener, tallies, terms) {
+        Ok(server) => Ok(Some(server)),
         Err(error) => Err(failure_by(error, RunFailure::EventLoop)),
     }
 }
@@ -349,7 +462,7 @@ pub fn serve_to_end<'a, R, P: Probe + Send, M: Maker<P> + Sync>(
     alloc: Global,
     made: SetUpHall<P, KeepMany>,
     servers: Vec<EventServer>,
-    control: Option<ControlServer>,
+    places: SessionPlaces,
     maker: &M,
     news: &News,
 ) -> Result<Ran<P, KeepMany>, RunFailure<'a>>
@@ -358,24 +471,31 @@ where
     requires set_up { (calls : List (Option Call)) × IsWhollySetUp calls made }
     requires some { 1 ≤ vec_len servers }
     requires enough { vec_len servers < made.hall.seats }
+    requires terms { HaveTerms made.hall.most places }
     ensures servers { IfOk result (λ ran. HaveServedAll servers.items ran.servers.items) }
     // nothing but the setup and the lines of sessions makes changes
-    ensures ran { IfOk result (λ ran. HasRun made.hall (vec_len servers) made.seats (past ran.desk.journal)) }
-    ensures alone { IsNone control → IfOk result (λ ran. HasRunLoops made.hall (vec_len servers) made.seats (past ran.desk.journal)) }
-    ensures entries { IsNone control → IfOk result (λ ran. length ran.desk.journal ≡ length made.results) }
-    ensures sessions { IfOk result (λ ran. HasEnded control ran.sessions) }
+    ensures ran { IfOk result (λ ran. HasRun made.hall (vec_len servers) made.seats
+        (past ran.desk.journal)) }
+    ensures alone { AreNone places → IfOk result (λ ran. HasRunLoops made.hall
+        (vec_len servers) made.seats (past ran.desk.journal)) }
+    ensures entries { AreNone places → IfOk result (λ ran. length ran.desk.journal ≡ length
+        made.results) }
+    ensures sessions { IfOk result (λ ran. HaveEnded places ran.places) }
     ensures failure { IfErr result (λ failure. failure ≡ OutOfMemory) }
 {
-    match run_live(rt, alloc, made, servers, control, maker, news) {
+    match run_live(rt, alloc, made, servers, places, maker, news) {
         Ok(ran) => Ok(ran),
         Err(fault) => Err(failure_to_run(fault)),
     }
 }
 
-/// Takes the file of the control place's socket away, if it has one. Where it stays, the next server takes it over.
-pub fn remove_socket<R: Files, P: Probe>(rt: &R, ran: &Ran<P, KeepMany>) {
-    if let Some(sessions) = &ran.sessions {
-        let _ = sessions.remove_file(rt);
+/// Takes the files of the sockets for sessions away, where they have one. Where one stays, the next server takes it over.
+pub fn remove_sockets<R: Files, P: Probe>(rt: &R, ran: &Ran<P, KeepMany>) {
+    let SessionPlaces { control, report } = &ran.places;
+    for server in [control, report] {
+        if let Some(server) = server {
+            let _ = server.remove_file(rt);
+        }
     }
 }
 

@@ -2,29 +2,36 @@ ghost use Rattle.std.specs.Prelude.{◌≡◌, ◌≢◌};
 ghost use Rattle.std.specs.IoError.{error_kind};
 ghost use Rattle.commands.specs.declared.cause.Cause.{Cause};
 ghost use Rattle.commands.specs.declared.run_failure.RunFailure.TheVariants.{OutOfMemory};
-ghost use Rattle.commands.specs.RunFailure.{failure_of};
+ghost use Rattle.commands.specs.RunFailure.{IsScriptFailure};
 
 use crate::cause::Cause;
 use crate::run_options::Source;
 use control::Place;
 use live_run::RefusedLine;
-use script::{ScriptFault, changed_text};
-use std::alloc::{AllocError, AllocFailed};
+use script::{ScriptFault, changed_text, explain};
+use std::alloc::{AllocError, AllocFailed, Global};
 use std::io;
 use std::io::ErrorKind;
 use thiserror::Error;
 
 /// What ends the command `run` with status 1. Its text follows `healthd: ` on standard error.
-#[derive(Clone, Copy, Debug, PartialEq, Eq, Error)]
+#[derive(Debug, Drop, PartialEq, Eq, Error)]
 pub enum RunFailure<'a> {
     #[error("read {0}: {1}")]
     Read(Source<'a>, Cause),
-    #[error("{0}")]
-    Script(ScriptFault),
+    /// The fault of the script, and what is told of it.
+    #[error("{1}")]
+    Script(ScriptFault, String),
     #[error("script line {}: {}", .0.number, changed_text(.0.answer))]
     Refused(RefusedLine),
     #[error("bind {0}: {1}")]
     Bind(Place<'a>, Cause),
+    /// The process may have no files open for connections.
+    #[error("too few open files")]
+    TooFewFiles,
+    /// What a supervisor handed over can't be listened at.
+    #[error("LISTEN_FDS: descriptor 3 is no listening TCP socket")]
+    HandedOver,
     /// A loop has no way to wait for its sockets, say for want of descriptors.
     #[error("event loop: {0}")]
     EventLoop(Cause),
@@ -50,14 +57,16 @@ impl<T: Drop> From<AllocFailed<T>> for RunFailure<'_> {
     }
 }
 
-impl From<ScriptFault> for RunFailure<'_> {
-    ghost from_gives = { λ fault failure. failure ≡ failure_of fault };
-
-    fn from(fault: ScriptFault) -> Self {
-        match fault {
-            ScriptFault::NoMemory => RunFailure::OutOfMemory,
-            _ => RunFailure::Script(fault),
-        }
+/// The failure of bytes that have this fault as a script to run.
+pub fn script_failure<'a>(alloc: Global, bytes: &[u8], fault: ScriptFault) -> RunFailure<'a>
+    ensures { IsScriptFailure bytes.now fault result }
+{
+    if fault == ScriptFault::NoMemory {
+        return RunFailure::OutOfMemory;
+    }
+    match explain(alloc, bytes, fault) {
+        Ok(text) => RunFailure::Script(fault, text),
+        Err(_) => RunFailure::OutOfMemory,
     }
 }
 

@@ -1,6 +1,6 @@
 ghost use Rattle.std.specs.Prelude.{◌≡◌, Some, IfOk, IfErr, codes};
 ghost use Rattle.clap.specs.Words.{found_of, first_value};
-ghost use Rattle.commands.specs.RunOptions.{AreBoundsIn, IsBadBounds, IsBadControl, IsBadIn, IsControlIn, IsReadAs, path_of};
+ghost use Rattle.commands.specs.RunOptions.{AreBoundsIn, IsBadBounds, IsBadControl, IsBadIn, IsBadReport, IsPlaceIn, IsReadAs, path_of};
 
 use crate::bounds::{Bounds, bounds_of};
 use clap::ArgMatches;
@@ -31,6 +31,8 @@ pub struct RunOptions<'a> {
     pub listen: SocketAddr,
     /// Where changes are asked for, if they are.
     pub control: Option<Place<'a>>,
+    /// Where findings are reported, if they are.
+    pub report: Option<Place<'a>>,
     pub script: Source<'a>,
     /// How many event loops. Without it there are as many as processors.
     pub threads: Option<u16>,
@@ -44,6 +46,8 @@ pub enum BadOption<'a> {
     Listen(&'a str),
     /// The text is no loopback address with a port, and no path of a socket.
     Control(&'a str),
+    /// The same of the place where findings are reported.
+    Report(&'a str),
     /// More Watches than connections.
     Watches { watches: u32, connections: u32 },
 }
@@ -59,6 +63,10 @@ impl fmt::Display for BadOption<'_> {
                 f,
                 "invalid value '{text}' for '--control <PLACE>': not a loopback address and a port, and no path of a socket that begins with '/'"
             ),
+            BadOption::Report(text) => write!(
+                f,
+                "invalid value '{text}' for '--report <PLACE>': not a loopback address and a port, and no path of a socket that begins with '/'"
+            ),
             BadOption::Watches {
                 watches,
                 connections,
@@ -73,21 +81,30 @@ impl fmt::Display for BadOption<'_> {
 impl<'a> RunOptions<'a> {
     /// Reads what the command line has, where each number is in its range.
     pub fn read(matches: &ArgMatches<'a>) -> Result<RunOptions<'a>, BadOption<'a>>
-        ensures listen { IfOk result (λ options. IsReadAs ⟦<SocketAddr as FromStr>⟧.from_str_gives (found_of matches.now) (codes "listen") (Some options.listen)) }
-        ensures control { IfOk result (λ options. IsControlIn (first_value (found_of matches.now) (codes "control")) options.control) }
-        ensures script { IfOk result (λ options. path_of options.script ≡ first_value (found_of matches.now) (codes "script")) }
-        ensures threads { IfOk result (λ options. IsReadAs ⟦<u16 as FromStr>⟧.from_str_gives (found_of matches.now) (codes "threads") options.threads) }
-        ensures bounds { IfOk result (λ options. AreBoundsIn ⟦<u32 as FromStr>⟧.from_str_gives (found_of matches.now) options.bounds) }
+        ensures listen { IfOk result (λ options. IsReadAs ⟦<SocketAddr as FromStr>⟧.from_str_gives
+            (found_of matches.now) (codes "listen") (Some options.listen)) }
+        ensures control { IfOk result (λ options. IsPlaceIn (first_value (found_of matches.now)
+            (codes "control")) options.control) }
+        ensures report { IfOk result (λ options. IsPlaceIn (first_value (found_of matches.now)
+            (codes "report")) options.report) }
+        ensures script { IfOk result (λ options. path_of options.script ≡ first_value
+            (found_of matches.now) (codes "script")) }
+        ensures threads { IfOk result (λ options. IsReadAs ⟦<u16 as FromStr>⟧.from_str_gives
+            (found_of matches.now) (codes "threads") options.threads) }
+        ensures bounds { IfOk result (λ options. AreBoundsIn ⟦<u32 as FromStr>⟧.from_str_gives
+            (found_of matches.now) options.bounds) }
         ensures bad { IfErr result (IsBadIn ⟦<SocketAddr as FromStr>⟧.from_str_gives ⟦<u32 as FromStr>⟧.from_str_gives (found_of matches.now)) }
     {
         let Some(listen) = matches.get_one::<SocketAddr>("listen") else {
             return Err(BadOption::Listen(matches.get_str("listen").unwrap_or("")));
         };
         let control = control_in(matches)?;
+        let report = report_in(matches)?;
         let bounds = bounds_in(matches)?;
         Ok(RunOptions {
             listen,
             control,
+            report,
             script: source_in(matches),
             threads: matches.get_one::<u16>("threads"),
             bounds,
@@ -104,9 +121,10 @@ fn source_in<'a>(matches: &ArgMatches<'a>) -> Source<'a>
     }
 }
 
-/// The place that a command line names, if it names one.
+/// The place where changes are asked for, if the command line names one.
 pub fn control_in<'a>(matches: &ArgMatches<'a>) -> Result<Option<Place<'a>>, BadOption<'a>>
-    ensures control { IfOk result (IsControlIn (first_value (found_of matches.now) (codes "control"))) }
+    ensures control { IfOk result (IsPlaceIn (first_value (found_of matches.now)
+        (codes "control"))) }
     ensures bad { IfErr result (IsBadControl (found_of matches.now)) }
 {
     let Some(text) = matches.get_str("control") else {
@@ -118,10 +136,26 @@ pub fn control_in<'a>(matches: &ArgMatches<'a>) -> Result<Option<Place<'a>>, Bad
     }
 }
 
+/// The place where findings are reported, if the command line names one.
+pub fn report_in<'a>(matches: &ArgMatches<'a>) -> Result<Option<Place<'a>>, BadOption<'a>>
+    ensures report { IfOk result (IsPlaceIn (first_value (found_of matches.now) (codes "report"))) }
+    ensures bad { IfErr result (IsBadReport (found_of matches.now)) }
+{
+    let Some(text) = matches.get_str("report") else {
+        return Ok(None);
+    };
+    match Place::read(text) {
+        Some(place) => Ok(Some(place)),
+        None => Err(BadOption::Report(text)),
+    }
+}
+
 /// A number that clap has read is in its range, so that only Watches can be too many.
 fn bounds_in<'a>(matches: &ArgMatches<'_>) -> Result<Bounds, BadOption<'a>>
-    ensures bounds { IfOk result (AreBoundsIn ⟦<u32 as FromStr>⟧.from_str_gives (found_of matches.now)) }
-    ensures bad { IfErr result (IsBadBounds ⟦<u32 as FromStr>⟧.from_str_gives (found_of matches.now)) }
+    ensures bounds { IfOk result (AreBoundsIn ⟦<u32 as FromStr>⟧.from_str_gives
+        (found_of matches.now)) }
+    ensures bad { IfErr result (IsBadBounds ⟦<u32 as FromStr>⟧.from_str_gives
+        (found_of matches.now)) }
 {
     let connections = matches.get_one::<u32>("connections").unwrap_or(1);
     let watches = matches.get_one::<u32>("watches");

@@ -7,19 +7,30 @@ ghost use Rattle.control.specs.Line.{IsPartOfLine, ended};
 use crate::cause::Cause;
 use crate::expect::{DONE, UNMET};
 use crate::tell_failure::{TellFailure, failure_at};
+use crate::timed_control::{AnswerTime, TimedControl};
 use clap::ArgMatches;
 use control::{
-    ControlClient, LINE_ROOM, LineEnd, Place, TellFault, connect, is_refused, is_turned_away,
-    read_line, tell,
+    ControlClient, LINE_ROOM, LineEnd, Place, TellFault, connect_within, is_refused,
+    is_turned_away, read_line, tell,
 };
 use std::alloc::{AllocError, Global};
 use std::io;
 use std::io::{BufReader, ErrorKind, Read, Write};
 use std::net::{Net, TcpStream};
+use std::time::{Clock, Duration};
+
+/// For an answer, where no other time is given.
+const DEFAULT_SECONDS: u16 = 10;
 
 /// The place that is told, unless the text is none.
 pub fn place_in<'a>(matches: &ArgMatches<'a>) -> Option<Place<'a>> {
     Place::read(matches.get_str("control")?)
+}
+
+/// How long an answer may take.
+pub fn timeout_in(matches: &ArgMatches<'_>) -> Duration {
+    let seconds = matches.get_one::<u16>("timeout").unwrap_or(DEFAULT_SECONDS);
+    Duration::from_secs(u64::from(seconds))
 }
 
 /// The words of the line that is told, parted by a space. Without words, lines are read.
@@ -36,37 +47,44 @@ pub fn line_in(alloc: Global, matches: &ArgMatches<'_>) -> Result<Option<String>
 }
 
 /// The command `tell` with words, which come to this line. It tells the exit status.
-pub fn run_line<'a, R>(rt: &R, place: Place<'a>, line: &[u8]) -> Result<u8, TellFailure<'a>>
+pub fn run_line<'a, R>(
+    rt: &R,
+    place: Place<'a>,
+    timeout: Duration,
+    line: &[u8],
+) -> Result<u8, TellFailure<'a>>
 where
-    R: Print + AllocGlobal + Net<Stream = TcpStream>,
+    R: Print + Clock + AllocGlobal + Net<Stream = TcpStream>,
     requires one_line { IsPartOfLine line.now }
     ensures one_of_two { IfOk result (λ status. (status ≡ 0) ⊎ (status ≡ 3)) }
 {
     let alloc = rt.alloc();
-    let client = connect_to(rt, place)?;
-    let Ok(mut reader) = BufReader::new(alloc, &client) else {
+    let client = connect_to(rt, place, timeout)?;
+    let time = AnswerTime::new(timeout);
+    let Ok(mut reader) = BufReader::new(alloc, TimedControl::new(rt, &client, &time)) else {
         return Err(TellFailure::OutOfMemory);
     };
-    let mut writer = &client;
+    let mut writer = TimedControl::new(rt, &client, &time);
     let mut output = io::writer(rt);
     tell_line(alloc, place, &mut reader, &mut writer, &mut output, line)
 }
 
 /// The command `tell` without words. It tells the exit status.
-pub fn run_input<'a, R>(rt: &R, place: Place<'a>) -> Result<u8, TellFailure<'a>>
+pub fn run_input<'a, R>(rt: &R, place: Place<'a>, timeout: Duration) -> Result<u8, TellFailure<'a>>
 where
-    R: Input + Print + AllocGlobal + Net<Stream = TcpStream>,
+    R: Input + Print + Clock + AllocGlobal + Net<Stream = TcpStream>,
     ensures one_of_two { IfOk result (λ status. (status ≡ 0) ⊎ (status ≡ 3)) }
 {
     let alloc = rt.alloc();
-    let client = connect_to(rt, place)?;
-    let Ok(mut reader) = BufReader::new(alloc, &client) else {
+    let client = connect_to(rt, place, timeout)?;
+    let time = AnswerTime::new(timeout);
+    let Ok(mut reader) = BufReader::new(alloc, TimedControl::new(rt, &client, &time)) else {
         return Err(TellFailure::OutOfMemory);
     };
     let Ok(mut input) = BufReader::new(alloc, rt.reader()) else {
         return Err(TellFailure::OutOfMemory);
     };
-    let mut writer = &client;
+    let mut writer = TimedControl::new(rt, &client, &time);
     let mut output = io::writer(rt);
     tell_lines(
         alloc,
@@ -81,8 +99,9 @@ where
 fn connect_to<'a, R: Net<Stream = TcpStream>>(
     rt: &R,
     place: Place<'a>,
+    timeout: Duration,
 ) -> Result<ControlClient, TellFailure<'a>> {
-    match connect(rt, place) {
+    match connect_within(rt, place, timeout) {
         Ok(client) => Ok(client),
         Err(error) => Err(TellFailure::Connect(place, Cause::from(error))),
     }
@@ -135,7 +154,7 @@ pub fn tell_line<'a, R: Read, W: Write, O: Write>(
         Ok(None) => Ok(DONE),
         Err(TellFault::Write(error)) => match last_answer(alloc, reader, error.kind()) {
             Some(answer) => print_answer(output, answer),
-            None => Err(TellFailure::Send(place, Cause::from(error))),
+            None => Err(failure_at(place, TellFault::Write(error))),
         },
         Err(fault) => Err(failure_at(place, fault)),
     }

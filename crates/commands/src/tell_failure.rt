@@ -4,6 +4,7 @@ ghost use Rattle.commands.specs.declared.tell_failure.TellFailure.TheVariants.{O
 use crate::cause::Cause;
 use control::{Place, TellFault};
 use std::alloc::{AllocError, AllocFailed};
+use std::io::ErrorKind;
 use thiserror::Error;
 
 /// What ends the command `tell` with status 1. Its text follows `healthd: ` on standard error.
@@ -15,6 +16,9 @@ pub enum TellFailure<'a> {
     Send(Place<'a>, Cause),
     #[error("read {0}: {1}")]
     Receive(Place<'a>, Cause),
+    /// The time for an answer was up.
+    #[error("timed out, the change may still be made")]
+    TimedOut,
     /// The server ended the session before it answered.
     #[error("no answer")]
     NoAnswer,
@@ -52,6 +56,9 @@ impl<T: Drop> From<AllocFailed<T>> for TellFailure<'_> {
 /// The failure of a line that has no answer of the server there.
 pub fn failure_at<'a>(place: Place<'a>, fault: TellFault) -> TellFailure<'a> {
     match fault {
+        TellFault::Write(error) | TellFault::Read(error) if error.kind() == ErrorKind::TimedOut => {
+            TellFailure::TimedOut
+        }
         TellFault::Write(error) => TellFailure::Send(place, Cause::from(error)),
         TellFault::Read(error) => TellFailure::Receive(place, Cause::from(error)),
         TellFault::NoAnswer => TellFailure::NoAnswer,

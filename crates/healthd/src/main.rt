@@ -6,7 +6,9 @@ ghost use Rattle.probe_core.specs.Made.{IsAsked};
 use clap::ArgMatches;
 use clap::error::ErrorKind;
 use commands::fault::Fault;
-use commands::run_options::RunOptions;
+use commands::run_options::{RunOptions, Source};
+use commands::supervisor::Supervisor;
+use commands::terminal::is_input_terminal;
 use commands::{ask, body, command, replay, run, serve, tell};
 use control::is_one_line;
 use probe_core::{Depends, FnMaker, Maker, Manual, Probe, ProbeFn, Rule, Threshold};
@@ -18,13 +20,16 @@ use std::rt::{Env, Files};
 use std::sync::Wait;
 use std::thread::Threads;
 use std::time::Clock;
-use std::{env, io};
+use std::{env, io, process};
 
 /// The status of a command line that is refused.
 const REFUSED: u8 = 2;
 
+/// What `run` says before it waits for a script that is typed.
+const READS_TERMINAL: &str = "reading a script from standard input, to its end (Ctrl-D)";
+
 fn main(rt: HostRuntime) -> ExitCode {
-    match execute(&rt) {
+    match execute(&rt, process::id(rt.process())) {
         Ok(status) => status,
         Err(fault) => failed(&rt, &fault),
     }
@@ -35,7 +40,8 @@ fn failed<R: Eprint, E: Display>(rt: &R, fault: &E) -> ExitCode {
     ExitCode::FAILURE
 }
 
-fn execute<R>(rt: &R) -> Result<ExitCode, Fault>
+/// Runs what the words of this process ask for.
+fn execute<R>(rt: &R, process_id: u32) -> Result<ExitCode, Fault>
 where
     R: Input
         + Print
@@ -58,11 +64,15 @@ where
         Ok(matches) => matches,
         Err(error) => return refuse(rt, &error),
     };
-    run_command(rt, &matches)
+    run_command(rt, Supervisor::from_env(rt, process_id), &matches)
 }
 
 /// Runs the command that the words name. All probes of the program are made here.
-fn run_command<R>(rt: &R, matches: &ArgMatches<'_>) -> Result<ExitCode, Fault>
+fn run_command<R>(
+    rt: &R,
+    supervisor: Supervisor,
+    matches: &ArgMatches<'_>,
+) -> Result<ExitCode, Fault>
 where
     R: Input
         + Print
@@ -89,13 +99,14 @@ where
         };
         Ok(probe)
     };
-    run_with(rt, make, matches)
+    run_with(rt, make, supervisor, matches)
 }
 
 /// The same, with the probes that the closure makes.
 fn run_with<R, P: Probe + Send, F: ProbeFn<Made = P> + Sync + Drop>(
     rt: &R,
     make: F,
+    supervisor: Supervisor,
     matches: &ArgMatches<'_>,
 ) -> Result<ExitCode, Fault>
 where
@@ -116,7 +127,7 @@ where
         Some(("body", matches)) => body::run(rt, matches)?,
         Some(("replay", _)) => replay::run(rt, &maker)?,
         Some(("serve", matches)) => serve::run(rt, &maker, matches)?,
-        Some(("run", matches)) => return run_to_end(rt, &maker, matches),
+        Some(("run", matches)) => return run_to_end(rt, &maker, supervisor, matches),
         Some(("ask", matches)) => return ask_server(rt, matches),
         Some(("tell", matches)) => return tell_server(rt, matches),
         _ => return Ok(ExitCode::from(REFUSED)),
@@ -128,6 +139,7 @@ where
 fn run_to_end<R, P: Probe + Send, M: Maker<P> + Sync>(
     rt: &R,
     maker: &M,
+    supervisor: Supervisor,
     matches: &ArgMatches<'_>,
 ) -> Result<ExitCode, Fault>
 where
@@ -146,13 +158,16 @@ where
         Ok(options) => options,
         Err(bad) => return refuse(rt, &command::bad_option(rt.alloc(), bad)?),
     };
-    match run::run(rt, maker, options) {
+    if options.script == Source::StandardInput && is_input_terminal(rt) {
+        let _ = eprintln!(rt; "healthd: {READS_TERMINAL}");
+    }
+    match run::run(rt, maker, options, supervisor) {
         Ok(()) => Ok(ExitCode::SUCCESS),
         Err(failure) => Ok(failed(rt, &failure)),
     }
 }
 
-/// The command `ask`.
+/// The command `ask`, whose faults may tell their cause.
 fn ask_server<R>(rt: &R, matches: &ArgMatches<'_>) -> Result<ExitCode, Fault>
 where
     R: Print + Eprint + Clock + AllocGlobal + Net<Stream = TcpStream>,
@@ -161,28 +176,32 @@ where
         let host = matches.get_str("host").unwrap_or("");
         return refuse(rt, &command::bad_host(rt.alloc(), host)?);
     };
-    Ok(ExitCode::from(ask::run(rt, matches, addr)?))
+    match ask::run(rt, matches, addr) {
+        Ok(status) => Ok(ExitCode::from(status)),
+        Err(failure) => Ok(failed(rt, &failure)),
+    }
 }
 
 /// The command `tell`, whose faults tell their cause.
 fn tell_server<R>(rt: &R, matches: &ArgMatches<'_>) -> Result<ExitCode, Fault>
 where
-    R: Input + Print + Eprint + AllocGlobal + Net<Stream = TcpStream>,
+    R: Input + Print + Eprint + Clock + AllocGlobal + Net<Stream = TcpStream>,
 {
     let alloc = rt.alloc();
     let Some(place) = tell::place_in(matches) else {
         let text = matches.get_str("control").unwrap_or("");
         return refuse(rt, &command::bad_place(alloc, text)?);
     };
+    let timeout = tell::timeout_in(matches);
     let told = match tell::line_in(alloc, matches)? {
         Some(line) => {
             let bytes = line.as_bytes();
             if !is_one_line(bytes) {
                 return refuse(rt, &command::bad_words(alloc)?);
             }
-            tell::run_line(rt, place, bytes)
+            tell::run_line(rt, place, timeout, bytes)
         }
-        None => tell::run_input(rt, place),
+        None => tell::run_input(rt, place, timeout),
     };
     match told {
         Ok(status) => Ok(ExitCode::from(status)),

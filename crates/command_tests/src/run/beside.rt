@@ -3,6 +3,7 @@
 ghost use Rattle.std.specs.Prelude.{◌≡◌, ◌≤◌, ◌<◌, List, Option, IfOk, vec_len};
 ghost use Rattle.desk_core.specs.declared.call.Call.{Call};
 ghost use Rattle.probe_core.specs.Made.{IsAsked};
+ghost use Rattle.live_run.specs.WholeRun.{HaveTerms};
 ghost use Rattle.commands.specs.Run.{IsWhollySetUp};
 
 use crate::asking::ask_at;
@@ -10,18 +11,20 @@ use crate::run::filled::{Late, ask_behind};
 use crate::run::ready::Ready;
 use client::Told;
 use commands::fault::Fault;
-use commands::run::{Begun, control_at, control_loop, event_loops, listen, remove_socket, set_up};
+use commands::run::{
+    Begun, event_loops, listen, remove_sockets, session_loop, sessions_at, set_up,
+};
 use commands::run_failure::RunFailure;
-use control::{ControlClient, Place, connect};
+use control::{Access, ControlClient, Place, Rights, Terms, connect};
 use control_server::SESSION_SEATS;
 use desk_core::KeepMany;
-use live_run::Ran;
+use live_run::{Ran, SessionPlaces};
 use live_server::{Limits, News};
 use probe_core::{Depends, FnMaker, Maker, Manual, Probe, ProbeFn, Rule, Threshold};
 use server::SetUpHall;
 use std::alloc::{AllocError, Global};
 use std::io::{Read, Write};
-use std::net::{Net, SocketAddr, TcpListener, TcpStream};
+use std::net::{Net, Shutdown, SocketAddr, TcpListener, TcpStream};
 use std::rt::Files;
 use std::sync::Wait;
 use std::test::Fail;
@@ -46,6 +49,11 @@ register a manual
 register b manual
 register - manual
 down b
+";
+
+/// `a` is checked.
+const CHECKED: &[u8] = b"catalogue a -
+register a threshold 1
 ";
 
 const LIMITS: Limits = Limits {
@@ -89,18 +97,45 @@ fn hear<R: Net<Stream = TcpStream>>(
     watch.write_all(WATCH_OF_EMPTY)?;
     let mut watched = vec![in alloc; 0u8; FIRST.len()]?;
     watch.read_exact(&mut watched)?;
-    let answered = say_lines(rt, alloc, path)?;
+    let answered = say_lines(rt, alloc, path, LINES)?;
     watch.read_to_end(&mut watched)?;
     Ok(Heard { watched, answered })
 }
 
-/// What a session that says the lines is answered.
-fn say_lines<R: Net<Stream = TcpStream>>(rt: &R, alloc: Global, path: &str) -> io::Result<Vec<u8>> {
+/// What a session is answered that says these lines and no more.
+fn say_lines<R: Net<Stream = TcpStream>>(
+    rt: &R,
+    alloc: Global,
+    path: &str,
+    lines: &[u8],
+) -> io::Result<Vec<u8>> {
     let client = connect(rt, Place::Path(path))?;
     let mut session: &ControlClient = &client;
-    session.write_all(LINES)?;
+    session.write_all(lines)?;
+    client.shutdown(Shutdown::Write)?;
     let mut answered = Vec::new(alloc);
     session.read_to_end(&mut answered)?;
+    Ok(answered)
+}
+
+/// Lines of who reports at a place of that kind, and their answers.
+const REPORTS: &[u8] = b"fail a\nstop\ndown a\ncheck a\n";
+
+const REPORTED: &[u8] = b"done\nnot allowed\nnot allowed\nnot serving\n";
+
+/// What is answered at the report place, before the run is stopped at the control place.
+fn report<R: Net<Stream = TcpStream>>(
+    rt: &R,
+    alloc: Global,
+    places: Paths<'_>,
+) -> io::Result<Vec<u8>> {
+    let mut answered = Vec::new(alloc);
+    if let Some(path) = places.report {
+        answered = say_lines(rt, alloc, path, REPORTS)?;
+    }
+    if let Some(path) = places.control {
+        stop_and_leave(rt, path)?;
+    }
     Ok(answered)
 }
 
@@ -133,8 +168,16 @@ enum Beside {
     Asked(Answers),
     Heard(Heard),
     Left,
+    Reported(Vec<u8>),
     Waited(Late),
     Failed(io::Error),
+}
+
+/// The paths of the places for sessions that a run has.
+#[derive(Clone, Copy)]
+struct Paths<'a> {
+    control: Option<&'a str>,
+    report: Option<&'a str>,
 }
 
 #[derive(Clone, Copy)]
@@ -146,13 +189,22 @@ enum Client<'a> {
     /// The control place is at this path.
     Hears(&'a str),
     Leaves(&'a str),
+    /// There is a report place too.
+    Reports(Paths<'a>),
 }
 
 impl<'a> Client<'a> {
-    fn path(self) -> Option<&'a str> {
+    fn paths(self) -> Paths<'a> {
         match self {
-            Client::Asks | Client::Fills => None,
-            Client::Hears(path) | Client::Leaves(path) => Some(path),
+            Client::Asks | Client::Fills => Paths {
+                control: None,
+                report: None,
+            },
+            Client::Hears(path) | Client::Leaves(path) => Paths {
+                control: Some(path),
+                report: None,
+            },
+            Client::Reports(paths) => paths,
         }
     }
 
@@ -169,6 +221,10 @@ impl<'a> Client<'a> {
             },
             Client::Leaves(path) => match stop_and_leave(rt, path) {
                 Ok(()) => Beside::Left,
+                Err(error) => Beside::Failed(error),
+            },
+            Client::Reports(paths) => match report(rt, alloc, paths) {
+                Ok(answered) => Beside::Reported(answered),
                 Err(error) => Beside::Failed(error),
             },
         }
@@ -189,7 +245,7 @@ impl<R: AllocGlobal + Net<Stream = TcpStream>> Visitor<'_, R> {
         let beside = self.client.go(self.rt, self.rt.alloc(), self.port);
         match &beside {
             Beside::Asked(_) | Beside::Waited(_) | Beside::Failed(_) => self.news.end(),
-            Beside::Heard(_) | Beside::Left => {}
+            Beside::Heard(_) | Beside::Left | Beside::Reported(_) => {}
         }
         beside
     }
@@ -207,6 +263,7 @@ where
     requires set_up { (calls : List (Option Call)) × IsWhollySetUp calls ready.made }
     requires some { 1 ≤ vec_len ready.servers }
     requires enough { vec_len ready.servers < ready.made.hall.seats }
+    requires terms { HaveTerms ready.made.hall.most ready.places }
 {
     let rt = ready.rt;
     let visitor = Visitor {
@@ -221,45 +278,64 @@ where
             requires set_up { (calls : List (Option Call)) × IsWhollySetUp calls ready.made }
             requires some { 1 ≤ vec_len ready.servers }
             requires enough { vec_len ready.servers < ready.made.hall.seats }
+            requires terms { HaveTerms ready.made.hall.most ready.places }
         { ready.serve() },
         move || visitor.go(),
     )
 }
 
-/// What listens at both places.
+/// What listens at all places.
 fn begun<'a, R, P: Probe>(
     rt: &R,
     listener: &TcpListener,
     made: &SetUpHall<P, KeepMany>,
-    place: Option<Place<'a>>,
+    paths: Paths<'a>,
 ) -> Result<Begun, RunFailure<'a>>
 where
     R: AllocGlobal + Clock + Files + Net<Listener = TcpListener, Stream = TcpStream>,
     requires set_up { (calls : List (Option Call)) × IsWhollySetUp calls made.now }
     ensures two { IfOk result (λ begun. vec_len begun.servers ≡ 2) }
+    ensures terms { IfOk result (λ begun. HaveTerms made.now.hall.most begun.places) }
 {
     let alloc = rt.alloc();
-    let control = control_at(rt, alloc, made, place)?;
+    let (control, report) = (
+        paths.control.map(Place::Path),
+        paths.report.map(Place::Path),
+    );
+    let control = sessions_at(rt, alloc, made, control, Access::Owner)?;
+    let report = sessions_at(rt, alloc, made, report, Access::Group)?;
     let (servers, news) = event_loops(rt, alloc, listener, LIMITS, 2)?;
-    let control = control_loop(rt, alloc, control, &servers)?;
+    let most = made.most();
+    let all = Terms {
+        rights: Rights::All,
+        most,
+    };
+    let reports = Terms {
+        rights: Rights::Reports,
+        most,
+    };
+    let control = session_loop(rt, alloc, control, &servers, all)?;
+    let report = session_loop(rt, alloc, report, &servers, reports)?;
     Ok(Begun {
         servers,
         news,
-        control,
+        places: SessionPlaces { control, report },
     })
 }
 
-/// Takes the file of a run's control place away, which is gone then.
+/// Takes the files of a run's places for sessions away, which are gone then.
 fn expect_removed<R: Files, P: Probe>(
     rt: &R,
     ran: &Ran<P, KeepMany>,
-    path: Option<&str>,
+    paths: Paths<'_>,
 ) -> Result<(), Fail> {
-    remove_socket(rt, ran);
-    match path {
-        Some(path) => same(&fs::exists(rt, path)?, &false, &path),
-        None => Ok(()),
+    remove_sockets(rt, ran);
+    for place in [paths.control, paths.report] {
+        if let Some(path) = place {
+            same(&fs::exists(rt, path)?, &false, &path)?;
+        }
     }
+    Ok(())
 }
 
 /// How many entries the history of a run has that is set up by the script, and what the client came to beside it.
@@ -281,19 +357,19 @@ where
     requires { F.makes_asked make }
 {
     let maker = FnMaker::new(make);
-    let made = set_up(rt, rt.alloc(), &maker, script, 3 + SESSION_SEATS)?;
+    let made = set_up(rt, rt.alloc(), &maker, script, 3 + 2 * SESSION_SEATS)?;
     let listener = listen(rt, &made, SocketAddr::from(([127, 0, 0, 1], 0)))?;
     let port = listener.local_addr()?.port();
     let Begun {
         servers,
         news,
-        control,
-    } = begun(rt, &listener, &made, client.path().map(Place::Path))?;
+        places,
+    } = begun(rt, &listener, &made, client.paths())?;
     let ready = Ready {
         rt,
         made,
         servers,
-        control,
+        places,
         maker: &maker,
         news: &news,
     };
@@ -301,7 +377,7 @@ where
     let Some(ran) = ran else {
         return Ok((None, beside));
     };
-    expect_removed(rt, &ran, client.path())?;
+    expect_removed(rt, &ran, client.paths())?;
     Ok((Some(ran.entries()), beside))
 }
 
@@ -404,4 +480,20 @@ fn a_session_that_leaves_behind_stop_ends_the_run(rt: HostRuntime) -> Result<(),
     let (entries, beside) = run_beside(&rt, DEPENDING, Client::Leaves(&path))?;
     same(&entries, &Some(2), &"entries")?;
     same(&matches!(beside, Beside::Left), &true, &"the client left")
+}
+
+#[test]
+fn findings_are_reported_at_a_path_of_their_own(rt: HostRuntime) -> Result<(), Fail> {
+    let control = path_named(&rt, "control")?;
+    let report = path_named(&rt, "report")?;
+    let client = Client::Reports(Paths {
+        control: Some(&control),
+        report: Some(&report),
+    });
+    let (entries, beside) = run_beside(&rt, CHECKED, client)?;
+    same(&entries, &Some(2), &"entries")?;
+    match &beside {
+        Beside::Reported(answered) => same(&answered.as_slice(), &REPORTED, &"answers"),
+        _ => Err(Fail::new("a client failed")),
+    }
 }

@@ -1,0 +1,57 @@
+use commands::bounds::Bounds;
+use commands::files::{bounds_within, reserved};
+use open_files::OpenFiles;
+use std::test::Fail;
+use test_support::same;
+
+/// Loops and places for sessions, and how many files they have open beside connections, with those that any server has.
+const RESERVED: [(u16, u16, u32); 6] = [
+    (1, 0, 19),
+    (4, 0, 28),
+    (4, 1, 64),
+    (4, 2, 100),
+    (64, 0, 208),
+    (64, 2, 280),
+];
+
+#[test]
+fn reserves_files_for_loops_and_for_places(_rt: HostRuntime) -> Result<(), Fail> {
+    for (loops, places, expected) in RESERVED {
+        same(&reserved(loops, places), &expected, &(loops, places))?;
+    }
+    Ok(())
+}
+
+/// Connections and Watches, how many files may be open, and the bounds beside four loops and one place, where there are any.
+const WITHIN: [((u32, u32), OpenFiles, Option<(u32, u32)>); 8] = [
+    ((10_000, 9_000), OpenFiles::Unlimited, Some((10_000, 9_000))),
+    (
+        (10_000, 9_000),
+        OpenFiles::AtMost(10_064),
+        Some((10_000, 9_000)),
+    ),
+    (
+        (10_000, 9_000),
+        OpenFiles::AtMost(10_063),
+        Some((9_999, 8_999)),
+    ),
+    ((10_000, 9_000), OpenFiles::AtMost(1_024), Some((960, 864))),
+    ((960, 960), OpenFiles::AtMost(1_024), Some((960, 960))),
+    ((10_000, 9_000), OpenFiles::AtMost(65), Some((1, 0))),
+    ((10_000, 9_000), OpenFiles::AtMost(64), None),
+    ((1, 0), OpenFiles::AtMost(0), None),
+];
+
+#[test]
+fn holds_as_many_connections_as_files_may_be_open_beside_the_others(
+    _rt: HostRuntime,
+) -> Result<(), Fail> {
+    for row in &WITHIN {
+        let ((connections, watches), limit, expected) = *row;
+        let bounds = Bounds::new(connections, watches);
+        let within = bounds.and_then(|bounds| bounds_within(bounds, limit, reserved(4, 1)));
+        let found = within.map(|bounds| (bounds.connections(), bounds.limits().watches as u32));
+        same(&found, &expected, row)?;
+    }
+    Ok(())
+}
