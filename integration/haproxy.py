@@ -52,6 +52,12 @@ def tell(control, *words):
     return subprocess.check_output([HEALTHD, "tell", "--control", control, *words], text=True).strip()
 
 
+class Threads(http.server.ThreadingHTTPServer):
+    """Its threads end before it is closed: one that still runs when Python ends may break its end."""
+
+    daemon_threads = False
+
+
 class Web:
     """A web server that answers each request with its name."""
 
@@ -69,7 +75,7 @@ class Web:
         self.handler, self.address = Handler, (address, free_port())
 
     def open(self):
-        self.server = http.server.ThreadingHTTPServer(self.address, self.handler)
+        self.server = Threads(self.address, self.handler)
         threading.Thread(target=self.server.serve_forever, args=(0.05,), daemon=True).start()
 
     def close(self):
@@ -186,6 +192,8 @@ def run():
 
     assert tell(CONTROL, "stop") == "stopping"
     becomes("has web1 DOWN without its healthd", "web1", ("DOWN", "L4CON"))
+    for web in webs.values():
+        web.close()
 
 
 signal.signal(signal.SIGTERM, lambda *_: sys.exit(1))

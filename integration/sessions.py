@@ -1,0 +1,97 @@
+"""Sixteen sessions, and one more."""
+import os
+import pwd
+import signal
+import subprocess
+import sys
+import threading
+import time
+
+from servers import HEALTHD, Server, ask_line, holds, measured, timed
+
+server = Server("--threads", "2")
+silent = [server.session() for _ in range(16)]
+holds("sixteen sessions are held", all(ask_line(client, "check a") == "serving" for client in silent))
+quiet = silent.pop(3)
+for client in silent:
+    time.sleep(0.01)
+    ask_line(client, "board")
+time.sleep(1.1)
+for client in silent:
+    ask_line(client, "board")
+(said, status), seconds = timed(server.tell, "list")
+holds("a seventeenth gets in", (said, status) == ("a=serving db=serving -=serving", 0), said)
+measured("a seventeenth session", seconds, 1)
+holds("the one that was quiet for longest is closed for it", quiet.recv(10) == b"")
+holds("the others are held", all(ask_line(client, "check a") == "serving" for client in silent))
+for client in silent:
+    client.close()
+time.sleep(0.5)
+
+server.process.send_signal(signal.SIGSTOP)
+(said, status), seconds = timed(server.tell, "--timeout", "1", "list")
+server.process.send_signal(signal.SIGCONT)
+holds("tell gives up where the server is silent", (said, status) == ("healthd: timed out, the change may still be made", 1), said)
+measured("tell --timeout 1 at a silent server", seconds, 2.5)
+
+ends = threading.Event()
+
+
+def pour():
+    client = server.session()
+    file = client.makefile("rb")
+    while not ends.is_set():
+        client.sendall(b"down a\nup a\n" * 20)
+        for _ in range(40):
+            file.readline()
+
+
+pouring = [threading.Thread(target=pour) for _ in range(16)]
+for thread in pouring:
+    thread.start()
+time.sleep(1.5)
+said, status = server.tell("list")
+holds("beside sixteen that pour lines one is told that it is too many", (said, status) == ("healthd: too many sessions", 1), said)
+ends.set()
+for thread in pouring:
+    thread.join()
+server.stop()
+
+if os.geteuid() != 0:
+    print("skipped sessions: another user reports, which wants root", flush=True)
+    sys.exit(0)
+
+# A place for those who report, which another user of the server's group may open.
+group = pwd.getpwnam("daemon").pw_gid
+folder = f"/tmp/healthd-report-{os.getpid()}"
+os.mkdir(folder)
+os.chown(folder, 0, group)
+os.chmod(folder, 0o771)
+place = f"{folder}/report"
+server = Server("--report", place, before=("setpriv", f"--regid={group}", "--clear-groups"))
+holds("the places are told", server.lines[1:] == [f"control {server.control}", f"report {place}"], str(server.lines))
+holds("the report place's file is its group's too", os.stat(place).st_mode & 0o777 == 0o660)
+holds("the control place's file is its owner's alone", os.stat(server.control).st_mode & 0o777 == 0o600)
+
+
+def as_other(place, *words):
+    """What another user of the group is answered."""
+    ran = subprocess.run(["setpriv", "--reuid=nobody", f"--regid={group}", "--clear-groups", HEALTHD, "tell",
+                          "--control", place, *words], capture_output=True, text=True, timeout=30)
+    return (ran.stdout + ran.stderr).strip(), ran.returncode
+
+
+holds("another user of the group reports", as_other(place, "fail", "db") == ("done", 0), as_other(place, "fail", "db"))
+holds("and may ask", as_other(place, "list")[0] == "a=serving db=not_serving -=not_serving", as_other(place, "list"))
+for line in ("stop", "down a", "register db manual", "retire db", "shutdown", "resume"):
+    holds(f"but not {line}", as_other(place, *line.split()) == ("not allowed", 3), as_other(place, *line.split()))
+holds("and gets in nowhere else", as_other(server.control, "list")[1] == 1)
+holds("a word that is no line is not allowed", server.tell("foo", place=place) == ("not allowed", 3))
+holds("and is a bad line at the control place", server.tell("foo") == ("bad line", 3))
+holds("the sixteen of one place take none of the other's",
+      all(ask_line(client, "check a") == "serving" for client in [server.session(place) for _ in range(16)])
+      and all(ask_line(client, "check a") == "serving" for client in [server.session() for _ in range(16)]))
+time.sleep(1.1)
+server.stop()
+holds("its file is taken away at the end", not os.path.exists(place))
+os.rmdir(folder)
