@@ -34,45 +34,75 @@ const LINES: [(&[u8], &[u8]); 19] = [
 /// More steps than any test needs.
 const MOST_STEPS: u32 = 4_096;
 
-/// Lets the session answer all lines that it has, and puts the answers behind those that came before.
-fn answer_all(
+/// A session over a registry of one thread, and all that it has answered. A test lends it to a function that has the steps: each exit of
+/// one that owns it would have to be proved to drop it.
+#[derive(Drop)]
+struct Scene {
     alloc: Global,
-    session: &mut Session,
-    console: &mut OneThread<Manual>,
-    server: &mut Told,
-    answers: &mut Vec<u8>,
-) -> Result<(), Fail> {
-    for _ in 0..MOST_STEPS {
-        if !session.has_line() {
-            return Ok(());
-        }
-        if session.to_send().is_empty() {
-            session.answer(alloc, console, server, &Manuals);
-        }
-        let waiting = session.to_send();
-        let count = waiting.len();
-        answers.extend_from_slice(waiting)?;
-        session.sent(count);
-    }
-    Err(Fail::new("lines without end"))
+    console: OneThread<Manual>,
+    server: Told,
+    session: Session,
+    answers: Vec<u8>,
 }
 
-/// The answers to bytes that come in pieces of at most so many.
-fn answers_to(alloc: Global, bytes: &[u8], most: usize) -> Result<Vec<u8>, Fail> {
-    let mut console: OneThread<Manual> = OneThread::new(alloc)?;
-    let mut server = Told::NOTHING;
-    let mut session = Session::new(alloc)?;
-    let mut answers = Vec::new(alloc);
-    let mut rest = bytes;
-    for _ in 0..MOST_STEPS {
-        if rest.is_empty() {
-            return Ok(answers);
-        }
-        let taken = session.give(&rest[..most.min(rest.len())]);
-        rest = &rest[taken..];
-        answer_all(alloc, &mut session, &mut console, &mut server, &mut answers)?;
+impl Scene {
+    fn new(alloc: Global) -> Result<Scene, Fail> {
+        let console = OneThread::new(alloc)?;
+        let session = Session::new(alloc)?;
+        Ok(Scene {
+            alloc,
+            console,
+            server: Told::NOTHING,
+            session,
+            answers: Vec::new(alloc),
+        })
     }
-    Err(Fail::new("bytes without end"))
+
+    /// Lets the session answer all lines that it has, and puts the answers behind those that came before.
+    fn answer_all(&mut self) -> Result<(), Fail> {
+        for _ in 0..MOST_STEPS {
+            if !self.session.has_line() {
+                return Ok(());
+            }
+            if self.session.to_send().is_empty() {
+                self.session
+                    .answer(self.alloc, &mut self.console, &mut self.server, &Manuals);
+            }
+            let waiting = self.session.to_send();
+            let count = waiting.len();
+            self.answers.extend_from_slice(waiting)?;
+            self.session.sent(count);
+        }
+        Err(Fail::new("lines without end"))
+    }
+
+    /// Lets it answer bytes that come in pieces of at most so many.
+    fn answer_pieces(&mut self, bytes: &[u8], most: usize) -> Result<(), Fail> {
+        let mut rest = bytes;
+        for _ in 0..MOST_STEPS {
+            if rest.is_empty() {
+                return Ok(());
+            }
+            let taken = self.session.give(&rest[..most.min(rest.len())]);
+            rest = &rest[taken..];
+            self.answer_all()?;
+        }
+        Err(Fail::new("bytes without end"))
+    }
+
+    /// Lets it answer bytes behind which no more come.
+    fn answer_last(&mut self, bytes: &[u8]) -> Result<(), Fail> {
+        self.session.give(bytes);
+        self.session.end();
+        self.answer_all()
+    }
+}
+
+/// Bytes that come in pieces of at most so many have these answers.
+fn expect_in_pieces(alloc: Global, bytes: &[u8], most: usize, expected: &[u8]) -> Result<(), Fail> {
+    let mut scene = Scene::new(alloc)?;
+    scene.answer_pieces(bytes, most)?;
+    same(&scene.answers.as_slice(), &expected, &most)
 }
 
 #[test]
@@ -85,30 +115,28 @@ fn answers_lines_in_their_order_in_any_pieces(rt: HostRuntime) -> Result<(), Fai
         expected.extend_from_slice(answer)?;
     }
     for most in [1usize, 2, 3, 5, 7, 64, 1_025, 4_096] {
-        let found = answers_to(alloc, &bytes, most)?;
-        same(&found.as_slice(), &expected.as_slice(), &most)?;
+        expect_in_pieces(alloc, &bytes, most, &expected)?;
     }
     Ok(())
 }
 
-#[test]
-fn ends_at_a_line_that_is_too_long(rt: HostRuntime) -> Result<(), Fail> {
-    let alloc = rt.alloc();
-    let mut console: OneThread<Manual> = OneThread::new(alloc)?;
-    let mut server = Told::NOTHING;
-    let mut session = Session::new(alloc)?;
+fn answer_too_long(scene: &mut Scene) -> Result<(), Fail> {
+    let session = &mut scene.session;
     same(&session.give(&[b'a'; 2_000]), &1_025, &"taken")?;
     same(&session.has_line(), &true, &"a line")?;
     if session.has_line() && session.to_send().is_empty() {
-        same(
-            &session.answer(alloc, &mut console, &mut server, &Manuals),
-            &Answer::TooLong,
-            &"answer",
-        )?;
+        let answer = session.answer(scene.alloc, &mut scene.console, &mut scene.server, &Manuals);
+        same(&answer, &Answer::TooLong, &"answer")?;
     }
     same(&session.to_send(), &b"line too long\n".as_slice(), &"text")?;
     same(&session.is_over(), &true, &"its end")?;
     same(&session.has_line(), &false, &"no more")
+}
+
+#[test]
+fn ends_at_a_line_that_is_too_long(rt: HostRuntime) -> Result<(), Fail> {
+    let mut scene = Scene::new(rt.alloc())?;
+    answer_too_long(&mut scene)
 }
 
 /// What is given before no more bytes come, and what is answered.
@@ -119,18 +147,17 @@ const LAST: [(&[u8], &[u8]); 4] = [
     (b"check a\ncheck a\r", b"not found\nnot found\n"),
 ];
 
+/// Bytes behind which no more come have these answers.
+fn expect_last(alloc: Global, bytes: &[u8], expected: &[u8]) -> Result<(), Fail> {
+    let mut scene = Scene::new(alloc)?;
+    scene.answer_last(bytes)?;
+    same(&scene.answers.as_slice(), &expected, &bytes)
+}
+
 #[test]
 fn takes_a_last_line_that_has_no_lf(rt: HostRuntime) -> Result<(), Fail> {
-    let alloc = rt.alloc();
     for (bytes, expected) in &LAST {
-        let mut console: OneThread<Manual> = OneThread::new(alloc)?;
-        let mut server = Told::NOTHING;
-        let mut session = Session::new(alloc)?;
-        let mut answers = Vec::new(alloc);
-        session.give(bytes);
-        session.end();
-        answer_all(alloc, &mut session, &mut console, &mut server, &mut answers)?;
-        same(&answers.as_slice(), expected, bytes)?;
+        expect_last(rt.alloc(), bytes, expected)?;
     }
     Ok(())
 }
@@ -176,58 +203,64 @@ const WAKES: [&[Row]; 4] = [
     ],
 ];
 
-#[test]
-fn wakes_the_server_after_each_change_that_shows_and_no_other(rt: HostRuntime) -> Result<(), Fail> {
-    let alloc = rt.alloc();
-    for rows in WAKES {
-        let mut console: OneThread<Manual> = OneThread::new(alloc)?;
-        let mut server = Told::NOTHING;
-        let mut session = Session::new(alloc)?;
-        let mut answers = Vec::new(alloc);
-        for (line, wakes, stops) in rows {
-            session.give(line);
-            answer_all(alloc, &mut session, &mut console, &mut server, &mut answers)?;
-            let told = Told {
-                rights: Rights::All,
-                wakes: *wakes,
-                stops: *stops,
-            };
-            same(&server, &told, line)?;
-        }
+fn expect_told(scene: &mut Scene, rows: &[Row]) -> Result<(), Fail> {
+    for (line, wakes, stops) in rows {
+        scene.session.give(line);
+        scene.answer_all()?;
+        let told = Told {
+            rights: Rights::All,
+            wakes: *wakes,
+            stops: *stops,
+        };
+        same(&scene.server, &told, line)?;
     }
     Ok(())
+}
+
+fn expect_told_anew(alloc: Global, rows: &[Row]) -> Result<(), Fail> {
+    let mut scene = Scene::new(alloc)?;
+    expect_told(&mut scene, rows)
+}
+
+#[test]
+fn wakes_the_server_after_each_change_that_shows_and_no_other(rt: HostRuntime) -> Result<(), Fail> {
+    for rows in WAKES {
+        expect_told_anew(rt.alloc(), rows)?;
+    }
+    Ok(())
+}
+
+/// Lines that say nothing, and one behind them, are as many bytes as fit.
+fn fill(scene: &mut Scene, bytes: &[u8]) -> Result<(), Fail> {
+    let session = &mut scene.session;
+    same(&session.give(bytes), &1_025, &"taken")?;
+    session.end();
+    same(&session.room(), &0, &"room")?;
+    session.end();
+    same(&session.give(b"list\n"), &0, &"more")?;
+    scene.answer_all()?;
+    same(
+        &scene.answers.as_slice(),
+        &b"not found\n".as_slice(),
+        &"answers",
+    )
 }
 
 #[test]
 fn takes_a_last_line_that_has_no_lf_behind_all_that_fits(rt: HostRuntime) -> Result<(), Fail> {
     let alloc = rt.alloc();
-    let mut console: OneThread<Manual> = OneThread::new(alloc)?;
-    let mut server = Told::NOTHING;
-    let mut session = Session::new(alloc)?;
     let mut bytes = vec![in alloc; b'\n'; 1_018]?;
     bytes.extend_from_slice(b"check a")?;
-    same(&session.give(&bytes), &1_025, &"taken")?;
-    session.end();
-    same(&session.room(), &0, &"room")?;
-    session.end();
-    same(&session.give(b"list\n"), &0, &"more")?;
-    let mut answers = Vec::new(alloc);
-    answer_all(alloc, &mut session, &mut console, &mut server, &mut answers)?;
-    same(&answers.as_slice(), &b"not found\n".as_slice(), &"answers")
+    let mut scene = Scene::new(alloc)?;
+    fill(&mut scene, &bytes)
 }
 
 #[test]
 fn ends_at_a_last_line_that_is_too_long(rt: HostRuntime) -> Result<(), Fail> {
     let alloc = rt.alloc();
     for (len, expected) in [(1_024usize, "bad line\n"), (1_025, "line too long\n")] {
-        let mut console: OneThread<Manual> = OneThread::new(alloc)?;
-        let mut server = Told::NOTHING;
-        let mut session = Session::new(alloc)?;
-        let mut answers = Vec::new(alloc);
-        session.give(&vec![in alloc; b'x'; len]?);
-        session.end();
-        answer_all(alloc, &mut session, &mut console, &mut server, &mut answers)?;
-        same(&answers.as_slice(), &expected.as_bytes(), &len)?;
+        let bytes = vec![in alloc; b'x'; len]?;
+        expect_last(alloc, &bytes, expected.as_bytes())?;
     }
     Ok(())
 }

@@ -1,4 +1,4 @@
-use crate::scenes::{Place, Scene, client, rest};
+use crate::scenes::{ANSWERED, Place, Scene, client, expect_rest};
 use std::net::{Net, TcpStream};
 use std::test::Fail;
 use std::time::Clock;
@@ -29,19 +29,12 @@ fn watch_over_the_bound<R: Net<Stream = TcpStream> + Clock>(
     scene: &Scene,
 ) -> Result<(), Fail> {
     let all = watchers(rt, place, scene)?;
-    let mut next = client(rt, place, WATCH_OF_EMPTY)?;
-    place.rounds(rt, scene)?;
-    let found = rest(place.alloc, &mut next)?;
-    let is_told = found.ends_with(b"\r\n0\r\n\r\n");
-    same(&is_told, &true, &"one more is told and ended")?;
-    let mut check = client(rt, place, CHECK_OF_EMPTY)?;
-    place.rounds(rt, scene)?;
-    let found = rest(place.alloc, &mut check)?;
-    same(&found.ends_with(b"grpc-status:0\r\n"), &true, &"a Check")?;
+    // one more is told its status, and ended
+    place.expect_end(rt, scene, WATCH_OF_EMPTY, b"\r\n0\r\n\r\n")?;
+    place.expect_end(rt, scene, CHECK_OF_EMPTY, ANSWERED)?;
     same(&place.server.watches(), &BOUNDS.1, &"all are still open")?;
     drop(all);
-    place.rounds(rt, scene)?;
-    same(&place.server.connections(), &0, &"all have left")
+    place.expect_held(rt, scene, (0, 0))
 }
 
 #[test]
@@ -51,6 +44,20 @@ fn a_watch_over_the_bound_is_told_its_status_and_ended(rt: HostRuntime) -> Resul
     watch_over_the_bound(&rt, &mut place, &scene)
 }
 
+/// Two are held while a third waits, and it is answered once the first has left.
+fn wait_for_room<R: Net<Stream = TcpStream> + Clock>(
+    rt: &R,
+    place: &mut Place,
+    scene: &Scene,
+    first: TcpStream,
+) -> Result<(), Fail> {
+    let mut third = client(rt, place, CHECK_OF_EMPTY)?;
+    place.expect_held(rt, scene, (2, 0))?;
+    drop(first);
+    place.rounds(rt, scene)?;
+    expect_rest(place.alloc, &mut third, ANSWERED)
+}
+
 fn connect_over_the_bound<R: Net<Stream = TcpStream> + Clock>(
     rt: &R,
     place: &mut Place,
@@ -58,17 +65,10 @@ fn connect_over_the_bound<R: Net<Stream = TcpStream> + Clock>(
 ) -> Result<(), Fail> {
     let first = client(rt, place, b"")?;
     let second = client(rt, place, b"POST")?;
-    let mut third = client(rt, place, CHECK_OF_EMPTY)?;
-    place.rounds(rt, scene)?;
-    same(&place.server.connections(), &2, &"two are held")?;
-    drop(first);
-    place.rounds(rt, scene)?;
-    let found = rest(place.alloc, &mut third)?;
-    same(&found.ends_with(b"grpc-status:0\r\n"), &true, &"the third")?;
+    wait_for_room(rt, place, scene, first)?;
     drop(second);
-    place.rounds(rt, scene)?;
-    let found = (place.server.connections(), place.server.ended());
-    same(&found, &(0, 3), &"all have ended")
+    place.expect_held(rt, scene, (0, 0))?;
+    same(&place.server.ended(), &3, &"all have ended")
 }
 
 #[test]

@@ -1,4 +1,4 @@
-use crate::scenes::{Place, Scene, client, rest, sent};
+use crate::scenes::{ANSWERED, Place, Scene, client, expect_rest, sent};
 use desk_core::Setting;
 use std::alloc::Global;
 use std::net::{Net, TcpStream};
@@ -22,8 +22,26 @@ fn all_descriptors(alloc: Global, stream: &TcpStream) -> Result<Vec<TcpStream>, 
     Err(Fail::new("descriptors without end"))
 }
 
-/// A Watch is open, and a Check waits to be accepted, while there is no descriptor.
+/// A Check waits to be accepted while there is no descriptor, and a Watch that is open is told a change meanwhile.
 fn run_out_of_descriptors<R: Net<Stream = TcpStream> + Clock>(
+    rt: &R,
+    place: &mut Place,
+    scene: &mut Scene,
+    watcher: &mut TcpStream,
+    waiting: &mut TcpStream,
+) -> Result<(), Fail> {
+    let copies = all_descriptors(place.alloc, waiting)?;
+    scene.set(Setting::Down);
+    place.news.change();
+    place.expect_held(rt, scene, (1, 1))?;
+    let found = sent(place.alloc, watcher)?;
+    same(&found.ends_with(b"\x08\x02\r\n"), &true, &"a change")?;
+    drop(copies);
+    place.rounds(rt, scene)?;
+    expect_rest(place.alloc, waiting, ANSWERED)
+}
+
+fn watch_and_wait<R: Net<Stream = TcpStream> + Clock>(
     rt: &R,
     place: &mut Place,
     scene: &mut Scene,
@@ -32,18 +50,7 @@ fn run_out_of_descriptors<R: Net<Stream = TcpStream> + Clock>(
     place.rounds(rt, scene)?;
     sent(place.alloc, &mut watcher)?;
     let mut waiting = client(rt, place, CHECK_OF_EMPTY)?;
-    let copies = all_descriptors(place.alloc, &waiting)?;
-    scene.set(Setting::Down);
-    place.news.change();
-    place.rounds(rt, scene)?;
-    let found = sent(place.alloc, &mut watcher)?;
-    same(&found.ends_with(b"\x08\x02\r\n"), &true, &"a change")?;
-    let found = (place.server.connections(), place.server.ended());
-    same(&found, &(1, 0), &"without descriptors")?;
-    drop(copies);
-    place.rounds(rt, scene)?;
-    let found = rest(place.alloc, &mut waiting)?;
-    same(&found.ends_with(b"grpc-status:0\r\n"), &true, &"the Check")?;
+    run_out_of_descriptors(rt, place, scene, &mut watcher, &mut waiting)?;
     let found = (place.server.watches(), place.server.ended());
     same(&found, &(1, 1), &"with descriptors")
 }
@@ -52,5 +59,5 @@ fn run_out_of_descriptors<R: Net<Stream = TcpStream> + Clock>(
 fn goes_on_where_descriptors_run_out(rt: HostRuntime) -> Result<(), Fail> {
     let mut scene = Scene::new(rt.alloc())?;
     let mut place = Place::new(&rt, rt.alloc(), 10, 10)?;
-    run_out_of_descriptors(&rt, &mut place, &mut scene)
+    watch_and_wait(&rt, &mut place, &mut scene)
 }

@@ -1,5 +1,5 @@
 use crate::clocks::{Manner, rounds_at};
-use crate::scenes::{Place, Scene, client, rest};
+use crate::scenes::{ANSWERED, Place, Scene, client, expect_rest, rest};
 use std::io::Write;
 use std::net::{Net, Shutdown, TcpStream};
 use std::test::Fail;
@@ -25,13 +25,11 @@ fn send_on_where_refused<R: Net<Stream = TcpStream> + Clock>(
     place.rounds(rt, scene)?;
     stream.write_all(&[0; 20_000])?;
     place.rounds(rt, scene)?;
-    let found = rest(place.alloc, &mut stream)?;
     let end = b"grpc-status:8\r\ngrpc-message:request too large\r\n";
-    same(&found.ends_with(end), &true, &"its answer")?;
+    expect_rest(place.alloc, &mut stream, end)?;
     drop(stream);
-    place.rounds(rt, scene)?;
-    let found = (place.server.connections(), place.server.ended());
-    same(&found, &(0, 1), &"its end")
+    place.expect_held(rt, scene, (0, 0))?;
+    same(&place.server.ended(), &1, &"its end")
 }
 
 #[test]
@@ -53,8 +51,7 @@ fn shut_sides<R: Net<Stream = TcpStream> + Clock>(
         let mut stream = client(rt, place, request)?;
         stream.shutdown(Shutdown::Write)?;
         place.rounds(rt, scene)?;
-        let found = rest(place.alloc, &mut stream)?;
-        same(&found.ends_with(end), &true, &request)?;
+        expect_rest(place.alloc, &mut stream, end)?;
     }
     same(&place.ends(), &(2, 0, 0), &"all have ended")
 }
@@ -118,12 +115,11 @@ fn come_late<R: Net<Stream = TcpStream> + Clock>(
     place.rounds(rt, scene)?;
     place.news.end();
     place.rounds(rt, scene)?;
-    let late = TcpStream::connect(rt, place.addr);
-    same(&late.is_err(), &true, &"a client that comes late")?;
+    let is_late = TcpStream::connect(rt, place.addr).is_err();
     stream.write_all(back)?;
     place.rounds(rt, scene)?;
-    let found = rest(place.alloc, &mut stream)?;
-    same(&found.ends_with(b"grpc-status:0\r\n"), &true, &"the Check")
+    expect_rest(place.alloc, &mut stream, ANSWERED)?;
+    same(&is_late, &true, &"a client that comes late")
 }
 
 #[test]
@@ -186,24 +182,21 @@ fn rounds_until<R: Net<Stream = TcpStream> + Clock>(
     same(&place.server.connections(), &connections, &"connections")
 }
 
-/// Once all is to end one client has sent half a request, one sends a whole one then, and one sends nothing.
+/// Once all is to end one client sends a whole request, and one sends nothing, beside one that has sent half of one.
 fn end_beside_silence<R: Net<Stream = TcpStream> + Clock>(
     rt: &R,
     place: &mut Place,
     scene: &Scene,
+    later: &mut TcpStream,
+    silent: &mut TcpStream,
 ) -> Result<(), Fail> {
-    let half = client(rt, place, b"POST")?;
-    let mut later = client(rt, place, b"")?;
-    let mut silent = client(rt, place, b"")?;
-    place.rounds(rt, scene)?;
     let begun = Instant::now(rt)?;
     place.news.end();
     place.round(rt, scene)?;
     same(&place.server.connections(), &3, &"all are held")?;
     later.write_all(CHECK_OF_EMPTY)?;
     rounds_until(rt, place, scene, 2)?;
-    let found = rest(place.alloc, &mut later)?;
-    same(&found.ends_with(b"grpc-status:0\r\n"), &true, &"the Check")?;
+    expect_rest(place.alloc, later, ANSWERED)?;
     rounds_until(rt, place, scene, 1)?;
     let now = Instant::now(rt)?;
     for (millis, is_past) in [(200, true), (600, false)] {
@@ -211,14 +204,20 @@ fn end_beside_silence<R: Net<Stream = TcpStream> + Clock>(
         let found = then.is_some_and(|then| then <= now);
         same(&found, &is_past, &millis)?;
     }
-    same(
-        &rest(place.alloc, &mut silent)?.is_empty(),
-        &true,
-        &"closed",
-    )?;
-    same(&place.ends(), &(2, 1, 0), &"the Check, and who was silent")?;
-    drop(half);
-    Ok(())
+    same(&rest(place.alloc, silent)?.is_empty(), &true, &"closed")?;
+    same(&place.ends(), &(2, 1, 0), &"the Check, and who was silent")
+}
+
+fn come_before_the_end<R: Net<Stream = TcpStream> + Clock>(
+    rt: &R,
+    place: &mut Place,
+    scene: &Scene,
+) -> Result<(), Fail> {
+    let _half = client(rt, place, b"POST")?;
+    let mut later = client(rt, place, b"")?;
+    let mut silent = client(rt, place, b"")?;
+    place.rounds(rt, scene)?;
+    end_beside_silence(rt, place, scene, &mut later, &mut silent)
 }
 
 #[test]
@@ -227,5 +226,5 @@ fn who_sends_nothing_has_two_tenths_of_a_second_behind_the_end(
 ) -> Result<(), Fail> {
     let scene = Scene::new(rt.alloc())?;
     let mut place = Place::new(&rt, rt.alloc(), 10, 10)?;
-    end_beside_silence(&rt, &mut place, &scene)
+    come_before_the_end(&rt, &mut place, &scene)
 }

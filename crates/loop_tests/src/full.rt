@@ -1,7 +1,7 @@
 //! A handler that holds a few conversations.
 
 use crate::clocks::{Manner, rounds_at};
-use crate::scenes::{Place, Scene, client, rest};
+use crate::scenes::{ANSWERED, Place, Scene, client, expect_rest};
 use std::io::{Read, Write};
 use std::net::{Net, TcpStream};
 use std::test::Fail;
@@ -15,44 +15,72 @@ const NARROW: Manner = Manner {
     grace_millis: 0,
 };
 
+/// One more comes, and is closed at once.
+fn come_too_soon<R: Net<Stream = TcpStream> + Clock>(
+    rt: &R,
+    place: &mut Place,
+    scene: &Scene,
+    begun: Duration,
+) -> Result<(), Fail> {
+    let mut third = client(rt, place, CHECK_OF_EMPTY)?;
+    rounds_at(NARROW, begun, 899, place, scene)?;
+    same(&third.read(&mut [0; 1]).unwrap_or(0), &0, &"closed")
+}
+
+/// One more comes, and is answered.
+fn come_in_time<R: Net<Stream = TcpStream> + Clock>(
+    rt: &R,
+    place: &mut Place,
+    scene: &Scene,
+    begun: Duration,
+) -> Result<(), Fail> {
+    let mut fourth = client(rt, place, CHECK_OF_EMPTY)?;
+    rounds_at(NARROW, begun, 1_000, place, scene)?;
+    expect_rest(place.alloc, &mut fourth, ANSWERED)
+}
+
+/// How many bytes of a request the second client has sent at the beginning, and then before the fourth comes.
+const SENT: (usize, usize) = (40, 80);
+
 /// Two clients have sent a part of a request, and the second sends more of it later. Nobody makes room for the third, and the first does
 /// for the fourth, a second behind its last byte.
 fn make_room<R: Net<Stream = TcpStream> + Clock>(
     rt: &R,
     place: &mut Place,
     scene: &Scene,
+    begun: Duration,
+    second: &mut TcpStream,
+) -> Result<(), Fail> {
+    rounds_at(NARROW, begun, 0, place, scene)?;
+    come_too_soon(rt, place, scene, begun)?;
+    same(&place.server.connections(), &2, &"two are held")?;
+    second.write_all(&CHECK_OF_EMPTY[SENT.0..SENT.1])?;
+    rounds_at(NARROW, begun, 900, place, scene)?;
+    come_in_time(rt, place, scene, begun)?;
+    same(&place.ends(), &(2, 0, 1), &"the first and the fourth")?;
+    second.write_all(&CHECK_OF_EMPTY[SENT.1..])?;
+    rounds_at(NARROW, begun, 1_001, place, scene)?;
+    expect_rest(place.alloc, second, ANSWERED)?;
+    same(&place.ends(), &(3, 0, 1), &"all have ended")
+}
+
+fn come_one_by_one<R: Net<Stream = TcpStream> + Clock>(
+    rt: &R,
+    place: &mut Place,
+    scene: &Scene,
 ) -> Result<(), Fail> {
     let begun = rt.monotonic()?;
-    let (front, back) = CHECK_OF_EMPTY.split_at(40);
     let mut first = client(rt, place, b"POST")?;
-    let mut second = client(rt, place, front)?;
-    rounds_at(NARROW, begun, 0, place, scene)?;
-    let mut third = client(rt, place, CHECK_OF_EMPTY)?;
-    rounds_at(NARROW, begun, 899, place, scene)?;
-    let found = third.read(&mut [0; 1]).unwrap_or(0);
-    same(&found, &0, &"the third is closed")?;
-    same(&place.server.connections(), &2, &"two are held")?;
-    let (front, back) = back.split_at(40);
-    second.write_all(front)?;
-    rounds_at(NARROW, begun, 900, place, scene)?;
-    let mut fourth = client(rt, place, CHECK_OF_EMPTY)?;
-    rounds_at(NARROW, begun, 1_000, place, scene)?;
-    let found = rest(place.alloc, &mut fourth)?;
-    same(&found.ends_with(b"grpc-status:0\r\n"), &true, &"the fourth")?;
-    same(&place.ends(), &(2, 0, 1), &"the first and the fourth")?;
-    same(&first.read(&mut [0; 1])?, &0, &"the first is closed")?;
-    second.write_all(back)?;
-    rounds_at(NARROW, begun, 1_001, place, scene)?;
-    let found = rest(place.alloc, &mut second)?;
-    same(&found.ends_with(b"grpc-status:0\r\n"), &true, &"the second")?;
-    same(&place.ends(), &(3, 0, 1), &"all have ended")
+    let mut second = client(rt, place, &CHECK_OF_EMPTY[..SENT.0])?;
+    make_room(rt, place, scene, begun, &mut second)?;
+    same(&first.read(&mut [0; 1])?, &0, &"the first is closed")
 }
 
 #[test]
 fn who_was_quiet_for_longest_makes_room_behind_a_second(rt: HostRuntime) -> Result<(), Fail> {
     let scene = Scene::new(rt.alloc())?;
     let mut place = Place::new(&rt, rt.alloc(), 10, 10)?;
-    make_room(&rt, &mut place, &scene)
+    come_one_by_one(&rt, &mut place, &scene)
 }
 
 /// The second comes long behind the first, and there is room for both.

@@ -1,6 +1,6 @@
 //! Two loops over one socket, which share the places.
 
-use crate::scenes::{Place, Scene, client, rest, sent};
+use crate::scenes::{ANSWERED, Place, Scene, client, expect_rest, rest, sent};
 use live_server::{Acceptor, EventServer, Limits, News, Places};
 use mio::net::TcpListener;
 use std::alloc::Global;
@@ -14,6 +14,25 @@ use test_support::same;
 
 /// How a Watch that the server ends closes.
 const ENDED: &[u8] = b"\r\n0\r\n\r\n";
+
+/// A loop over a socket, which shares these places.
+fn loop_over<R: Net + Clock>(
+    rt: &R,
+    alloc: Global,
+    listener: net::TcpListener,
+    places: &Arc<Places>,
+) -> Result<EventServer, Fail> {
+    let acceptor = Acceptor::new(TcpListener::from_std(listener));
+    Ok(EventServer::new(rt, alloc, acceptor, places.clone()?)?)
+}
+
+fn news_of(alloc: Global, first: &EventServer, second: &EventServer) -> Result<News, Fail> {
+    let mut wakers = Vec::new(alloc);
+    for server in [first, second] {
+        wakers.push(server.waker()?)?;
+    }
+    Ok(News::new(wakers))
+}
 
 /// A place, and a loop more over its socket. Each of the two is the first in turn.
 #[derive(Drop)]
@@ -30,19 +49,15 @@ impl Pair {
         let any = SocketAddr::from(([127, 0, 0, 1], 0));
         let listener = net::TcpListener::from(TcpListener::bind(rt, any)?);
         let addr = listener.local_addr()?;
-        let shared = TcpListener::from_std(listener.try_clone()?);
         let places = Arc::new(alloc, Places::new(limits))?;
-        let other = EventServer::new(rt, alloc, Acceptor::new(shared), places.clone()?)?;
-        let acceptor = Acceptor::new(TcpListener::from_std(listener));
-        let server = EventServer::new(rt, alloc, acceptor, places)?;
-        let mut wakers = Vec::new(alloc);
-        wakers.push(server.waker()?)?;
-        wakers.push(other.waker()?)?;
+        let other = loop_over(rt, alloc, listener.try_clone()?, &places)?;
+        let server = loop_over(rt, alloc, listener, &places)?;
+        let news = news_of(alloc, &server, &other)?;
         let place = Place {
             alloc,
             server,
             addr,
-            news: News::new(wakers),
+            news,
         };
         Ok(Pair { place, other })
     }
@@ -63,6 +78,18 @@ impl Pair {
         Ok(())
     }
 
+    /// One of the loops holds so many connections and Watches after some rounds.
+    fn expect_held<R: Clock>(
+        &mut self,
+        rt: &R,
+        scene: &Scene,
+        is_other: bool,
+        held: (usize, usize),
+    ) -> Result<(), Fail> {
+        self.rounds(rt, scene, is_other)?;
+        same(&self.held(is_other), &held, &"connections and Watches")
+    }
+
     /// How many connections and Watches one of the loops holds.
     fn held(&self, is_other: bool) -> (usize, usize) {
         let server = if is_other {
@@ -74,11 +101,26 @@ impl Pair {
     }
 }
 
-/// The client is told its status, and its Watch is ended.
-fn expect_ended(alloc: Global, stream: &mut TcpStream) -> Result<(), Fail> {
-    let found = rest(alloc, stream)?;
-    same(&found.starts_with(b"HTTP/1.1 200 OK\r\n"), &true, &"told")?;
-    same(&found.ends_with(ENDED), &true, &"ended")
+/// A client is told its status by one of the loops, and its Watch is ended.
+fn expect_ended<R>(rt: &R, pair: &mut Pair, scene: &Scene, is_other: bool) -> Result<(), Fail>
+where
+    R: Clock + Net<Stream = TcpStream>,
+{
+    let mut stream = client(rt, &pair.place, WATCH_OF_EMPTY)?;
+    pair.rounds(rt, scene, is_other)?;
+    let found = rest(pair.place.alloc, &mut stream)?;
+    let is_ended = found.starts_with(b"HTTP/1.1 200 OK\r\n") && found.ends_with(ENDED);
+    same(&is_ended, &true, &is_other)
+}
+
+/// A client's Watch is open at one of the loops, until it is dropped.
+fn open_watch<R>(rt: &R, pair: &mut Pair, scene: &Scene, is_other: bool) -> Result<TcpStream, Fail>
+where
+    R: Clock + Net<Stream = TcpStream>,
+{
+    let stream = client(rt, &pair.place, WATCH_OF_EMPTY)?;
+    pair.expect_held(rt, scene, is_other, (1, 1))?;
+    Ok(stream)
 }
 
 /// The one place for Watches serves whichever loop a Watch comes to first, and then the other.
@@ -86,26 +128,14 @@ fn watch_alone<R>(rt: &R, pair: &mut Pair, scene: &Scene, first: bool) -> Result
 where
     R: Clock + Net<Stream = TcpStream>,
 {
-    let alloc = pair.place.alloc;
-    let one = client(rt, &pair.place, WATCH_OF_EMPTY)?;
-    pair.rounds(rt, scene, first)?;
-    same(&pair.held(first), &(1, 1), &"the first Watch is open")?;
-    let mut two = client(rt, &pair.place, WATCH_OF_EMPTY)?;
-    pair.rounds(rt, scene, !first)?;
-    expect_ended(alloc, &mut two)?;
-    let mut three = client(rt, &pair.place, WATCH_OF_EMPTY)?;
-    pair.rounds(rt, scene, first)?;
-    expect_ended(alloc, &mut three)?;
-    drop((two, three));
-    pair.rounds(rt, scene, first)?;
-    pair.rounds(rt, scene, !first)?;
-    same(&pair.held(first), &(1, 1), &"it is still open")?;
+    let one = open_watch(rt, pair, scene, first)?;
+    expect_ended(rt, pair, scene, !first)?;
+    expect_ended(rt, pair, scene, first)?;
+    pair.expect_held(rt, scene, first, (1, 1))?;
+    pair.expect_held(rt, scene, !first, (0, 0))?;
     drop(one);
     pair.rounds(rt, scene, first)?;
-    let last = client(rt, &pair.place, WATCH_OF_EMPTY)?;
-    pair.rounds(rt, scene, !first)?;
-    same(&pair.held(!first), &(1, 1), &"the other loop has the place")?;
-    drop(last);
+    drop(open_watch(rt, pair, scene, !first)?);
     pair.rounds(rt, scene, !first)
 }
 
@@ -123,33 +153,38 @@ fn a_place_for_a_watch_serves_each_loop(rt: HostRuntime) -> Result<(), Fail> {
     Ok(())
 }
 
+/// Two connections are held by the first loop. A third waits for the other loop, and is answered once one of them has left.
+fn wait_for_the_other<R>(
+    rt: &R,
+    pair: &mut Pair,
+    scene: &Scene,
+    first: bool,
+    one: TcpStream,
+) -> Result<(), Fail>
+where
+    R: Clock + Net<Stream = TcpStream>,
+{
+    pair.expect_held(rt, scene, first, (2, 0))?;
+    let mut three = client(rt, &pair.place, CHECK_OF_EMPTY)?;
+    pair.expect_held(rt, scene, !first, (0, 0))?;
+    pair.expect_held(rt, scene, first, (2, 0))?;
+    drop(one);
+    pair.rounds(rt, scene, first)?;
+    pair.rounds(rt, scene, !first)?;
+    expect_rest(pair.place.alloc, &mut three, ANSWERED)
+}
+
 /// While one loop holds as many connections as may be open, the other accepts none, and is woken once a place is free.
 fn connect_alone<R>(rt: &R, pair: &mut Pair, scene: &Scene, first: bool) -> Result<(), Fail>
 where
     R: Clock + Net<Stream = TcpStream>,
 {
-    let alloc = pair.place.alloc;
     let one = client(rt, &pair.place, b"")?;
     let two = client(rt, &pair.place, b"POST")?;
-    pair.rounds(rt, scene, first)?;
-    same(&pair.held(first), &(2, 0), &"two are held")?;
-    let mut three = client(rt, &pair.place, CHECK_OF_EMPTY)?;
-    pair.rounds(rt, scene, !first)?;
-    pair.rounds(rt, scene, first)?;
-    same(&pair.held(!first).0, &0, &"none more")?;
-    drop(one);
-    pair.rounds(rt, scene, first)?;
-    pair.rounds(rt, scene, !first)?;
-    let found = rest(alloc, &mut three)?;
-    same(&found.ends_with(b"grpc-status:0\r\n"), &true, &"the third")?;
+    wait_for_the_other(rt, pair, scene, first, one)?;
     drop(two);
-    pair.rounds(rt, scene, first)?;
-    pair.rounds(rt, scene, !first)?;
-    same(
-        &(pair.held(first).0, pair.held(!first).0),
-        &(0, 0),
-        &"all have ended",
-    )
+    pair.expect_held(rt, scene, first, (0, 0))?;
+    pair.expect_held(rt, scene, !first, (0, 0))
 }
 
 #[test]
@@ -166,22 +201,28 @@ fn a_place_for_a_connection_serves_each_loop(rt: HostRuntime) -> Result<(), Fail
     Ok(())
 }
 
-/// Whether the next round of this loop is short, once places are free for which it waits.
-fn is_woken<R>(rt: &R, pair: &mut Pair, scene: &Scene, is_other: bool) -> Result<bool, Fail>
+/// One of the loops holds two connections, and both have left; the other has seen meanwhile that a third waits, which the first then
+/// answers.
+fn leave_places<R>(rt: &R, pair: &mut Pair, scene: &Scene, is_other: bool) -> Result<(), Fail>
 where
     R: Clock + Net<Stream = TcpStream>,
 {
     let one = client(rt, &pair.place, b"")?;
     let two = client(rt, &pair.place, b"")?;
-    pair.rounds(rt, scene, !is_other)?;
+    pair.expect_held(rt, scene, !is_other, (2, 0))?;
     let mut three = client(rt, &pair.place, CHECK_OF_EMPTY)?;
-    pair.rounds(rt, scene, is_other)?;
-    let held = (pair.held(!is_other).0, pair.held(is_other).0);
-    same(&held, &(2, 0), &"full")?;
+    pair.expect_held(rt, scene, is_other, (0, 0))?;
     drop((one, two));
     pair.rounds(rt, scene, !is_other)?;
-    let found = rest(pair.place.alloc, &mut three)?;
-    same(&found.ends_with(b"grpc-status:0\r\n"), &true, &"a Check")?;
+    expect_rest(pair.place.alloc, &mut three, ANSWERED)
+}
+
+/// Whether the next round of this loop is short, once places are free for which it waits.
+fn is_woken<R>(rt: &R, pair: &mut Pair, scene: &Scene, is_other: bool) -> Result<bool, Fail>
+where
+    R: Clock + Net<Stream = TcpStream>,
+{
+    leave_places(rt, pair, scene, is_other)?;
     let begun = Instant::now(rt)?;
     pair.round(rt, scene, is_other)?;
     let ended = Instant::now(rt)?;
@@ -206,43 +247,47 @@ fn a_loop_is_woken_for_a_place_that_another_gives_back(rt: HostRuntime) -> Resul
     same(&woken, &(true, true), &"woken")
 }
 
+/// A client whose Watch one of the loops holds.
+fn watcher_at<R>(rt: &R, pair: &mut Pair, scene: &Scene, is_other: bool) -> Result<TcpStream, Fail>
+where
+    R: Clock + Net<Stream = TcpStream>,
+{
+    let mut stream = client(rt, &pair.place, WATCH_OF_EMPTY)?;
+    pair.rounds(rt, scene, is_other)?;
+    let is_ended = sent(pair.place.alloc, &mut stream)?.ends_with(ENDED);
+    same(&is_ended, &false, &"a Watch")?;
+    Ok(stream)
+}
+
+/// A Check is answered by one of the loops.
+fn check_at<R>(rt: &R, pair: &mut Pair, scene: &Scene, is_other: bool) -> Result<(), Fail>
+where
+    R: Clock + Net<Stream = TcpStream>,
+{
+    let mut check = client(rt, &pair.place, CHECK_OF_EMPTY)?;
+    pair.rounds(rt, scene, is_other)?;
+    expect_rest(pair.place.alloc, &mut check, ANSWERED)
+}
+
 /// Of a hundred places for connections ninety are for Watches, which come to the loops in turn.
 fn fill<R>(rt: &R, pair: &mut Pair, scene: &Scene) -> Result<(), Fail>
 where
     R: Clock + Net<Stream = TcpStream>,
 {
-    let alloc = pair.place.alloc;
-    let mut all = Vec::new(alloc);
+    let mut all = Vec::new(pair.place.alloc);
     for number in 0..90u8 {
         let is_other = number % 3 == 0;
-        let mut stream = client(rt, &pair.place, WATCH_OF_EMPTY)?;
-        pair.rounds(rt, scene, is_other)?;
-        same(&sent(alloc, &mut stream)?.ends_with(ENDED), &false, &number)?;
-        all.push(stream)?;
-        let mut check = client(rt, &pair.place, CHECK_OF_EMPTY)?;
-        pair.rounds(rt, scene, !is_other)?;
-        let found = rest(alloc, &mut check)?;
-        same(&found.ends_with(b"grpc-status:0\r\n"), &true, &number)?;
+        all.push(watcher_at(rt, pair, scene, is_other)?)?;
+        check_at(rt, pair, scene, !is_other)?;
     }
-    same(&(pair.held(false).1, pair.held(true).1), &(60, 30), &"open")?;
     for is_other in [false, true] {
-        let mut next = client(rt, &pair.place, WATCH_OF_EMPTY)?;
-        pair.rounds(rt, scene, is_other)?;
-        expect_ended(alloc, &mut next)?;
+        expect_ended(rt, pair, scene, is_other)?;
     }
-    same(
-        &(pair.held(false).1, pair.held(true).1),
-        &(60, 30),
-        &"still open",
-    )?;
+    pair.expect_held(rt, scene, false, (60, 60))?;
+    pair.expect_held(rt, scene, true, (30, 30))?;
     drop(all);
-    pair.rounds(rt, scene, false)?;
-    pair.rounds(rt, scene, true)?;
-    same(
-        &(pair.held(false).0, pair.held(true).0),
-        &(0, 0),
-        &"all have left",
-    )
+    pair.expect_held(rt, scene, false, (0, 0))?;
+    pair.expect_held(rt, scene, true, (0, 0))
 }
 
 #[test]

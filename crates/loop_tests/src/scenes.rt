@@ -8,6 +8,7 @@ use std::net::{Net, SocketAddr, TcpStream};
 use std::sync::Arc;
 use std::test::Fail;
 use std::time::{Clock, Duration};
+use test_support::same;
 pub(crate) use web_call::staged::Staged as Scene;
 
 /// How many rounds a test lets a loop make at a time.
@@ -68,6 +69,40 @@ impl Place {
         self.server.round(rt, &mut scene.door(), &self.news)?;
         Ok(())
     }
+
+    /// How many connections and Watches it holds after some rounds.
+    pub(crate) fn expect_held<R: Clock>(
+        &mut self,
+        rt: &R,
+        scene: &Scene,
+        held: (usize, usize),
+    ) -> Result<(), Fail> {
+        self.rounds(rt, scene)?;
+        let found = (self.server.connections(), self.server.watches());
+        same(&found, &held, &"connections and Watches")
+    }
+
+    /// A client that has sent this is sent all that is left for it in some rounds, with this end.
+    pub(crate) fn expect_end<R: Net<Stream = TcpStream> + Clock>(
+        &mut self,
+        rt: &R,
+        scene: &Scene,
+        bytes: &[u8],
+        end: &[u8],
+    ) -> Result<(), Fail> {
+        let mut stream = client(rt, self, bytes)?;
+        self.rounds(rt, scene)?;
+        expect_rest(self.alloc, &mut stream, end)
+    }
+}
+
+/// The end of a response to a Check.
+pub(crate) const ANSWERED: &[u8] = b"grpc-status:0\r\n";
+
+/// What a client is still sent has this end.
+pub(crate) fn expect_rest(alloc: Global, stream: &mut TcpStream, end: &[u8]) -> Result<(), Fail> {
+    let found = rest(alloc, stream)?;
+    same(&found.ends_with(end), &true, &end)
 }
 
 /// A client that has sent this, and waits for at most five seconds for each read.
