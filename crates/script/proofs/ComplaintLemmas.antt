@@ -1,9 +1,15 @@
 -- What a complaint says of words, with other words before them.
-use Rattle.std.proofs.Common.{ℕ, ◌<◌, ◌≤◌, ◌-◌, take, drop, suc, List, [], ◌∷◌, length, get_or, Contains, arith, Bor}
+use Rattle.std.proofs.Common.{Bool, true, false, IsTrue, ◌↔◌, ◌≡◌, refl, Option, None, Some, is_some, ℕ, ◌<◌, ◌≤◌, ◌-◌, take, drop, suc, List, [], ◌∷◌, length, get_or, Contains, arith, Bor}
 use Rattle.std.proofs.lemmas.List.{get_or-map, length-map}
 use Rattle.script.specs.declared.complaint.Complaint.{Complaint}
-use Rattle.script.specs.declared.complaint.Complaint.TheVariants.{NeedsCatalogue, EmptyWord, UnknownLine, OfOtherScripts, NeedsRule, UnknownRule, NeedsCounts, NeedsNames, NotListed, NoNumber, NeedsName, StandsAlone, NeedsMax, MaxTooLate}
+use Rattle.script.specs.declared.complaint.Complaint.TheVariants.{NeedsCatalogue, EmptyWord, UnknownLine, OfOtherScripts, NeedsRule, UnknownRule, NeedsCounts, NeedsNames, NotListed, NoNumber, NeedsName, StandsAlone, NeedsMax, MaxTooLate, NeedsSeconds}
+use Rattle.script.specs.declared.expectation.Expectation.{Expectation}
+use Rattle.script.specs.declared.line.Line.{Line}
+use Rattle.script.specs.declared.script.Mode.TheVariants.{Run}
 use Rattle.script.specs.Complaint.{IsSo}
+use Rattle.script.specs.Reading.{IsReading}
+use Rattle.script.specs.Script.{IsNextLine, IsNextExpectation, MayRun}
+use Rattle.script.specs.Script.MayRun.{RunsLine, RunsExpectation}
 use Rattle.script.specs.TextLines.{texts}
 use Rattle.script.proofs.WordLemmas.{all_of}
 
@@ -32,6 +38,7 @@ behind names words first (NeedsName word) so = more first word.now words so
 behind names words first (StandsAlone word) so = more first word.now words so
 behind names words first NeedsMax so = tt
 behind names words first MaxTooLate so = tt
+behind names words first NeedsSeconds so = tt
 
 -- one about the words behind the first
 pub behind_first : (names : List (List ℕ)) (words : List (Bor (List ℕ))) (complaint : Complaint) → 1 ≤ length words
@@ -45,3 +52,27 @@ pub of_first : (names : List (List ℕ)) (words : List (Bor (List ℕ))) (defaul
     → ((all others : List (List ℕ)) → IsSo all ((get_or words 0 default).now ∷ others) complaint) → IsSo names (texts words) complaint
 of_first names [] default complaint least so = absurd (omega arith)
 of_first names (word ∷ words) default complaint least so = so names (texts words)
+
+-- a text that gives an expectation may stand in a script to run
+pub expectation_runs : (names : List (List ℕ)) (text : List ℕ) (found : Option Expectation) (test : Bool) → IsReading (IsNextExpectation Run) text found → test ≡ is_some found → test ≡ true
+    → IsTrue true ↔ MayRun names text
+expectation_runs names text None test is tells so = cc
+expectation_runs names text (Some expectation) test is tells so = (λ any. RunsExpectation expectation is, λ may. refl)
+
+-- and any other where it gives a line
+pub line_runs : (names : List (List ℕ)) (text : List ℕ) (found : Option Expectation) (line : Option Line) (test last : Bool) → IsReading (IsNextExpectation Run) text found
+    → test ≡ is_some found → test ≡ false → IsReading (IsNextLine Run names 0) text line → last ≡ is_some line → IsTrue last ↔ MayRun names text
+line_runs names text (Some expectation) line test last none tells so is counts = cc
+line_runs names text None (Some line) test last none tells so is counts = (λ any. RunsLine line is, λ may. counts)
+line_runs names text None None test last none tells so is counts = (λ any. cc, λ may. absurd (neither may))
+  where
+    neither : MayRun names text → ⊥
+    neither (RunsLine line next) = is line next
+    neither (RunsExpectation expectation next) = none expectation next
+
+-- what may stand there has no complaint, and what may not has one
+pub no_complaint : {P : Type 0} (may : Bool) → (IsTrue may ↔ P) → may ≡ true → false ≡ false ↔ P
+no_complaint may tells so = (λ none. tells.0 so, λ holds. refl)
+
+pub some_complaint : {P : Type 0} (may : Bool) → (IsTrue may ↔ P) → may ≡ false → true ≡ false ↔ P
+some_complaint may tells so = (λ none. cc, λ holds. (let also : may ≡ true = tells.1 holds in cc))

@@ -1,15 +1,17 @@
 -- What is said of a line, and of the names of a catalogue, where the lines of a script lie so.
-use Rattle.std.proofs.Common.{ℕ, ◌≡◌, ◌≢◌, ◌↔◌, List, [], ◌∷◌, ◌++◌, codes, decimal, Option, Some, None, IsNone, refl, sym, ap, ◌∙◌, subst, append_assoc, Result, Ok, Err, IfOk}
+use Rattle.std.proofs.Common.{ℕ, ◌≡◌, ◌≢◌, ◌↔◌, List, [], ◌∷◌, ◌++◌, codes, decimal, Option, Some, None, IsNone, IfSome, refl, sym, ap, ◌∙◌, subst, append_assoc, Result, Ok, Err, IfOk}
 use Rattle.std.proofs.lemmas.Bool.{ne_eqb, eq-eqb}
 use Rattle.desk_core.specs.declared.catalogue.CatalogueFault.{CatalogueFault}
 use Rattle.desk_core.specs.Fault.{fault_in}
 use Rattle.script.specs.declared.complaint.Complaint.{Complaint}
+use Rattle.script.specs.Complaint.{IsSoOf}
 use Rattle.script.specs.Explanation.{found_told, line_at, line_told, IsFound, ExplainsLine, ExplainsNames}
 use Rattle.script.specs.Explanation.IsFoundAt.{OfFirst, OfOther}
 use Rattle.script.specs.Opening.{IsCatalogueLine}
 use Rattle.script.specs.Quoted.{quoted}
+use Rattle.script.specs.Script.{MayRun}
 use Rattle.script.specs.TextLines.{Left, with_line, AreWords}
-use Rattle.script.proofs.OneScript.{one_next, none_left}
+use Rattle.script.proofs.OneScript.{one_names, one_next, none_left}
 
 -- the first line is the one with its own number
 first_at : (number : ℕ) (line : List ℕ) (others : List (ℕ × List ℕ)) → line_at number ((number, line) ∷ others) ≡ Some line
@@ -65,3 +67,11 @@ told number line empty start all found none begins is =
 pub each_ok : {A E : Type 0} {P Q : A → Type 0} (result : Result A E) → ((value : A) → P value → Q value) → IfOk result P → IfOk result Q
 each_ok (Ok value) follows is = follows value is
 each_ok (Err error) follows is = tt
+
+-- what was found by the names that the first line lists
+pub found_behind : {E : Type 0} (opening line : List ℕ) (own seen : List (List ℕ)) (result : Result (Option Complaint) E) → IsCatalogueLine opening own → seen ≡ own
+    → IfOk result (λ found. IsNone found ↔ MayRun seen line) → IfOk result (λ found. IfSome found (IsSoOf seen line))
+    → IfOk result (λ found. (names : List (List ℕ)) → IsCatalogueLine opening names → fault_in names ≡ None → IsFound names line found)
+found_behind opening line own seen (Ok found) lists same none so = λ names is faultless.
+    subst (λ (all : List (List ℕ)). IsFound all line found) (same ∙ one_names opening own names lists is) (record { none = none; so = so })
+found_behind opening line own seen (Err error) lists same none so = tt

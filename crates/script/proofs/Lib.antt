@@ -1,6 +1,7 @@
 pub mod ChangeLemmas
 pub mod ComplaintLemmas
 pub mod DoubleLemmas
+pub mod ExpectedLemmas
 pub mod ExplanationLemmas
 pub mod LineCuts
 pub mod LineLemmas

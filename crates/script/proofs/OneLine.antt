@@ -10,6 +10,9 @@ use Rattle.probe_core.specs.declared.start.Start.TheVariants as starts
 use Rattle.desk_core.specs.declared.order.Order.{Order as OrderOf}
 use Rattle.script.specs.declared.line.Line.{Line}
 use Rattle.script.specs.declared.line.Line.TheVariants.{Register, Order, Step}
+use Rattle.script.specs.declared.expectation.Expectation.{Expectation}
+use Rattle.script.specs.Expectation.{IsExpectation, IsExpectationText, expects}
+use Rattle.script.specs.Expectation.IsExpectation.{ExpectLine}
 use Rattle.script.specs.Line.{IsMaskOf, IsThreshold, IsRule, IsOrder, IsLine, IsOrderText, IsLineText}
 use Rattle.script.specs.Line.IsThreshold.{FallAlone, FallAndRise, UnknownFirst}
 use Rattle.script.specs.Line.IsRule.{ThresholdRule, ManualRule, DependsRule}
@@ -84,3 +87,19 @@ one_line_text names text a b is_a is_b =
 pub one_order_text : (text : List ℕ) (a b : OrderOf) → IsOrderText text a → IsOrderText text b → a ≡ b
 one_order_text text a b is_a is_b =
     one_order is_a.words a b is_a.is (subst (λ (words : List (List ℕ)). IsOrder words b) (is_b.are.parted ∙ sym is_a.are.parted) is_b.is)
+
+one_expectation : (words : List (List ℕ)) (a b : Expectation) → IsExpectation words a → IsExpectation words b → a ≡ b
+one_expectation words a b (ExpectLine name word m is_m) (ExpectLine same other n is_n) =
+    ap (λ (seconds : ℕ). expects (name_of name) seconds) (one_number word m n is_m.number is_n.number)
+
+pub one_expectation_text : (text : List ℕ) (a b : Expectation) → IsExpectationText text a → IsExpectationText text b → a ≡ b
+one_expectation_text text a b is_a is_b =
+    one_expectation is_a.words a b is_a.is (subst (λ (words : List (List ℕ)). IsExpectation words b) (is_b.are.parted ∙ sym is_a.are.parted) is_b.is)
+
+-- words that give an expectation give no line
+expects_no_line : (names words : List (List ℕ)) (expectation : Expectation) (line : Line) → IsExpectation words expectation → ¬ IsLine names words line
+expects_no_line names words expectation line (ExpectLine name word seconds is) (OrderLine all order is_order) = elim is_order [ ]
+
+pub line_or_expectation : (names : List (List ℕ)) (text : List ℕ) (line : Line) (expectation : Expectation) → IsLineText names text line → ¬ IsExpectationText text expectation
+line_or_expectation names text line expectation is_line is =
+    expects_no_line names is_line.words expectation line (subst (λ (words : List (List ℕ)). IsExpectation words expectation) (is.are.parted ∙ sym is_line.are.parted) is.is) is_line.is

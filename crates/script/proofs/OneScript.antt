@@ -1,8 +1,10 @@
 -- Bytes are one script, or have one fault.
-use Rattle.std.proofs.Common.{ℕ, ◌≡◌, ◌≢◌, ◌==◌, List, [], ◌∷◌, codes, map, None, Some, refl, sym, ap, ◌∙◌, subst, ◌<◌, ◌≤◌, length, arith}
+use Rattle.std.proofs.Common.{ℕ, ◌≡◌, ◌≢◌, ◌==◌, List, [], ◌∷◌, suc, codes, map, None, Some, refl, sym, ap, ◌∙◌, subst, ◌<◌, ◌≤◌, length, arith}
 use Rattle.std.specs.List.{slice_split}
 use Rattle.desk_core.specs.declared.order.Order.{Order as OrderOf}
 use Rattle.desk_core.specs.Fault.{fault_in}
+use Rattle.script.specs.declared.expectation.Expectation.{Expectation}
+use Rattle.script.specs.declared.expectation.ScriptExpectation.{ScriptExpectation}
 use Rattle.script.specs.declared.line.Line.{Line}
 use Rattle.script.specs.declared.script.Mode.{Mode}
 use Rattle.script.specs.declared.script.Mode.TheVariants.{Run}
@@ -15,14 +17,15 @@ use Rattle.script.specs.Opening.{IsCatalogueLine, IsMaxLine, TakesCatalogue, Tak
 use Rattle.script.specs.Opening.IsCatalogueFault.{NoLine, OtherLine, BadNames}
 use Rattle.script.specs.Opening.IsMaxFault.{NoMaxLine, OtherMaxLine}
 use Rattle.script.specs.Opening.TakesMax.{SaysMax, LeavesMaxOut}
-use Rattle.script.specs.Script.{ScriptParts, watches_after, IsNextLine, IsGo, TakesLines, IsLinesFault, AreOrders, IsOrdersFault, IsText, Opens, IsScript, IsScriptFault}
+use Rattle.script.specs.Script.{ScriptParts, watches_after, IsNextLine, IsNextExpectation, IsGo, standing, PartsLines, Parts, TakesLines, IsLinesFault, AreOrders, IsOrdersFault, IsText, Opens, IsScript, IsScriptFault}
 use Rattle.script.specs.Script.TakesLines.{AtEnd, AtGo, NextLine}
-use Rattle.script.specs.Script.IsLinesFault.{BadHere, BadLater}
+use Rattle.script.specs.Script.PartsLines.{NoneLeft, IsOne, IsOther}
+use Rattle.script.specs.Script.IsLinesFault.{BadHere, BadLater, BadBehind}
 use Rattle.script.specs.Script.AreOrders.{NoOrder, NextOrder}
 use Rattle.script.specs.Script.IsOrdersFault.{NotHere, NotLater}
 use Rattle.script.specs.Script.IsScriptFault.{Long, NoText, InCatalogue, InMax, InLines, InOrders}
 use Rattle.script.specs.Word.{name_of, IsNumber}
-use Rattle.script.proofs.OneLine.{one_number, one_line_text, one_order_text}
+use Rattle.script.proofs.OneLine.{one_number, one_line_text, one_order_text, one_expectation_text, line_or_expectation}
 
 -- what is left is one where its parts are
 same_left : (a b : Left) → a.lines ≡ b.lines → a.end ≡ b.end → a ≡ b
@@ -44,7 +47,7 @@ one_next left right rest more m n line other same parts others =
     let tail : rest.lines ≡ more.lines = cc in
     (ap (λ (pair : ℕ × List ℕ). pair.0) head, ap (λ (pair : ℕ × List ℕ). pair.1) head, same_left rest more tail end)
 
-one_names : (line : List ℕ) (a b : List (List ℕ)) → IsCatalogueLine line a → IsCatalogueLine line b → a ≡ b
+pub one_names : (line : List ℕ) (a b : List (List ℕ)) → IsCatalogueLine line a → IsCatalogueLine line b → a ≡ b
 one_names line a b is_a is_b =
     let all : codes "catalogue" ∷ is_a.words ≡ codes "catalogue" ∷ is_b.words = is_a.are.parted ∙ sym is_b.are.parted in
     let words : is_a.words ≡ is_b.words = cc in
@@ -153,22 +156,58 @@ one_lines mode names watches body a b rest more (NextLine w n text line others l
     let both = one_lines mode names (watches_after line w) others lines found left last takes (subst (λ (one : Line). TakesLines mode names (watches_after one w) others found last) equal takes_o) in
     (ap (λ (all : List Line). line ∷ all) both.0 ∙ ap (λ (one : Line). one ∷ found) (sym equal), both.1)
 
-lines_or_fault : (mode : Mode) (names : List (List ℕ)) (watches : ℕ) (body : List (ℕ × List ℕ)) (a : List Line) (rest : List (ℕ × List ℕ))
-    (fault : ScriptFault) → TakesLines mode names watches body a rest
+-- a text is not both of these
+line_or_next : (mode : Mode) (names : List (List ℕ)) (watches : ℕ) (text : List ℕ) (line : Line) (expectation : Expectation) → IsNextLine mode names watches text line
+    → ¬ IsNextExpectation mode text expectation
+line_or_next mode names watches text line expectation is next = line_or_expectation names text line expectation is.is next.is
+
+-- lines come apart in one way
+one_parting : (mode : Mode) (behind : ℕ) (body others more : List (ℕ × List ℕ)) (a b : List ScriptExpectation) → PartsLines mode behind body a others → PartsLines mode behind body b more
+    → (a ≡ b) × (others ≡ more)
+one_parting mode behind body others more a b (NoneLeft n) (NoneLeft m) = (refl, refl)
+one_parting mode behind body others more a b (IsOne n number text one rest left later is parts) (IsOne m same also other behind_it left_o later_o is_o parts_o) =
+    let equal : one ≡ other = one_expectation_text text one other is.is is_o.is in
+    let both = one_parting mode n rest left left_o later later_o parts parts_o in
+    (ap (λ (all : List ScriptExpectation). standing number n one ∷ all) both.0 ∙ ap (λ (e : Expectation). standing number n e ∷ later_o) equal, both.1)
+one_parting mode behind body others more a b (IsOne n number text one rest left later is parts) (IsOther m same also behind_it left_o later_o none parts_o) = absurd (none one is)
+one_parting mode behind body others more a b (IsOther n number text rest left later none parts) (IsOne m same also other behind_it left_o later_o is_o parts_o) = absurd (none other is_o)
+one_parting mode behind body others more a b (IsOther n number text rest left later none parts) (IsOther m same also behind_it left_o later_o none_o parts_o) =
+    let both = one_parting mode (suc n) rest left left_o later later_o parts parts_o in
+    (both.0, ap (λ (all : List (ℕ × List ℕ)). (number, text) ∷ all) both.1)
+
+-- lines that come apart, and are taken, have no fault
+lines_or_fault : (mode : Mode) (names : List (List ℕ)) (behind watches : ℕ) (body others : List (ℕ × List ℕ)) (expectations : List ScriptExpectation) (a : List Line)
+    (rest : List (ℕ × List ℕ)) (fault : ScriptFault) → PartsLines mode behind body expectations others → TakesLines mode names watches others a rest
     → IsLinesFault mode names watches body fault → ⊥
-lines_or_fault mode names watches body a rest fault (AtEnd w) is = elim is [ ]
-lines_or_fault mode names watches body a rest fault (AtGo w n text behind go) (BadHere v m other left not none) = not go
-lines_or_fault mode names watches body a rest fault (AtGo w n text behind go) (BadLater v m other line left f is later) = go_or_next mode names w text line go is
-lines_or_fault mode names watches body a rest fault (NextLine w n text line others left lines is takes) (BadHere v m other behind not none) = none line is
-lines_or_fault mode names watches body a rest fault (NextLine w n text line others left lines is takes) (BadLater v m same other behind f is_o later) =
+lines_or_fault mode names behind watches body others expectations a rest fault (NoneLeft n) takes is = elim is [ ]
+lines_or_fault mode names behind watches body others expectations a rest fault (IsOne n number text one left more later is parts) takes (BadHere v m same ahead not unexpected none) =
+    unexpected one is
+lines_or_fault mode names behind watches body others expectations a rest fault (IsOne n number text one left more later is parts) takes (BadLater v m same line ahead f is_line wrong) =
+    line_or_next mode names v text line one is_line is
+lines_or_fault mode names behind watches body others expectations a rest fault (IsOne n number text one left more later is parts) takes (BadBehind v m same other ahead f is_o wrong) =
+    lines_or_fault mode names n v left more later a rest f parts takes wrong
+lines_or_fault mode names behind watches body others expectations a rest fault (IsOther n number text left more later none_e parts) takes (BadBehind v m same other ahead f is_o wrong) =
+    none_e other is_o
+lines_or_fault mode names behind watches body others expectations a rest fault (IsOther n number text left more later none_e parts) (AtGo w k also ends go) (BadHere v m same ahead not unexpected none) =
+    not go
+lines_or_fault mode names behind watches body others expectations a rest fault (IsOther n number text left more later none_e parts) (AtGo w k also ends go) (BadLater v m same line ahead f is_line wrong) =
+    go_or_next mode names w text line go is_line
+lines_or_fault mode names behind watches body others expectations a rest fault (IsOther n number text left more later none_e parts) (NextLine w k also line beyond ends lines is takes) (BadHere v m same ahead not unexpected none) =
+    none line is
+lines_or_fault mode names behind watches body others expectations a rest fault (IsOther n number text left more later none_e parts) (NextLine w k also line beyond ends lines is takes) (BadLater v m same other ahead f is_o wrong) =
     let equal : other ≡ line = same_line mode names w text line other is is_o in
-    lines_or_fault mode names (watches_after line w) others lines left f takes (subst (λ (one : Line). IsLinesFault mode names (watches_after one w) others f) equal later)
+    lines_or_fault mode names (suc n) (watches_after line w) left more later lines ends f parts takes (subst (λ (one : Line). IsLinesFault mode names (watches_after one w) left f) equal wrong)
 
 one_lines_fault : (mode : Mode) (names : List (List ℕ)) (watches : ℕ) (body : List (ℕ × List ℕ)) (f g : ScriptFault)
     → IsLinesFault mode names watches body f → IsLinesFault mode names watches body g → f ≡ g
-one_lines_fault mode names watches body f g (BadHere w n text rest not none) (BadHere v m same behind not_o none_o) = refl
-one_lines_fault mode names watches body f g (BadHere w n text rest not none) (BadLater v m same line behind h is later) = absurd (none line is)
-one_lines_fault mode names watches body f g (BadLater w n text line rest h is later) (BadHere v m same behind not none) = absurd (none line is)
+one_lines_fault mode names watches body f g (BadHere w n text rest not none_e none) (BadHere v m same behind not_o none_oe none_o) = refl
+one_lines_fault mode names watches body f g (BadHere w n text rest not none_e none) (BadLater v m same line behind h is later) = absurd (none line is)
+one_lines_fault mode names watches body f g (BadHere w n text rest not none_e none) (BadBehind v m same one behind h is later) = absurd (none_e one is)
+one_lines_fault mode names watches body f g (BadLater w n text line rest h is later) (BadHere v m same behind not none_e none) = absurd (none line is)
+one_lines_fault mode names watches body f g (BadLater w n text line rest h is later) (BadBehind v m same one behind k is_o later_o) = absurd (line_or_next mode names w text line one is is_o)
+one_lines_fault mode names watches body f g (BadBehind w n text one rest h is later) (BadHere v m same behind not none_e none) = absurd (none_e one is)
+one_lines_fault mode names watches body f g (BadBehind w n text one rest h is later) (BadLater v m same line behind k is_o later_o) = absurd (line_or_next mode names w text line one is_o is)
+one_lines_fault mode names watches body f g (BadBehind w n text one rest h is later) (BadBehind v m same other behind k is_o later_o) = one_lines_fault mode names w rest h k later later_o
 one_lines_fault mode names watches body f g (BadLater w n text line rest h is later) (BadLater v m same other behind k is_o later_o) =
     let equal : other ≡ line = same_line mode names w text line other is is_o in
     one_lines_fault mode names (watches_after line w) rest h k later (subst (λ (one : Line). IsLinesFault mode names (watches_after one w) rest k) equal later_o)
@@ -196,14 +235,24 @@ one_opening mode bytes a b m n body other is_a is_b =
     let most = one_most mode is_a.behind_catalogue m n body other is_a.most (subst (λ (left : Left). TakesMax mode left n other) (sym names.1) is_b.most) in
     (names.0, most.0, most.1)
 
+-- and comes apart in one way behind its opening
+one_body : (mode : Mode) (bytes : List ℕ) (a b : List (List ℕ)) (m n : ℕ) (opened other body more : Left) (expectations expected : List ScriptExpectation)
+    → Opens mode bytes a m opened → Opens mode bytes b n other → Parts mode opened expectations body → Parts mode other expected more
+    → (expectations ≡ expected) × (body.lines ≡ more.lines)
+one_body mode bytes a b m n opened other body more expectations expected is_a is_b parts parts_o =
+    let same = one_opening mode bytes a b m n opened other is_a is_b in
+    one_parting mode 0 opened.lines body.lines more.lines expectations expected parts.lines
+    (subst (λ (left : Left). PartsLines mode 0 left.lines expected more.lines) (sym same.2) parts_o.lines)
+
 -- the lines of an opened script
-same_body : (mode : Mode) (bytes : List ℕ) (a b : List (List ℕ)) (m n : ℕ) (body other : Left) (lines : List Line) (rest : List (ℕ × List ℕ))
-    → Opens mode bytes a m body → Opens mode bytes b n other → TakesLines mode b 0 other.lines lines rest
-    → TakesLines mode a 0 body.lines lines rest
-same_body mode bytes a b m n body other lines rest is_a is_b takes =
-    let same = one_opening mode bytes a b m n body other is_a is_b in
-    let left : TakesLines mode b 0 body.lines lines rest = subst (λ (all : Left). TakesLines mode b 0 all.lines lines rest) (sym same.2) takes in
-    subst (λ (names : List (List ℕ)). TakesLines mode names 0 body.lines lines rest) (sym same.0) left
+same_body : (mode : Mode) (bytes : List ℕ) (a b : List (List ℕ)) (m n : ℕ) (opened other body more : Left) (expectations expected : List ScriptExpectation)
+    (lines : List Line) (rest : List (ℕ × List ℕ)) → Opens mode bytes a m opened → Opens mode bytes b n other → Parts mode opened expectations body
+    → Parts mode other expected more → TakesLines mode b 0 more.lines lines rest → TakesLines mode a 0 body.lines lines rest
+same_body mode bytes a b m n opened other body more expectations expected lines rest is_a is_b parts parts_o takes =
+    let names = (one_opening mode bytes a b m n opened other is_a is_b).0 in
+    let same = (one_body mode bytes a b m n opened other body more expectations expected is_a is_b parts parts_o).1 in
+    let left : TakesLines mode b 0 body.lines lines rest = subst (λ (all : List (ℕ × List ℕ)). TakesLines mode b 0 all lines rest) (sym same) takes in
+    subst (λ (all : List (List ℕ)). TakesLines mode all 0 body.lines lines rest) (sym names) left
 
 same_fault : (mode : Mode) (bytes : List ℕ) (a b : List (List ℕ)) (m n : ℕ) (body other : Left) (fault : ScriptFault) → Opens mode bytes a m body
     → Opens mode bytes b n other → IsLinesFault mode b 0 other.lines fault
@@ -214,26 +263,30 @@ same_fault mode bytes a b m n body other fault is_a is_b takes =
     subst (λ (names : List (List ℕ)). IsLinesFault mode names 0 body.lines fault) (sym same.0) left
 
 -- a script of these parts
-parts_of : List (List ℕ) → ℕ → List Line → List ℕ → List OrderOf → ScriptParts
-parts_of names max lines numbers orders = record { names = names; max = max; lines = lines; numbers = numbers; orders = orders }
+parts_of : List (List ℕ) → ℕ → List Line → List ℕ → List ScriptExpectation → List OrderOf → ScriptParts
+parts_of names max lines numbers expectations orders =
+    record { names = names; max = max; lines = lines; numbers = numbers; expectations = expectations; orders = orders }
 
-same_parts : (a b : List (List ℕ)) (m n : ℕ) (lines others : List Line) (numbers counts : List ℕ) (orders more : List OrderOf) → a ≡ b → m ≡ n → lines ≡ others → numbers ≡ counts → orders ≡ more
-    → parts_of a m lines numbers orders ≡ parts_of b n others counts more
-same_parts a b m n lines others numbers counts orders more names max line number order =
-    ap (λ (all : List (List ℕ)). parts_of all m lines numbers orders) names ∙ ap (λ (one : ℕ). parts_of b one lines numbers orders) max
-    ∙ ap (λ (all : List Line). parts_of b n all numbers orders) line ∙ ap (λ (all : List ℕ). parts_of b n others all orders) number
-    ∙ ap (λ (all : List OrderOf). parts_of b n others counts all) order
+same_parts : (a b : List (List ℕ)) (m n : ℕ) (lines others : List Line) (numbers counts : List ℕ) (expectations expected : List ScriptExpectation) (orders more : List OrderOf)
+    → a ≡ b → m ≡ n → lines ≡ others → numbers ≡ counts → expectations ≡ expected → orders ≡ more
+    → parts_of a m lines numbers expectations orders ≡ parts_of b n others counts expected more
+same_parts a b m n lines others numbers counts expectations expected orders more names max line number expectation order =
+    ap (λ (all : List (List ℕ)). parts_of all m lines numbers expectations orders) names ∙ ap (λ (one : ℕ). parts_of b one lines numbers expectations orders) max
+    ∙ ap (λ (all : List Line). parts_of b n all numbers expectations orders) line ∙ ap (λ (all : List ℕ). parts_of b n others all expectations orders) number
+    ∙ ap (λ (all : List ScriptExpectation). parts_of b n others counts all orders) expectation ∙ ap (λ (all : List OrderOf). parts_of b n others counts expected all) order
 
 pub one_script : (mode : Mode) (bytes : List ℕ) (a b : ScriptParts) → IsScript mode bytes a → IsScript mode bytes b → a ≡ b
 unfolding parts_of
 one_script mode bytes a b is_a is_b =
-    let opening = one_opening mode bytes a.names b.names a.max b.max is_a.body is_b.body is_a.opens is_b.opens in
+    let opening = one_opening mode bytes a.names b.names a.max b.max is_a.opened is_b.opened is_a.opens is_b.opens in
+    let body = one_body mode bytes a.names b.names a.max b.max is_a.opened is_b.opened is_a.body is_b.body a.expectations b.expectations is_a.opens is_b.opens is_a.parts is_b.parts in
     let lines = one_lines mode a.names 0 is_a.body.lines a.lines b.lines is_a.behind_go is_b.behind_go is_a.lines
-    (same_body mode bytes a.names b.names a.max b.max is_a.body is_b.body b.lines is_b.behind_go is_a.opens is_b.opens is_b.lines) in
+    (same_body mode bytes a.names b.names a.max b.max is_a.opened is_b.opened is_a.body is_b.body a.expectations b.expectations b.lines is_b.behind_go
+    is_a.opens is_b.opens is_a.parts is_b.parts is_b.lines) in
     let orders = one_orders is_a.behind_go a.orders b.orders is_a.orders (subst (λ (left : List (ℕ × List ℕ)). AreOrders left b.orders) (sym lines.1) is_b.orders) in
     let counts = is_a.numbers ∙ ap (λ (all : List Line). first_numbers (length all) is_a.body.lines) lines.0
-    ∙ ap (λ (left : Left). first_numbers (length b.lines) left.lines) opening.2 ∙ sym is_b.numbers in
-    same_parts a.names b.names a.max b.max a.lines b.lines a.numbers b.numbers a.orders b.orders opening.0 opening.1 lines.0 counts orders
+    ∙ ap (λ (left : List (ℕ × List ℕ)). first_numbers (length b.lines) left) body.1 ∙ sym is_b.numbers in
+    same_parts a.names b.names a.max b.max a.lines b.lines a.numbers b.numbers a.expectations b.expectations a.orders b.orders opening.0 opening.1 lines.0 counts body.0 orders
 
 -- an opened script has no fault in its opening
 opens_or_catalogue : (mode : Mode) (bytes : List ℕ) (names : List (List ℕ)) (max : ℕ) (body : Left) (fault : ScriptFault)
@@ -249,12 +302,14 @@ opens_or_max mode bytes names others max body rest fault is takes needed wrong =
 pub script_or_fault : (mode : Mode) (bytes : List ℕ) (a : ScriptParts) (fault : ScriptFault) → IsScript mode bytes a → ¬ IsScriptFault mode bytes fault
 script_or_fault mode bytes a fault is (Long long) = let short : length bytes ≤ 65536 = is.opens.is_text.short in omega arith
 script_or_fault mode bytes a fault is (NoText short not) = not is.opens.is_text.text
-script_or_fault mode bytes a fault is (InCatalogue f text wrong) = opens_or_catalogue mode bytes a.names a.max is.body f is.opens wrong
-script_or_fault mode bytes a fault is (InMax names rest f text takes needed wrong) = opens_or_max mode bytes a.names names a.max is.body rest f is.opens takes needed wrong
-script_or_fault mode bytes a fault is (InLines names max body f opens wrong) =
-    lines_or_fault mode a.names 0 is.body.lines a.lines is.behind_go f is.lines (same_fault mode bytes a.names names a.max max is.body body f is.opens opens wrong)
-script_or_fault mode bytes a fault is (InOrders names max body lines rest f opens takes wrong) =
-    let same = one_lines mode a.names 0 is.body.lines a.lines lines is.behind_go rest is.lines (same_body mode bytes a.names names a.max max is.body body lines rest is.opens opens takes) in
+script_or_fault mode bytes a fault is (InCatalogue f text wrong) = opens_or_catalogue mode bytes a.names a.max is.opened f is.opens wrong
+script_or_fault mode bytes a fault is (InMax names rest f text takes needed wrong) = opens_or_max mode bytes a.names names a.max is.opened rest f is.opens takes needed wrong
+script_or_fault mode bytes a fault is (InLines names max opened f opens wrong) =
+    lines_or_fault mode a.names 0 0 is.opened.lines is.body.lines a.expectations a.lines is.behind_go f is.parts.lines is.lines
+    (same_fault mode bytes a.names names a.max max is.opened opened f is.opens opens wrong)
+script_or_fault mode bytes a fault is (InOrders names max opened body expectations lines rest f opens parts takes wrong) =
+    let same = one_lines mode a.names 0 is.body.lines a.lines lines is.behind_go rest is.lines
+    (same_body mode bytes a.names names a.max max is.opened opened is.body body a.expectations expectations lines rest is.opens opens is.parts parts takes) in
     orders_or_fault rest a.orders f (subst (λ (left : List (ℕ × List ℕ)). AreOrders left a.orders) same.1 is.orders) wrong
 
 -- a text is short, and is text
@@ -267,42 +322,43 @@ one_fault mode bytes f g (Long long) (NoText short not) = absurd (omega arith)
 one_fault mode bytes f g (Long long) (InCatalogue k text wrong) = absurd (long_or_text bytes long text)
 one_fault mode bytes f g (Long long) (InMax names rest k text takes needed wrong) = absurd (long_or_text bytes long text)
 one_fault mode bytes f g (Long long) (InLines names max body k opens wrong) = absurd (long_or_text bytes long opens.is_text)
-one_fault mode bytes f g (Long long) (InOrders names max body lines rest k opens takes wrong) = absurd (long_or_text bytes long opens.is_text)
+one_fault mode bytes f g (Long long) (InOrders names max opened body expectations lines rest k opens parts takes wrong) = absurd (long_or_text bytes long opens.is_text)
 one_fault mode bytes f g (NoText short not) (Long long) = absurd (omega arith)
 one_fault mode bytes f g (NoText short not) (NoText other none) = refl
 one_fault mode bytes f g (NoText short not) (InCatalogue k text wrong) = absurd (not text.text)
 one_fault mode bytes f g (NoText short not) (InMax names rest k text takes needed wrong) = absurd (not text.text)
 one_fault mode bytes f g (NoText short not) (InLines names max body k opens wrong) = absurd (not opens.is_text.text)
-one_fault mode bytes f g (NoText short not) (InOrders names max body lines rest k opens takes wrong) = absurd (not opens.is_text.text)
+one_fault mode bytes f g (NoText short not) (InOrders names max opened body expectations lines rest k opens parts takes wrong) = absurd (not opens.is_text.text)
 one_fault mode bytes f g (InCatalogue h text wrong) (Long long) = absurd (long_or_text bytes long text)
 one_fault mode bytes f g (InCatalogue h text wrong) (NoText short not) = absurd (not text.text)
 one_fault mode bytes f g (InCatalogue h text wrong) (InCatalogue k other bad) = one_catalogue_fault (left_from mode 1 bytes) (left_from mode 1 bytes) h k refl wrong bad
 one_fault mode bytes f g (InCatalogue h text wrong) (InMax names rest k other takes needed bad) = absurd (catalogue_or_fault (left_from mode 1 bytes) (left_from mode 1 bytes) rest names h refl takes wrong)
 one_fault mode bytes f g (InCatalogue h text wrong) (InLines names max body k opens bad) = absurd (opens_or_catalogue mode bytes names max body h opens wrong)
-one_fault mode bytes f g (InCatalogue h text wrong) (InOrders names max body lines rest k opens takes bad) = absurd (opens_or_catalogue mode bytes names max body h opens wrong)
+one_fault mode bytes f g (InCatalogue h text wrong) (InOrders names max opened body expectations lines rest k opens parts takes bad) = absurd (opens_or_catalogue mode bytes names max opened h opens wrong)
 one_fault mode bytes f g (InMax names rest h text takes needed wrong) (Long long) = absurd (long_or_text bytes long text)
 one_fault mode bytes f g (InMax names rest h text takes needed wrong) (NoText short not) = absurd (not text.text)
 one_fault mode bytes f g (InMax names rest h text takes needed wrong) (InCatalogue k other bad) = absurd (catalogue_or_fault (left_from mode 1 bytes) (left_from mode 1 bytes) rest names k refl takes bad)
 one_fault mode bytes f g (InMax names rest h text takes needed wrong) (InMax others more k other takes_o needed_o bad) =
     one_max_fault rest more h k (one_catalogue (left_from mode 1 bytes) names others rest more takes takes_o).1 wrong bad
 one_fault mode bytes f g (InMax names rest h text takes needed wrong) (InLines others max body k opens bad) = absurd (opens_or_max mode bytes others names max body rest h opens takes needed wrong)
-one_fault mode bytes f g (InMax names rest h text takes needed wrong) (InOrders others max body lines behind k opens found bad) =
-    absurd (opens_or_max mode bytes others names max body rest h opens takes needed wrong)
+one_fault mode bytes f g (InMax names rest h text takes needed wrong) (InOrders others max opened body expectations lines behind k opens parts found bad) =
+    absurd (opens_or_max mode bytes others names max opened rest h opens takes needed wrong)
 one_fault mode bytes f g (InLines names max body h opens wrong) (Long long) = absurd (long_or_text bytes long opens.is_text)
 one_fault mode bytes f g (InLines names max body h opens wrong) (NoText short not) = absurd (not opens.is_text.text)
 one_fault mode bytes f g (InLines names max body h opens wrong) (InCatalogue k text bad) = absurd (opens_or_catalogue mode bytes names max body k opens bad)
 one_fault mode bytes f g (InLines names max body h opens wrong) (InMax others rest k text takes needed bad) = absurd (opens_or_max mode bytes names others max body rest k opens takes needed bad)
 one_fault mode bytes f g (InLines names max body h opens wrong) (InLines others most left k opens_o bad) =
     one_lines_fault mode names 0 body.lines h k wrong (same_fault mode bytes names others max most body left k opens opens_o bad)
-one_fault mode bytes f g (InLines names max body h opens wrong) (InOrders others most left lines rest k opens_o takes bad) =
-    absurd (lines_or_fault mode names 0 body.lines lines rest h (same_body mode bytes names others max most body left lines rest opens opens_o takes) wrong)
-one_fault mode bytes f g (InOrders names max body lines rest h opens takes wrong) (Long long) = absurd (long_or_text bytes long opens.is_text)
-one_fault mode bytes f g (InOrders names max body lines rest h opens takes wrong) (NoText short not) = absurd (not opens.is_text.text)
-one_fault mode bytes f g (InOrders names max body lines rest h opens takes wrong) (InCatalogue k text bad) = absurd (opens_or_catalogue mode bytes names max body k opens bad)
-one_fault mode bytes f g (InOrders names max body lines rest h opens takes wrong) (InMax others behind k text found needed bad) =
-    absurd (opens_or_max mode bytes names others max body behind k opens found needed bad)
-one_fault mode bytes f g (InOrders names max body lines rest h opens takes wrong) (InLines others most left k opens_o bad) =
-    absurd (lines_or_fault mode names 0 body.lines lines rest k takes (same_fault mode bytes names others max most body left k opens opens_o bad))
-one_fault mode bytes f g (InOrders names max body lines rest h opens takes wrong) (InOrders others most left found behind k opens_o takes_o bad) =
-    let same = one_lines mode names 0 body.lines lines found rest behind takes (same_body mode bytes names others max most body left found behind opens opens_o takes_o) in
+one_fault mode bytes f g (InLines names max body h opens wrong) (InOrders others most left body_o expectations lines rest k opens_o parts takes bad) =
+    absurd (lines_or_fault mode others 0 0 left.lines body_o.lines expectations lines rest h parts.lines takes (same_fault mode bytes others names most max left body h opens_o opens wrong))
+one_fault mode bytes f g (InOrders names max opened body expectations lines rest h opens parts takes wrong) (Long long) = absurd (long_or_text bytes long opens.is_text)
+one_fault mode bytes f g (InOrders names max opened body expectations lines rest h opens parts takes wrong) (NoText short not) = absurd (not opens.is_text.text)
+one_fault mode bytes f g (InOrders names max opened body expectations lines rest h opens parts takes wrong) (InCatalogue k text bad) = absurd (opens_or_catalogue mode bytes names max opened k opens bad)
+one_fault mode bytes f g (InOrders names max opened body expectations lines rest h opens parts takes wrong) (InMax others behind k text found needed bad) =
+    absurd (opens_or_max mode bytes names others max opened behind k opens found needed bad)
+one_fault mode bytes f g (InOrders names max opened body expectations lines rest h opens parts takes wrong) (InLines others most left k opens_o bad) =
+    absurd (lines_or_fault mode names 0 0 opened.lines body.lines expectations lines rest k parts.lines takes (same_fault mode bytes names others max most opened left k opens opens_o bad))
+one_fault mode bytes f g (InOrders names max opened body expectations lines rest h opens parts takes wrong) (InOrders others most left body_o expected found behind k opens_o parts_o takes_o bad) =
+    let same = one_lines mode names 0 body.lines lines found rest behind takes
+    (same_body mode bytes names others max most opened left body body_o expectations expected found behind opens opens_o parts parts_o takes_o) in
     one_orders_fault rest h k wrong (subst (λ (left : List (ℕ × List ℕ)). IsOrdersFault left k) (sym same.1) bad)

@@ -27,6 +27,15 @@ three_words (word ∷ second ∷ []) default last least most is = absurd (omega 
 three_words (word ∷ second ∷ third ∷ []) default last least most is = ap (λ (text : List ℕ). word.now ∷ second.now ∷ text ∷ []) is
 three_words (word ∷ second ∷ third ∷ fourth ∷ words) default last least most is = absurd (omega arith)
 
+-- a word and two more
+pub first_of_three : (words : List (Bor (List ℕ))) (default : Bor (List ℕ)) (first : List ℕ) → 3 ≤ length words → length words < 4 → (get_or words 0 default).now ≡ first
+    → texts words ≡ first ∷ (get_or words 1 default).now ∷ (get_or words 2 default).now ∷ []
+first_of_three [] default first least most is = absurd (omega arith)
+first_of_three (word ∷ []) default first least most is = absurd (omega arith)
+first_of_three (word ∷ second ∷ []) default first least most is = absurd (omega arith)
+first_of_three (word ∷ second ∷ third ∷ []) default first least most is = ap (λ (text : List ℕ). text ∷ second.now ∷ third.now ∷ []) is
+first_of_three (word ∷ second ∷ third ∷ fourth ∷ words) default first least most is = absurd (omega arith)
+
 -- all of them
 pub all_of : (words : List (Bor (List ℕ))) (n : ℕ) → n ≡ length words → texts words ≡ texts (take n words)
 all_of words n is = rw (is, take-length words) refl

@@ -3,7 +3,6 @@ use Rattle.std.specs.Prelude.{ℕ, ◌≡◌, ◌≢◌, ◌↔◌, ◌==◌, if
 use Rattle.desk_core.specs.declared.catalogue.CatalogueFault.{CatalogueFault}
 use Rattle.desk_core.specs.Fault.{fault_in, text_of}
 use Rattle.script.specs.declared.complaint.Complaint.{Complaint}
-use Rattle.script.specs.declared.line.Line.{Line}
 use Rattle.script.specs.declared.script.Mode.TheVariants.{Run}
 use Rattle.script.specs.declared.script_fault.ScriptFault.{ScriptFault}
 use Rattle.script.specs.declared.script_fault.ScriptFault.TheVariants.{TooLong, NotText, BadLine, Catalogue, NoMemory}
@@ -11,7 +10,7 @@ use Rattle.script.specs.CatalogueComplaint.{text_in}
 use Rattle.script.specs.Complaint.{complaint_text, IsSoOf}
 use Rattle.script.specs.Opening.{IsCatalogueLine}
 use Rattle.script.specs.Quoted.{quoted}
-use Rattle.script.specs.Script.{IsNextLine, IsText}
+use Rattle.script.specs.Script.{MayRun, IsText}
 use Rattle.script.specs.TextLines.{Left, left_from, with_line, AreWords}
 
 -- the line with this number, if a byte of it is read
@@ -30,7 +29,7 @@ line_told number line found = (codes "script line " ++ decimal number ++ codes "
 
 -- what is wrong with a line behind the one that lists these names: nothing where it may stand there, and else what is so
 pub record IsFound (names : List (List ℕ)) (line : List ℕ) (found : Option Complaint) : Type 0 where
-  pub none : IsNone found ↔ (read : Line) × IsNextLine Run names 0 line read
+  pub none : IsNone found ↔ MayRun names line
   pub so : IfSome found (IsSoOf names line)
 
 -- what is wrong with a line of a script, by its number: with the first, that it lists no names; with another, what is found by the names

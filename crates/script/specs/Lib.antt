@@ -1,6 +1,8 @@
 pub mod CatalogueComplaint
 pub mod Change
 pub mod Complaint
+pub mod Expectation
+pub mod Expected
 pub mod Explanation
 pub mod Line
 pub mod Opening

@@ -1,14 +1,12 @@
-ghost use Rattle.std.specs.Prelude.{◌↔◌, ◌∷◌, ℕ, List, IsNone, IfOk, IfSome};
-ghost use Rattle.script.specs.declared.line.Line.{Line};
-ghost use Rattle.script.specs.declared.script.Mode.TheVariants.{Run};
+ghost use Rattle.std.specs.Prelude.{◌↔◌, ◌∷◌, ℕ, List, IsNone, IsTrue, IfOk, IfSome};
 ghost use Rattle.script.specs.Complaint.{IsSo, IsSoOf};
-ghost use Rattle.script.specs.Script.{IsNextLine};
+ghost use Rattle.script.specs.Script.{MayRun};
 ghost use Rattle.script.specs.TextLines.{texts};
 
 use crate::name::name_of;
 use crate::number::number_of;
 use crate::quoted::Quoted;
-use crate::reading::next_line;
+use crate::reading::{next_expectation, next_line};
 use crate::script::Mode;
 use crate::words::words_of;
 use desk_core::Catalogue;
@@ -37,6 +35,7 @@ pub(crate) enum Complaint<'a> {
     NeedsMax,
     /// It stands behind other lines.
     MaxTooLate,
+    NeedsSeconds,
 }
 
 impl fmt::Display for Complaint<'_> {
@@ -50,7 +49,8 @@ impl fmt::Display for Complaint<'_> {
             Complaint::NeedsCatalogue => f.write_str("expected catalogue and the names"),
             Complaint::EmptyWord => f.write_str("an empty word, expected one space between words"),
             Complaint::UnknownLine => f.write_str(
-                "no such line, expected register, retire, pass, fail, up, down, shutdown or resume",
+                "no such line, expected register, retire, pass, fail, up, down, shutdown, \
+                    resume or expect",
             ),
             Complaint::OfOtherScripts => f.write_str("not in a script to run"),
             Complaint::NeedsRule => {
@@ -75,6 +75,9 @@ impl fmt::Display for Complaint<'_> {
             Complaint::StandsAlone(word) => write!(f, "expected {word} alone"),
             Complaint::NeedsMax => f.write_str("expected max N"),
             Complaint::MaxTooLate => f.write_str("expected max right after the catalogue"),
+            Complaint::NeedsSeconds => {
+                f.write_str("expected expect NAME SECONDS, 86400 seconds at most")
+            }
         }
     }
 }
@@ -85,17 +88,27 @@ pub(crate) fn complaint_of<'a>(
     catalogue: &Catalogue,
     text: &'a str,
 ) -> Result<Option<Complaint<'a>>, AllocError>
-    ensures none { IfOk result (λ found.
-        IsNone found ↔ (line : Line) × IsNextLine Run catalogue.now 0 text.now line) }
+    ensures none { IfOk result (λ found. IsNone found ↔ MayRun catalogue.now text.now) }
     ensures so { IfOk result (λ found. IfSome found (IsSoOf catalogue.now text.now)) }
 {
-    if next_line(alloc, Mode::Run, catalogue, 0, text)?.is_some() {
+    if may_run(alloc, catalogue, text)? {
         return Ok(None);
     }
     match words_of(alloc, text)? {
         Some(words) => Ok(Some(line_complaint(catalogue, &words))),
         None => Ok(Some(Complaint::EmptyWord)),
     }
+}
+
+/// Whether the text may stand behind the opening of a script to run.
+fn may_run(alloc: Global, catalogue: &Catalogue, text: &str) -> Result<bool, AllocError>
+    ensures { IfOk result (λ may. IsTrue may ↔ MayRun catalogue.now text.now) }
+{
+    if next_expectation(alloc, Mode::Run, text)?.is_some() {
+        return Ok(true);
+    }
+    let line = next_line(alloc, Mode::Run, catalogue, 0, text)?;
+    Ok(line.is_some())
 }
 
 /// What is wrong with the words of a bad line.
@@ -129,6 +142,7 @@ fn word_complaint<'a>(word: &'a str) -> Complaint<'a>
     match word {
         "retire" | "pass" | "fail" | "up" | "down" => Complaint::NeedsName(word),
         "shutdown" | "resume" => Complaint::StandsAlone(word),
+        "expect" => Complaint::NeedsSeconds,
         "check" | "open" | "step" | "board" | "go" => Complaint::OfOtherScripts,
         _ => Complaint::UnknownLine,
     }

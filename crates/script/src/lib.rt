@@ -32,6 +32,8 @@
 
 mod catalogue_complaint;
 mod complaint;
+mod expectation;
+mod expected;
 mod explanation;
 mod laws;
 mod line;
@@ -53,8 +55,10 @@ mod text_lines;
 mod texts;
 mod words;
 
+pub use expectation::{Expectation, ScriptExpectation, read_expectation};
+pub use expected::{Expected, RefusedExpectation, expected_of};
 pub use explanation::explain;
-pub use laws::{changes_in_place, one_script};
+pub use laws::{changes_in_place, one_expectation, one_script};
 pub use line::{Line, read_line};
 pub use probes::{probe_for, probes_for};
 pub use reading::read_script;

@@ -1,8 +1,9 @@
 ghost use Rattle.std.specs.Prelude.{◌≡◌, ◌≢◌, ◌+◌, ◌^◌, ◌<◌, ◌↔◌, length, IsTrue, IfOk, IfErr};
-ghost use Rattle.script.specs.TextLines.{first_numbers};
+ghost use Rattle.script.specs.TextLines.{Left, first_numbers};
 ghost use Rattle.script.specs.Reading.{IsReading};
-ghost use Rattle.script.specs.Script.{IsGo, IsNextLine, TakesLines, IsLinesFault, AreOrders, IsOrdersFault, IsText, IsScript, IsScriptFault};
+ghost use Rattle.script.specs.Script.{IsGo, IsNextLine, IsNextExpectation, Parts, TakesLines, IsLinesFault, AreOrders, IsOrdersFault, IsText, IsScript, IsScriptFault};
 
+use crate::expectation::{Expectation, ScriptExpectation, read_expectation};
 use crate::line::{Line, read_line};
 use crate::opening::{read_catalogue, read_max};
 use crate::order::read_order;
@@ -32,32 +33,61 @@ pub fn read_script(alloc: Global, bytes: &[u8], mode: Mode) -> Result<Script, Sc
     let mut lines = Lines::new(mode, text);
     let catalogue = read_catalogue(alloc, &mut lines)?;
     let max = read_max(alloc, mode, &mut lines)?;
-    let (steps, numbers) = read_lines(alloc, mode, &catalogue, &mut lines)?;
+    let body = read_lines(alloc, mode, &catalogue, &mut lines)?;
     let orders = read_orders(alloc, &mut lines)?;
-    Ok(Script::new(catalogue, max, steps, numbers, orders))
+    Ok(Script::new(
+        catalogue,
+        max,
+        body.taken,
+        body.numbers,
+        body.expectations,
+        orders,
+    ))
 }
 
-/// Takes the lines up to `go`, and `go` itself, or to the end, and gives the number of each that it gives.
+/// What stands between the opening of a script and the line `go`.
+#[derive(Drop)]
+struct Body {
+    taken: Vec<Line>,
+    numbers: Vec<u32>,
+    expectations: Vec<ScriptExpectation>,
+}
+
+/// Takes the lines up to `go`, and `go` itself, or to the end.
 fn read_lines(
     alloc: Global,
     mode: Mode,
     catalogue: &Catalogue,
     lines: &mut Lines<'_>,
-) -> Result<(Vec<Line>, Vec<u32>), ScriptFault>
-    ensures ok { IfOk result (λ taken.
-        TakesLines mode catalogue.now 0 lines.old.lines taken.0.items lines.new.lines) }
-    ensures numbers { IfOk result (λ taken.
-        taken.1.items ≡ first_numbers (length taken.0.items) lines.old.lines) }
-    ensures each { IfOk result (λ taken. length taken.1.items ≡ length taken.0.items) }
+) -> Result<Body, ScriptFault>
+    ensures ok { IfOk result (λ body. (others : Left)
+        × Parts mode lines.old body.expectations.items others
+        × TakesLines mode catalogue.now 0 others.lines body.taken.items lines.new.lines
+        × (body.numbers.items ≡ first_numbers (length body.taken.items) others.lines)) }
+    ensures each { IfOk result (λ body. length body.numbers.items ≡ length body.taken.items) }
     ensures fault { IfErr result (λ fault. fault ≢ ScriptFault.NoMemory
         → IsLinesFault mode catalogue.now 0 lines.old.lines fault) }
 {
     let mut taken = Vec::new(alloc);
     let mut numbers = Vec::new(alloc);
+    let mut expectations = Vec::new(alloc);
     let mut watches = 0;
     while let Ok((number, text)) = lines.next() {
         if is_go(mode, text) {
-            return Ok((taken, numbers));
+            return Ok(Body {
+                taken,
+                numbers,
+                expectations,
+            });
+        }
+        if let Some(expectation) = next_expectation(alloc, mode, text)? {
+            let behind = taken.len();
+            expectations.push(ScriptExpectation {
+                expectation,
+                number,
+                behind,
+            })?;
+            continue;
         }
         let Some(line) = next_line(alloc, mode, catalogue, watches, text)? else {
             return Err(ScriptFault::BadLine(number));
@@ -66,13 +96,32 @@ fn read_lines(
         taken.push(line)?;
         numbers.push(number)?;
     }
-    Ok((taken, numbers))
+    Ok(Body {
+        taken,
+        numbers,
+        expectations,
+    })
 }
 
 fn is_go(mode: Mode, text: &str) -> bool
     ensures { IsTrue result ↔ IsGo mode text.now }
 {
     mode == Mode::Serve && text == "go"
+}
+
+/// The expectation that a text gives, if it may stand in the script.
+pub(crate) fn next_expectation(
+    alloc: Global,
+    mode: Mode,
+    text: &str,
+) -> Result<Option<Expectation>, AllocError>
+    ensures { IfOk result (λ expectation.
+        IsReading (IsNextExpectation mode) text.now expectation) }
+{
+    match mode {
+        Mode::Run => read_expectation(alloc, text),
+        Mode::Replay | Mode::Serve => Ok(None),
+    }
 }
 
 /// The line that a text gives, if it may stand behind lines that opened so many watches.

@@ -1,3 +1,4 @@
+use crate::expectation::ScriptExpectation;
 use crate::line::Line;
 use desk_core::{Catalogue, Order};
 use std::marker::Model;
@@ -18,6 +19,7 @@ pub struct Script {
     max: u32,
     lines: Vec<Line>,
     numbers: Vec<u32>,
+    expectations: Vec<ScriptExpectation>,
     orders: Vec<Order>,
 }
 
@@ -32,6 +34,7 @@ impl Model for Script {
       max = script.max;
       lines = script.lines.items;
       numbers = script.numbers.items;
+      expectations = script.expectations.items;
       orders = script.orders.items;
     } };
 
@@ -49,6 +52,7 @@ impl Script {
         max: u32,
         lines: Vec<Line>,
         numbers: Vec<u32>,
+        expectations: Vec<ScriptExpectation>,
         orders: Vec<Order>,
     ) -> Script
         requires steps { StepsFollow 0 lines.items }
@@ -58,6 +62,7 @@ impl Script {
           max = max;
           lines = lines.items;
           numbers = numbers.items;
+          expectations = expectations.items;
           orders = orders.items;
         } }
     {
@@ -66,6 +71,7 @@ impl Script {
             max,
             lines,
             numbers,
+            expectations,
             orders,
         }
     }
@@ -108,6 +114,13 @@ impl Script {
         ensures each { length self.now.numbers ≡ length self.now.lines }
     {
         self.numbers.as_slice()
+    }
+
+    /// What a script to run expects; its lines have none of it.
+    pub fn expectations(&self) -> &[ScriptExpectation]
+        ensures { result.now ≡ self.now.expectations }
+    {
+        self.expectations.as_slice()
     }
 
     /// The changes behind the line `go`.

@@ -5,7 +5,7 @@ use std::test::Fail;
 use test_support::{Scarcity, same};
 
 /// Scripts to run that are none, and what is said of them.
-const EXPLAINED: [(&str, &str); 62] = [
+const EXPLAINED: [(&str, &str); 66] = [
     ("", "no catalogue line"),
     ("# only a comment\n\n\r\n", "no catalogue line"),
     (
@@ -130,15 +130,31 @@ const EXPLAINED: [(&str, &str); 62] = [
     ),
     (
         "catalogue db -\nstart db",
-        "script line 2: \"start db\": no such line, expected register, retire, pass, fail, up, down, shutdown or resume",
+        "script line 2: \"start db\": no such line, expected register, retire, pass, fail, up, down, shutdown, resume or expect",
     ),
     (
         "catalogue db -\nRegister db manual",
-        "script line 2: \"Register db manual\": no such line, expected register, retire, pass, fail, up, down, shutdown or resume",
+        "script line 2: \"Register db manual\": no such line, expected register, retire, pass, fail, up, down, shutdown, resume or expect",
     ),
     (
         "catalogue db -\nup db\n\ncatalogue db -",
-        "script line 4: \"catalogue db -\": no such line, expected register, retire, pass, fail, up, down, shutdown or resume",
+        "script line 4: \"catalogue db -\": no such line, expected register, retire, pass, fail, up, down, shutdown, resume or expect",
+    ),
+    (
+        "catalogue db -\nexpect db",
+        "script line 2: \"expect db\": expected expect NAME SECONDS, 86400 seconds at most",
+    ),
+    (
+        "catalogue db -\nexpect db 86401",
+        "script line 2: \"expect db 86401\": expected expect NAME SECONDS, 86400 seconds at most",
+    ),
+    (
+        "catalogue db -\nexpect db 5\nexpect db 5 6",
+        "script line 3: \"expect db 5 6\": expected expect NAME SECONDS, 86400 seconds at most",
+    ),
+    (
+        "catalogue db -\nexpect  db 5",
+        "script line 2: \"expect  db 5\": an empty word, expected one space between words",
     ),
     (
         "catalogue db -\ncheck db",
@@ -194,15 +210,15 @@ const EXPLAINED: [(&str, &str); 62] = [
     ),
     (
         "catalogue db -\nfail\tdb",
-        "script line 2: \"fail\\u{9}db\": no such line, expected register, retire, pass, fail, up, down, shutdown or resume",
+        "script line 2: \"fail\\u{9}db\": no such line, expected register, retire, pass, fail, up, down, shutdown, resume or expect",
     ),
     (
         "catalogue db -\nshutdown\r\r\n",
-        "script line 2: \"shutdown\\u{d}\": no such line, expected register, retire, pass, fail, up, down, shutdown or resume",
+        "script line 2: \"shutdown\\u{d}\": no such line, expected register, retire, pass, fail, up, down, shutdown, resume or expect",
     ),
     (
         "catalogue db -\n\u{1b}[31mup\u{7f}\u{0}\u{9b}",
-        "script line 2: \"\\u{1b}[31mup\\u{7f}\\u{0}\\u{9b}\": no such line, expected register, retire, pass, fail, up, down, shutdown or resume",
+        "script line 2: \"\\u{1b}[31mup\\u{7f}\\u{0}\\u{9b}\": no such line, expected register, retire, pass, fail, up, down, shutdown, resume or expect",
     ),
     (
         "catalogue db -\nregister db depends d\tb",
@@ -214,7 +230,7 @@ const EXPLAINED: [(&str, &str); 62] = [
     ),
     (
         "catalogue db -\nprüfe db",
-        "script line 2: \"prüfe db\": no such line, expected register, retire, pass, fail, up, down, shutdown or resume",
+        "script line 2: \"prüfe db\": no such line, expected register, retire, pass, fail, up, down, shutdown, resume or expect",
     ),
     (
         "catalogue db -\nregister db depends ü 名",
@@ -247,7 +263,7 @@ const EXPLAINED: [(&str, &str); 62] = [
         "script line 2: \"üüüüüüüüüüüüüüüüüüüüüüüüüüüüüüüüüüüüüüüüüüüüüüüüüüüüüüüüüüüüüüüü\
             üüüüüüüüüüüüüüüüüüüüüüüüüüüüüüüüüüüüüüüüüüüüüüüüüüüüüüüüüüüüüüüü\
             üüüüüüüüüüüüüüüüüüüüüüüüüüüüüüüüüüüüüüüüüüüüüüüüüüüüüüüüüüüüüüüü\
-            üüüüüüüü..\": no such line, expected register, retire, pass, fail, up, down, shutdown or resume",
+            üüüüüüüü..\": no such line, expected register, retire, pass, fail, up, down, shutdown, resume or expect",
     ),
     (
         "catalogue -\nregister - depends 0123456789abcdef0123456789abcdef0123456789abc\
@@ -292,12 +308,17 @@ fn tells_a_bad_line_with_its_text_and_what_was_expected(rt: HostRuntime) -> Resu
 }
 
 /// Faults that are none of the text's own, and what is said then.
-const ELSEWHERE: [(&[u8], ScriptFault, &str); 9] = [
+const ELSEWHERE: [(&[u8], ScriptFault, &str); 10] = [
     // A line that reads well has no complaint.
     (
         b"catalogue db -\nup db",
         ScriptFault::BadLine(2),
         "script line 2: \"up db\"",
+    ),
+    (
+        b"catalogue db -\nexpect db 5",
+        ScriptFault::BadLine(2),
+        "script line 2: \"expect db 5\"",
     ),
     (
         b"catalogue db -\nup db",

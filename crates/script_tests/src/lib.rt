@@ -2,6 +2,10 @@
 #![tactic(auto)]
 
 #[cfg(test)]
+mod expectation;
+#[cfg(test)]
+mod expected;
+#[cfg(test)]
 mod explanation;
 #[cfg(test)]
 mod reading;

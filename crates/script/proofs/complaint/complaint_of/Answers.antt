@@ -1,4 +1,5 @@
 use Rattle.script.specs.Complaint.IsSoOf.{WithoutWords, WithWords}
+use Rattle.script.proofs.ComplaintLemmas.{no_complaint, some_complaint}
 use Rattle.script.proofs.complaint.complaint_of.Goals as goal
 
 pub returns-in-Some-clause-so : goal.returns-in-Some-clause-so
@@ -6,3 +7,9 @@ returns-in-Some-clause-so c = WithWords _ _ (rw c.in-Some.is at c.in_ok-words.en
 
 pub returns-in-None-clause-so : goal.returns-in-None-clause-so
 returns-in-None-clause-so c = WithoutWords (rw c.in-None.is at c.in_ok-words.ensures)
+
+pub returns-then-branch-clause-none : goal.returns-then-branch-clause-none
+returns-then-branch-clause-none c = no_complaint _ c.in_ok-may_run.ensures c.if-branch.true
+
+pub returns-in-Some-clause-none : goal.returns-in-Some-clause-none
+returns-in-Some-clause-none c = some_complaint _ c.in_ok-may_run.ensures c.if-branch.false

@@ -1,24 +1,23 @@
-use Rattle.script.proofs.ScriptLemmas.{next, next_number, numbers_taken, ends, goes, stuck, fails}
+use Rattle.std.proofs.Common.{◌∙◌}
+use Rattle.script.proofs.ScriptLemmas.{next, next_expectation, ends, goes, stuck, fails}
 use Rattle.script.proofs.reading.read_lines.Goals as goal
 
+pub loop-number-preserved-in-Some : goal.loop-number-preserved-in-Some
+loop-number-preserved-in-Some c =
+    next_expectation _ _ _ _ _ _ _ _ _ _ _ _ _ _ c.loop-number.invariant c.in-Ok.ensures.line (rw c.in-Some.is at c.in_ok-expectation.ensures) (c.len-behind.ensures ∙ c.loop-number.taken.ok.0) c.in_ok-push.ensures.items
+
 pub loop-number-preserved : goal.loop-number-preserved
-loop-number-preserved c = (
-  next _ _ _ _ _ _ _ _ _ _ _ _ c.loop-number.invariant.0 c.in-Ok.ensures.line (rw c.in-Some.is at c.in_ok-line.ensures) c.watches_after-watches.ensures c.in_ok-push.ensures.items,
-  next_number _ _ _ _ _ _ _ _ _ _ c.loop-number.invariant.1 c.in-Ok.ensures.line c.in_ok-push.ensures.items c.in_ok-push-2.ensures.items,
-)
+loop-number-preserved c =
+    next _ _ _ _ _ _ _ _ _ _ _ _ _ _ _ c.loop-number.invariant c.in-Ok.ensures.line (rw c.in_default-2.is at c.in_ok-expectation.ensures) (rw c.in-Some-2.is at c.in_ok-line.ensures)
+    c.watches_after-watches.ensures c.in_ok-push-2.ensures.items c.in_ok-push-3.ensures.items
 
 pub returns-then-is_go-clause-ok : goal.returns-then-is_go-clause-ok
-returns-then-is_go-clause-ok c = goes _ _ _ _ _ _ _ _ _ c.loop-number.invariant.0 c.in-Ok.ensures.line (c.is_go.ensures.0 c.if-is_go.true)
+returns-then-is_go-clause-ok c = goes _ _ _ _ _ _ _ _ _ _ _ c.loop-number.invariant c.in-Ok.ensures.line (c.is_go.ensures.0 c.if-is_go.true)
 
-pub returns-then-is_go-clause-numbers : goal.returns-then-is_go-clause-numbers
-returns-then-is_go-clause-numbers c = numbers_taken _ _ _ _ c.loop-number.invariant.1
-
-pub returns-in_default-2-clause-fault : goal.returns-in_default-2-clause-fault
-returns-in_default-2-clause-fault c = λ other.
-    stuck _ _ _ _ _ _ _ _ _ c.loop-number.invariant.0 c.in-Ok.ensures.line (fails _ c.is_go.ensures c.if-is_go.false) (rw c.in_default-2.is at c.in_ok-line.ensures)
+pub returns-in_default-3-clause-fault : goal.returns-in_default-3-clause-fault
+returns-in_default-3-clause-fault c = λ other.
+    stuck _ _ _ _ _ _ _ _ _ _ _ c.loop-number.invariant c.in-Ok.ensures.line (fails _ c.is_go.ensures c.if-is_go.false) (rw c.in_default-2.is at c.in_ok-expectation.ensures)
+    (rw c.in_default-3.is at c.in_ok-line.ensures)
 
 pub returns-clause-ok : goal.returns-clause-ok
-returns-clause-ok c = ends _ _ _ _ _ _ _ c.loop-number.invariant.0 c.in_default.ensures.none.0 c.in_default.ensures.none.1
-
-pub returns-clause-numbers : goal.returns-clause-numbers
-returns-clause-numbers c = numbers_taken _ _ _ _ c.loop-number.invariant.1
+returns-clause-ok c = ends _ _ _ _ _ _ _ _ _ c.loop-number.invariant c.in_default.ensures.none.0 c.in_default.ensures.none.1
