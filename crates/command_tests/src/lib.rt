@@ -18,6 +18,8 @@ mod deadline;
 #[cfg(test)]
 mod expect;
 #[cfg(test)]
+mod expected;
+#[cfg(test)]
 mod fault;
 #[cfg(test)]
 mod files;

@@ -1,5 +1,6 @@
 pub mod AloneLemmas
 pub mod AnswerLemmas
+pub mod ExpectedLemmas
 pub mod RunLemmas
 pub mod ScriptFailureLemmas
 pub mod ServiceLemmas

@@ -4,6 +4,7 @@ pub mod Bounds
 pub mod Expect
 pub mod Fault
 pub mod Replay
+pub mod Expected
 pub mod Run
 pub mod RunFailure
 pub mod RunOptions

@@ -7,7 +7,7 @@ ghost use Rattle.open_files.specs.Bound.{most_of};
 use crate::bounds::Bounds;
 use open_files::{OpenFiles, connections_within};
 
-/// The standard streams, the script, the socket that calls come to, and some to spare.
+/// The standard streams, the script, the socket that calls come to, the watchdog's poll and what wakes it, and some to spare.
 const OTHERS: u32 = 16;
 
 /// A loop has a poll, what wakes it, and its own handle on the socket.

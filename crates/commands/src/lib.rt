@@ -31,6 +31,7 @@ pub mod cause;
 pub mod command;
 pub mod deadline;
 pub mod expect;
+pub mod expected;
 pub mod fault;
 pub mod files;
 pub mod input;

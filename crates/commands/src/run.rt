@@ -1,5 +1,5 @@
 ghost use Rattle.std.specs.Net.Text.{socket_text};
-ghost use Rattle.std.specs.Prelude.{◌≡◌, ◌↔◌, ◌≤◌, ◌<◌, ◌++◌, List, Option, IfOk, IfErr, IfSome, IsSome, codes, decimal, drop, length, string_bytes, vec_len};
+ghost use Rattle.std.specs.Prelude.{◌≡◌, ◌↔◌, ◌≤◌, ◌<◌, ◌++◌, [], List, Option, None, Some, IfOk, IfErr, IfSome, IsSome, codes, decimal, drop, length, string_bytes, vec_len};
 ghost use Rattle.desk_core.specs.declared.call.Call.{Call};
 ghost use Rattle.desk_core.specs.Past.{past};
 ghost use Rattle.hall.specs.Seats.{new_seats};
@@ -15,6 +15,7 @@ ghost use Rattle.commands.specs.declared.run_failure.RunFailure.TheVariants.{Out
 ghost use Rattle.commands.specs.Run.{AreLoopsOf, AreMadeAlone, EndsSetUp, IsSetUpBy, IsWhollySetUp, limits_in};
 
 use crate::bounds::{Bounds, MAX_LOOPS};
+use crate::expected::{expected_in, first_failure, waking, watch_over};
 use crate::files::{bounds_within, reserved};
 use crate::input::read_script_bytes;
 use crate::run_failure::{RunFailure, failure_by, script_failure};
@@ -28,7 +29,7 @@ use live_run::{Ran, RefusedLine, RunFault, SessionPlaces, first_refused, run_liv
 use live_server::{Acceptor, EventServer, Limits, News, Places, Tally};
 use open_files::open_files;
 use probe_core::{Maker, Probe};
-use script::{Mode, read_script};
+use script::{Expected, Mode, read_script};
 use server::{SetUpHall, hall_of};
 use std::alloc::{AllocError, Global};
 use std::net::{Net, SocketAddr, TcpListener, TcpStream};
@@ -37,6 +38,7 @@ use std::sync::{Arc, Wait};
 use std::thread::Threads;
 use std::time::Clock;
 use std::{fs, io, thread};
+use watchdog::Expectations;
 
 /// The command `run`, with the probes that `maker` gives. It ends where a session asks for it, or a signal ends the process.
 pub fn run<'a, R, P: Probe + Send, M: Maker<P> + Sync>(
@@ -63,12 +65,16 @@ where
     let bounds = bounded(rt, alloc, options, threads)?;
     let options = RunOptions { bounds, ..options };
     let loops = bounds.loops(threads);
-    let made = set_up(rt, alloc, maker, &bytes, loops + 1 + 2 * SESSION_SEATS)?;
+    let made = set_up(rt, alloc, maker, &bytes, loops + 1 + 2 * SESSION_SEATS);
+    let (made, expected) = match expected_in(alloc, &bytes)? {
+        Ok(expected) => (made?, expected),
+        Err(line) => return Err(first_failure(made.err(), line)),
+    };
     let Begun {
         servers,
         news,
         places,
-    } = begin(rt, alloc, &made, options, loops, supervisor)?;
+    } = begin(rt, alloc, &made, options, loops, &expected, supervisor)?;
     let ran = serve_to_end(rt, alloc, made, servers, places, maker, &news)?;
     remove_sockets(rt, &ran);
     print_line(rt, &journal_line(alloc, &ran)?)
@@ -114,6 +120,7 @@ pub fn begin<'a, R, P: Probe>(
     made: &SetUpHall<P, KeepMany>,
     options: RunOptions<'a>,
     loops: u16,
+    expected: &[Expected],
     supervisor: Supervisor,
 ) -> Result<Begun, RunFailure<'a>>
 where
@@ -129,6 +136,9 @@ where
     ensures reported { IfOk result (λ begun. IsSome begun.places.report ↔ IsSome
         options.entry.report) }
     ensures terms { IfOk result (λ begun. HaveTerms made.now.hall.most begun.places) }
+    // where nothing can be expected, no watchdog makes changes
+    ensures unwatched { options.entry.control ≡ None → expected.now ≡ [] → IfOk result (λ begun.
+        begun.places.watchdog ≡ None) }
 {
     let Supervisor {
         mut sockets,
@@ -139,17 +149,16 @@ where
     let report = sessions_at(rt, alloc, made, options.report, Access::Group)?;
     // Each loop has the socket too, and closes it at the end, so that clients which come late are refused.
     let (servers, news) = event_loops(rt, alloc, &listener, options.bounds.limits(), loops)?;
+    let watching = watch_over(rt, alloc, made, expected)?;
+    let news = waking(news, &watching)?;
     let control_line = place_line(alloc, "control", &control)?;
     let report_line = place_line(alloc, "report", &report)?;
     let most = made.most();
-    let control = session_loop(rt, alloc, control, &servers, terms_with(Rights::All, most))?;
-    let report = session_loop(
-        rt,
-        alloc,
-        report,
-        &servers,
-        terms_with(Rights::Reports, most),
-    )?;
+    let told = &watching.expectations;
+    let all = terms_with(Rights::All, most);
+    let control = session_loop(rt, alloc, control, &servers, all, told)?;
+    let reports = terms_with(Rights::Reports, most);
+    let report = session_loop(rt, alloc, report, &servers, reports, told)?;
     tell_listener(rt, alloc, &listener, options.listen)?;
     tell_place(rt, control_line)?;
     tell_place(rt, report_line)?;
@@ -158,6 +167,7 @@ where
         servers,
         news,
         places: SessionPlaces {
+            watchdog: watching.needed(options.control.is_some() || !expected.is_empty()),
             control: notifying(control, notifier),
             report,
         },
@@ -433,6 +443,7 @@ pub fn session_loop<'a, R: Clock + Net>(
     listener: Option<ControlListener>,
     servers: &[EventServer],
     terms: Terms,
+    expectations: &Arc<Expectations>,
 ) -> Result<Option<ControlServer>, RunFailure<'a>>
     ensures some { IfOk result (λ server. IsSome server ↔ IsSome listener) }
     ensures terms { IfOk result (λ server. IfSome server (λ server. terms_of server ≡ terms)) }
@@ -441,7 +452,8 @@ pub fn session_loop<'a, R: Clock + Net>(
         return Ok(None);
     };
     let tallies = tallies_of(alloc, servers)?;
-    match ControlServer::new(rt, alloc, listener, tallies, terms) {
+    let expectations = expectations.clone()?;
+    match ControlServer::new(rt, alloc, listener, tallies, terms, expectations) {
         Ok(server) => Ok(Some(server)),
         Err(error) => Err(failure_by(error, RunFailure::EventLoop)),
     }
@@ -473,9 +485,9 @@ where
     requires enough { vec_len servers < made.hall.seats }
     requires terms { HaveTerms made.hall.most places }
     ensures servers { IfOk result (λ ran. HaveServedAll servers.items ran.servers.items) }
-    // nothing but the setup and the lines of sessions makes changes
-    ensures ran { IfOk result (λ ran. HasRun made.hall (vec_len servers) made.seats
-        (past ran.desk.journal)) }
+    // nothing but the setup, the lines of sessions and the watchdog makes changes
+    ensures ran { IfOk result (λ ran. HasRun (Some 65536) places ran.places made.hall
+        (vec_len servers) made.seats (past ran.desk.journal)) }
     ensures alone { AreNone places → IfOk result (λ ran. HasRunLoops made.hall
         (vec_len servers) made.seats (past ran.desk.journal)) }
     ensures entries { AreNone places → IfOk result (λ ran. length ran.desk.journal ≡ length
@@ -491,7 +503,11 @@ where
 
 /// Takes the files of the sockets for sessions away, where they have one. Where one stays, the next server takes it over.
 pub fn remove_sockets<R: Files, P: Probe>(rt: &R, ran: &Ran<P, KeepMany>) {
-    let SessionPlaces { control, report } = &ran.places;
+    let SessionPlaces {
+        control,
+        report,
+        ..
+    } = &ran.places;
     for server in [control, report] {
         if let Some(server) = server {
             let _ = server.remove_file(rt);

@@ -2,14 +2,16 @@
 use Rattle.std.proofs.Common.{ℕ, ◌≡◌, List, [], ◌∷◌, get_or, subst, ap, sym, ◌∙◌, arith, refl}
 use Rattle.std.specs.Prelude.{◌==◌, codes}
 use Rattle.std.specs.List.{slice_split}
+use Rattle.script.specs.declared.expectation.Expectation.{Expectation}
 use Rattle.script.specs.declared.line.Line.{Line}
+use Rattle.script.specs.Expectation.{IsExpectation, IsExpectationText}
 use Rattle.script.specs.Line.{IsLine}
 use Rattle.script.specs.Line.IsLine.{OrderLine}
-use Rattle.script.proofs.OneLine.{one_line_text}
+use Rattle.script.proofs.OneLine.{line_or_expectation, one_expectation_text, one_line_text}
 use Rattle.control.specs.declared.request.Request.{Request}
 use Rattle.control.specs.declared.request.Request.TheVariants as requests
 use Rattle.control.specs.Request.{IsOfferedText, IsRequest, IsWord}
-use Rattle.control.specs.Request.IsRequest.{OfLine, OfWord}
+use Rattle.control.specs.Request.IsRequest.{OfLine, OfExpectation, OfWord}
 use Rattle.control.specs.Request.IsWord.{ForList, ForStats, ForStop}
 
 -- each of three words alone is no line
@@ -32,6 +34,19 @@ word_or_line : (names : List (List ℕ)) (text : List ℕ) (request : Request) (
 word_or_line names text request line (ForList _ same) found = no_list names line (words_of (codes "list") (codes "list" ∷ []) refl same found)
 word_or_line names text request line (ForStats _ same) found = no_stats names line (words_of (codes "stats") (codes "stats" ∷ []) refl same found)
 word_or_line names text request line (ForStop _ same) found = no_stop names line (words_of (codes "stop") (codes "stop" ∷ []) refl same found)
+
+-- one word is no expectation
+no_expectation : (word : List ℕ) (expectation : Expectation) → IsExpectation (word ∷ []) expectation → ⊥
+no_expectation word expectation is = elim is [ ]
+
+word_or_expectation_by : (text word : List ℕ) (expectation : Expectation) → slice_split (λ c. c == 32) word ≡ word ∷ [] → text ≡ word → IsExpectationText text expectation → ⊥
+word_or_expectation_by text word expectation split same found =
+    no_expectation word expectation (subst (λ (all : List (List ℕ)). IsExpectation all expectation) (found.are.parted ∙ (ap (slice_split (λ c. c == 32)) same ∙ split)) found.is)
+
+word_or_expectation : (text : List ℕ) (request : Request) (expectation : Expectation) → IsWord text request → IsExpectationText text expectation → ⊥
+word_or_expectation text request expectation (ForList _ same) found = word_or_expectation_by text (codes "list") expectation refl same found
+word_or_expectation text request expectation (ForStats _ same) found = word_or_expectation_by text (codes "stats") expectation refl same found
+word_or_expectation text request expectation (ForStop _ same) found = word_or_expectation_by text (codes "stop") expectation refl same found
 
 -- the three words differ in their third byte
 list_stats : (text : List ℕ) → text ≡ codes "list" → text ≡ codes "stats" → ⊥
@@ -57,5 +72,10 @@ one_word text first second (ForStop _ a) (ForStop _ b) = refl
 pub one_request : (names : List (List ℕ)) (text : List ℕ) (first second : Request) → IsRequest names text first → IsRequest names text second → first ≡ second
 one_request names text first second (OfLine _ line is) (OfLine _ other also) = ap requests.Line (one_line_text names text line other is.is also.is)
 one_request names text first second (OfLine _ line is) (OfWord _ request also) = absurd (word_or_line names text request line also is)
+one_request names text first second (OfLine _ line is) (OfExpectation _ expectation also) = absurd (line_or_expectation names text line expectation is.is also)
+one_request names text first second (OfExpectation _ expectation is) (OfLine _ line also) = absurd (line_or_expectation names text line expectation also.is is)
+one_request names text first second (OfExpectation _ expectation is) (OfExpectation _ other also) = ap requests.Expect (one_expectation_text text expectation other is also)
+one_request names text first second (OfExpectation _ expectation is) (OfWord _ request also) = absurd (word_or_expectation text request expectation also is)
+one_request names text first second (OfWord _ request is) (OfExpectation _ expectation also) = absurd (word_or_expectation text request expectation is also)
 one_request names text first second (OfWord _ request is) (OfLine _ line also) = absurd (word_or_line names text request line is also)
 one_request names text first second (OfWord _ request is) (OfWord _ other also) = one_word text request other is also

@@ -3,19 +3,23 @@ use Rattle.std.proofs.Common.{ℕ, ◌≡◌, List, subst, sym, ◌∙◌, true�
 use Rattle.std.specs.Str.{bytes_eq}
 use Rattle.std.proofs.lemmas.Slice.Eq.{bytes_eq-Decides}
 use Rattle.std.specs.Prelude.{◌↔◌, Bool, true, false, IsTrue, codes}
+use Rattle.script.specs.declared.expectation.Expectation.{Expectation}
 use Rattle.script.specs.declared.line.Line.{Line}
+use Rattle.script.specs.Expectation.{IsExpectationText}
 use Rattle.script.specs.Line.{IsLineText}
 use Rattle.script.proofs.OneLine.{one_line_text}
 use Rattle.control.specs.declared.request.Request.{Request}
 use Rattle.control.specs.Request.{IsOffered, IsOfferedText, IsRequest, IsWord}
-use Rattle.control.specs.Request.IsRequest.{OfLine, OfWord}
+use Rattle.control.specs.Request.IsRequest.{OfLine, OfExpectation, OfWord}
 use Rattle.control.specs.Request.IsWord.{ForList, ForStats, ForStop}
 
--- a text that is none of the words, and no line that is offered
-pub no_request : (names : List (List ℕ)) (text : List ℕ) → ((request : Request) → ¬ IsWord text request) → ((line : Line) → ¬ IsOfferedText names text line)
+-- a text that is none of the words, no expectation, and no line that is offered
+pub no_request : (names : List (List ℕ)) (text : List ℕ) → ((request : Request) → ¬ IsWord text request)
+    → ((expectation : Expectation) → ¬ IsExpectationText text expectation) → ((line : Line) → ¬ IsOfferedText names text line)
     → (request : Request) → ¬ IsRequest names text request
-no_request names text word line request (OfLine _ found is) = line found is
-no_request names text word line request (OfWord _ _ is) = word request is
+no_request names text word expectation line request (OfLine _ found is) = line found is
+no_request names text word expectation line request (OfExpectation _ found is) = expectation found is
+no_request names text word expectation line request (OfWord _ _ is) = word request is
 
 -- a text that is none of the words
 pub no_word : (text : List ℕ) → ¬ text ≡ codes "list" → ¬ text ≡ codes "stats" → ¬ text ≡ codes "stop" → (request : Request) → ¬ IsWord text request

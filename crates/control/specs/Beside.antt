@@ -1,17 +1,21 @@
 -- What a session is held over: a console, and the server beside it.
-use Rattle.std.specs.Prelude.{ℕ, ◌≡◌, ◌-◌, List, length, Option, Result, Ok, Err}
+use Rattle.std.specs.Prelude.{ℕ, ◌≡◌, ◌≢◌, ◌-◌, List, length, Option, Result, Ok, Err, IfSome, IfNone}
 use Rattle.desk_core.specs.declared.call.Call.{Call}
 use Rattle.desk_core.specs.declared.entry.Entry.{Entry}
 use Rattle.desk_core.specs.declared.refusal.Refusal.{Refusal}
 use Rattle.desk_core.specs.declared.reply.Reply.{Reply}
+use Rattle.desk_core.specs.declared.reply.Reply.TheVariants.{Done}
+use Rattle.desk_core.specs.Catalogue.{slot_of}
 use Rattle.desk_core.specs.Changes.{Shows}
+use Rattle.script.specs.declared.expectation.Expectation.{Expectation}
 use Rattle.tail.specs.Tail.{forgotten}
 use Rattle.control.specs.declared.answer.Answer.{Answer}
+use Rattle.control.specs.declared.expected.Expected.{Expected}
 use Rattle.control.specs.declared.request.Request.{Request}
 use Rattle.control.specs.declared.terms.Terms.{Terms}
 use Rattle.control.specs.declared.stats.Counts.{Counts}
 use Rattle.control.specs.declared.stats.Stats.{Stats}
-use Rattle.control.specs.Meeting.{IsMet, IsLineMet}
+use Rattle.control.specs.Meeting.{IsMet, IsLineMet, expected_reply}
 
 -- a change with this result, after which this history was seen, changed what is shown of a service
 abbrev pub HasShown : Result Reply Refusal → List Entry → Type 0
@@ -35,6 +39,24 @@ pub record ChangesBeside {C V : Type 0} (seen : C → List Entry) (answers : C �
   pub lets_wait : ¬ HasShown result (seen new.0) → new.1 ≡ old.1
   pub terms_stay : terms new.1 ≡ terms old.1
 
+-- what a server is told: this is expected of the service at a slot, behind so many entries
+abbrev pub expected_of : ℕ → Expectation → List Entry → Expected
+expected_of slot expectation seen =
+    record { slot = slot; seconds = expectation.seconds; behind = length seen }
+
+-- The console looks for the service's rule, or stays where the name is not listed. The server is told
+-- once what is expected of the service, exactly if the answer is that this was done
+pub record ExpectsBeside {C V : Type 0} (names : List (List ℕ)) (seen : C → List Entry)
+    (looks : C → C → Type 0) (terms : V → Terms) (expected : V → V → Expected → Type 0)
+    (old new : C × V) (expectation : Expectation) (result : Result Reply Refusal) : Type 0 where
+  pub looked : IfSome (slot_of names expectation.name) (λ slot. looks old.0 new.0)
+  pub unlisted : IfNone (slot_of names expectation.name) (new.0 ≡ old.0)
+  pub answered : result ≡ expected_reply names (seen new.0) expectation
+  pub told : result ≡ Ok Done → IfSome (slot_of names expectation.name)
+      (λ slot. expected old.1 new.1 (expected_of slot expectation (seen new.0)))
+  pub not_told : result ≢ Ok Done → new.1 ≡ old.1
+  pub terms_stay : terms new.1 ≡ terms old.1
+
 -- the numbers are those of the history that the console has seen, of which so many entries are kept and to which so many may be added, and
 -- those that the server counts
 pub record TellsBeside {C V : Type 0} (seen : C → List Entry) (kept : Option ℕ) (terms : V → Terms) (counted : V → Counts → Type 0) (held : C × V) (stats : Stats) : Type 0 where
@@ -51,12 +73,12 @@ pub record StopsBeside {C V : Type 0} (terms : V → Terms) (stopped : V → V �
 
 -- how a request is met over both
 abbrev pub IsMetBeside : {C V : Type 0} → (C → List Entry) → Option ℕ → (C → C → Type 0) → (C → C → Option Call → Result Reply Refusal → Type 0)
-    → (V → Terms) → (V → Counts → Type 0) → (V → V → Type 0) → (V → V → Type 0) → List (List ℕ) → C × V → C × V → Request → Answer → Type 0
-IsMetBeside seen kept looks answers terms counted woken stopped names old new request answer =
-    IsMet names (seen_beside seen) (LooksBeside looks) (ChangesBeside seen answers terms woken) (TellsBeside seen kept terms counted) (StopsBeside terms stopped) old new request answer
+    → (V → Terms) → (V → Counts → Type 0) → (V → V → Type 0) → (V → V → Expected → Type 0) → (V → V → Type 0) → List (List ℕ) → C × V → C × V → Request → Answer → Type 0
+IsMetBeside seen kept looks answers terms counted woken expected stopped names old new request answer =
+    IsMet names (seen_beside seen) (LooksBeside looks) (ChangesBeside seen answers terms woken) (ExpectsBeside names seen looks terms expected) (TellsBeside seen kept terms counted) (StopsBeside terms stopped) old new request answer
 
 -- how a line is met over both, in a session with the rights of the server's terms
 abbrev pub IsLineMetBeside : {C V : Type 0} → (C → List Entry) → Option ℕ → (C → C → Type 0) → (C → C → Option Call → Result Reply Refusal → Type 0)
-    → (V → Terms) → (V → Counts → Type 0) → (V → V → Type 0) → (V → V → Type 0) → List (List ℕ) → C × V → C × V → List ℕ → Answer → Type 0
-IsLineMetBeside seen kept looks answers terms counted woken stopped names old new line answer =
-    IsLineMet (terms old.1).rights names (seen_beside seen) (LooksBeside looks) (ChangesBeside seen answers terms woken) (TellsBeside seen kept terms counted) (StopsBeside terms stopped) old new line answer
+    → (V → Terms) → (V → Counts → Type 0) → (V → V → Type 0) → (V → V → Expected → Type 0) → (V → V → Type 0) → List (List ℕ) → C × V → C × V → List ℕ → Answer → Type 0
+IsLineMetBeside seen kept looks answers terms counted woken expected stopped names old new line answer =
+    IsLineMet (terms old.1).rights names (seen_beside seen) (LooksBeside looks) (ChangesBeside seen answers terms woken) (ExpectsBeside names seen looks terms expected) (TellsBeside seen kept terms counted) (StopsBeside terms stopped) old new line answer

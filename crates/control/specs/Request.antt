@@ -1,11 +1,13 @@
 -- What a line of a session asks for.
 use Rattle.std.specs.Prelude.{ℕ, ◌≡◌, List, codes}
+use Rattle.script.specs.declared.expectation.Expectation.{Expectation}
 use Rattle.script.specs.declared.line.Line.{Line}
 use Rattle.script.specs.declared.line.Line.TheVariants.{Register, Retire, Order, Check, Open, Step, Board}
+use Rattle.script.specs.Expectation.{IsExpectationText}
 use Rattle.script.specs.Line.{IsLineText}
 use Rattle.control.specs.declared.request.Request.{Request}
 use Rattle.control.specs.declared.request.Request.TheVariants as requests
-use Rattle.control.specs.declared.request.Request.TheVariants.{Stats, Stop}
+use Rattle.control.specs.declared.request.Request.TheVariants.{Expect, Stats, Stop}
 
 -- the line opens no watch and steps none
 abbrev pub IsOffered : Line → Type 0
@@ -31,11 +33,14 @@ pub data IsWord : List ℕ → Request → Type 0 where
 -- the text asks for this, where the catalogue has these names
 pub data IsRequest (names : List (List ℕ)) : List ℕ → Request → Type 0 where
   OfLine : (text : List ℕ) (line : Line) → IsOfferedText names text line → IsRequest names text (requests.Line line)
+  OfExpectation : (text : List ℕ) (expectation : Expectation) → IsExpectationText text expectation
+      → IsRequest names text (Expect expectation)
   OfWord : (text : List ℕ) (request : Request) → IsWord text request → IsRequest names text request
 
 -- the request is no line that opens or steps a watch
 abbrev pub IsOfferedRequest : Request → Type 0
 IsOfferedRequest (requests.Line line) = IsOffered line
+IsOfferedRequest (Expect expectation) = Unit {0}
 IsOfferedRequest requests.List = Unit {0}
 IsOfferedRequest Stats = Unit {0}
 IsOfferedRequest Stop = Unit {0}

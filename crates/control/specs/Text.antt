@@ -6,7 +6,7 @@ use Rattle.health_wire.specs.declared.serving.Serving.TheVariants.{Unknown, NotS
 use Rattle.desk_core.specs.Board.{status_in}
 use Rattle.script.specs.RunText.{changed_text, checked_text}
 use Rattle.control.specs.declared.answer.Answer.{Answer}
-use Rattle.control.specs.declared.answer.Answer.TheVariants.{Changed, Checked, Board, Listed, Told, Stopping, BadLine, TooLong, NotAllowed, OutOfMemory, Skipped}
+use Rattle.control.specs.declared.answer.Answer.TheVariants.{Changed, Expected, Checked, Board, Listed, Told, Stopping, BadLine, TooLong, NotAllowed, OutOfMemory, Skipped}
 use Rattle.control.specs.declared.stats.Counts.{Counts}
 use Rattle.control.specs.declared.stats.Ended.{Ended}
 use Rattle.control.specs.declared.stats.OpenNow.{OpenNow}
@@ -57,6 +57,7 @@ stats_text stats = codes "entries " ++ decimal stats.entries ++ codes " kept " +
 -- the text of an answer that has one of a few
 abbrev pub short_text : Answer → Option (List ℕ)
 short_text (Changed result) = Some (changed_text result)
+short_text (Expected result) = Some (changed_text result)
 short_text (Checked status) = Some (checked_text status)
 short_text (Board word) = None
 short_text (Listed word) = None
@@ -71,6 +72,7 @@ short_text Skipped = None
 -- the text of any other answer; a line without a byte has none
 abbrev pub long_text : List (List ℕ) → Answer → List ℕ
 long_text names (Changed result) = []
+long_text names (Expected result) = []
 long_text names (Checked status) = []
 long_text names (Board word) = decimal word
 long_text names (Listed word) = list_text (status_in word) names
@@ -85,6 +87,7 @@ long_text names Skipped = []
 -- the line that is sent for an answer, over a catalogue of these names: its text and LF, or nothing for a line without a byte
 abbrev pub answer_text : List (List ℕ) → Answer → List ℕ
 answer_text names (Changed result) = changed_text result ++ codes "\n"
+answer_text names (Expected result) = changed_text result ++ codes "\n"
 answer_text names (Checked status) = checked_text status ++ codes "\n"
 answer_text names (Board word) = decimal word ++ codes "\n"
 answer_text names (Listed word) = list_text (status_in word) names ++ codes "\n"
@@ -99,6 +102,7 @@ answer_text names Skipped = []
 -- no line behind the one that has this answer is answered: the server ends, or the line was too long
 abbrev pub ends_session : Answer → Bool
 ends_session (Changed result) = false
+ends_session (Expected result) = false
 ends_session (Checked status) = false
 ends_session (Board word) = false
 ends_session (Listed word) = false

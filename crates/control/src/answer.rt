@@ -7,6 +7,8 @@ use script::{changed_text, checked_text};
 #[derive(Clone, Copy, Debug, PartialEq, Eq)]
 pub enum Answer {
     Changed(Result<Reply, Refusal>),
+    /// What came of an expectation. It has the text of a change.
+    Expected(Result<Reply, Refusal>),
     Checked(Option<Serving>),
     /// The board.
     Board(u64),
@@ -38,7 +40,7 @@ impl Answer {
         ensures short { IfSome result (λ text. length text.now ≤ 20) }
     {
         match self {
-            Answer::Changed(result) => Some(changed_text(result)),
+            Answer::Changed(result) | Answer::Expected(result) => Some(changed_text(result)),
             Answer::Checked(status) => Some(checked_text(status)),
             Answer::Stopping => Some("stopping"),
             Answer::BadLine => Some("bad line"),

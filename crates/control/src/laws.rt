@@ -22,35 +22,35 @@ pub fn one_request()
 /// met as its request.
 pub fn one_meeting<P: Probe, C: Console<P>, V: Server>()
     ensures too_long { (names : List (List ℕ)) (old new : C × V) (line : List ℕ) (answer : Answer)
-        → IsLineMetBeside C.seen C.kept C.looks C.answers V.terms V.counted V.woken V.stopped
-        names old new line answer
+        → IsLineMetBeside C.seen C.kept C.looks C.answers V.terms V.counted V.woken V.expected
+        V.stopped names old new line answer
         → 1024 < length line → (answer ≡ Answer.TooLong) × (new ≡ old) }
     ensures no_text { (names : List (List ℕ)) (old new : C × V) (line : List ℕ) (answer : Answer)
-        → IsLineMetBeside C.seen C.kept C.looks C.answers V.terms V.counted V.woken V.stopped
-        names old new line answer
+        → IsLineMetBeside C.seen C.kept C.looks C.answers V.terms V.counted V.woken V.expected
+        V.stopped names old new line answer
         → length line ≤ 1024 → ¬ IsUtf8 line
         → (answer ≡ unknown_line (V.terms old.1).rights) × (new ≡ old) }
     ensures silent { (names : List (List ℕ)) (old new : C × V) (line : List ℕ) (answer : Answer)
-        → IsLineMetBeside C.seen C.kept C.looks C.answers V.terms V.counted V.woken V.stopped
-        names old new line answer
+        → IsLineMetBeside C.seen C.kept C.looks C.answers V.terms V.counted V.woken V.expected
+        V.stopped names old new line answer
         → without_cr line ≡ [] → (answer ≡ Answer.Skipped) × (new ≡ old) }
     ensures no_request { (names : List (List ℕ)) (old new : C × V) (line : List ℕ) (answer : Answer)
-        → IsLineMetBeside C.seen C.kept C.looks C.answers V.terms V.counted V.woken V.stopped
-        names old new line answer
+        → IsLineMetBeside C.seen C.kept C.looks C.answers V.terms V.counted V.woken V.expected
+        V.stopped names old new line answer
         → IsSaid line → ((request : Request) → ¬ IsRequest names (without_cr line) request)
         → ((answer ≡ unknown_line (V.terms old.1).rights) ⊎ (answer ≡ Answer.OutOfMemory))
         × (new ≡ old) }
     ensures request { (names : List (List ℕ)) (old new : C × V) (line : List ℕ) (answer : Answer)
         (request : Request)
-        → IsLineMetBeside C.seen C.kept C.looks C.answers V.terms V.counted V.woken V.stopped
-        names old new line answer
+        → IsLineMetBeside C.seen C.kept C.looks C.answers V.terms V.counted V.woken V.expected
+        V.stopped names old new line answer
         → IsSaid line → IsRequest names (without_cr line) request → IsAllowed (V.terms old.1).rights request
-        → IsMetBeside C.seen C.kept C.looks C.answers V.terms V.counted V.woken V.stopped names
-        old new request answer }
+        → IsMetBeside C.seen C.kept C.looks C.answers V.terms V.counted V.woken V.expected
+        V.stopped names old new request answer }
     ensures denied { (names : List (List ℕ)) (old new : C × V) (line : List ℕ) (answer : Answer)
         (request : Request)
-        → IsLineMetBeside C.seen C.kept C.looks C.answers V.terms V.counted V.woken V.stopped
-        names old new line answer
+        → IsLineMetBeside C.seen C.kept C.looks C.answers V.terms V.counted V.woken V.expected
+        V.stopped names old new line answer
         → IsSaid line → IsRequest names (without_cr line) request → ¬ IsAllowed (V.terms old.1).rights request
         → ((answer ≡ Answer.NotAllowed) ⊎ (answer ≡ Answer.OutOfMemory)) × (new ≡ old) }
 {}

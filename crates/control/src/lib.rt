@@ -70,6 +70,7 @@
 
 mod answer;
 mod client;
+mod expected;
 mod laws;
 mod line;
 mod line_end;
@@ -95,6 +96,7 @@ mod writing;
 
 pub use answer::Answer;
 pub use client::{ControlClient, connect, connect_within};
+pub use expected::Expected;
 pub use laws::{one_meeting, one_request};
 pub use line::{LINE_ROOM, MAX_LINE_LEN, is_one_line, is_silent};
 pub use line_end::LineEnd;

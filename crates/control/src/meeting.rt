@@ -1,16 +1,19 @@
 ghost use Rattle.std.specs.Prelude.{◌≡◌, ◌⊎◌, IsSome, IfSome, IfNone};
 ghost use Rattle.script.specs.Change.{line_change};
-ghost use Rattle.control.specs.Beside.{ChangesBeside, IsLineMetBeside, IsMetBeside, TellsBeside};
+ghost use Rattle.control.specs.Beside.{ChangesBeside, ExpectsBeside, IsLineMetBeside};
+ghost use Rattle.control.specs.Beside.{IsMetBeside, TellsBeside};
+ghost use Rattle.control.specs.Meeting.{reply_by_rule};
 ghost use Rattle.control.specs.Request.{IsOfferedRequest};
 ghost use Rattle.control.specs.Rights.{IsAllowed};
 
 use crate::answer::Answer;
+use crate::expected::Expected;
 use crate::request::{Request, read_request};
 use crate::server::Server;
 use crate::stats::Stats;
-use desk_core::{Console, Effect, Extent, Refusal, Reply};
-use probe_core::{Maker, Probe};
-use script::{Line, probe_for, without_cr};
+use desk_core::{Console, Effect, Extent, Refusal, Reply, Ruled};
+use probe_core::{Maker, Probe, Rule};
+use script::{Expectation, Line, probe_for, without_cr};
 use std::alloc::Global;
 
 /// Does what a request asks for.
@@ -22,12 +25,13 @@ pub(crate) fn meet<P: Probe, C: Console<P>, V: Server, M: Maker<P>>(
 ) -> Answer
     requires offered { IsOfferedRequest request.now }
     ensures names { C.names console.new ≡ C.names console.old }
-    ensures met { IsMetBeside C.seen C.kept C.looks C.answers V.terms V.counted V.woken V.stopped
-        (C.names console.old) (console.old, server.old) (console.new, server.new) request.now
-        result }
+    ensures met { IsMetBeside C.seen C.kept C.looks C.answers V.terms V.counted V.woken
+        V.expected V.stopped (C.names console.old) (console.old, server.old)
+        (console.new, server.new) request.now result }
 {
     match request {
         Request::Line(line) => meet_line(console, server, maker, line),
+        Request::Expect(expectation) => Answer::Expected(expect(console, server, expectation)),
         Request::List => Answer::Listed(console.board()),
         Request::Stats => Answer::Told(stats(console, server)),
         Request::Stop => {
@@ -60,8 +64,9 @@ fn meet_line<P: Probe, C: Console<P>, V: Server, M: Maker<P>>(
 ) -> Answer
     requires offered { IsOfferedRequest (Request.Line line.now) }
     ensures names { C.names console.new ≡ C.names console.old }
-    ensures met { IsMetBeside C.seen C.kept C.looks C.answers V.terms V.counted V.woken V.stopped
-        (C.names console.old) (console.old, server.old) (console.new, server.new)
+    ensures met { IsMetBeside C.seen C.kept C.looks C.answers V.terms V.counted V.woken
+        V.expected V.stopped (C.names console.old) (console.old, server.old)
+        (console.new, server.new)
         (Request.Line line.now) result }
 {
     match line {
@@ -99,6 +104,42 @@ fn change<P: Probe, C: Console<P>, V: Server, M: Maker<P>>(
     Some(result)
 }
 
+/// Looks for the rule of a service, and tells the server what is expected of it where the rule
+/// follows findings.
+fn expect<P: Probe, C: Console<P>, V: Server>(
+    console: &mut C,
+    server: &mut V,
+    expectation: &Expectation,
+) -> Result<Reply, Refusal>
+    ensures names { C.names console.new ≡ C.names console.old }
+    ensures expects { ExpectsBeside (C.names console.old) C.seen C.looks V.terms V.expected
+        (console.old, server.old) (console.new, server.new) expectation.now result }
+{
+    let Some(slot) = console.catalogue().slot(expectation.name.as_str()) else {
+        return Err(Refusal::NotListed);
+    };
+    let Ruled { rule, entries } = console.rule(slot);
+    let reply = reply_by_rule(rule);
+    if reply == Reply::Done {
+        server.expect(Expected {
+            slot,
+            seconds: expectation.seconds,
+            behind: entries,
+        });
+    }
+    Ok(reply)
+}
+
+fn reply_by_rule(rule: Option<Rule>) -> Reply
+    ensures { result ≡ reply_by_rule rule }
+{
+    match rule {
+        None => Reply::Missing,
+        Some(Rule::Threshold(..)) => Reply::Done,
+        Some(Rule::Manual | Rule::Depends(_)) => Reply::WrongKind,
+    }
+}
+
 /// Does what a request asks for, if the server's sessions may ask for it.
 fn meet_allowed<P: Probe, C: Console<P>, V: Server, M: Maker<P>>(
     console: &mut C,
@@ -109,8 +150,9 @@ fn meet_allowed<P: Probe, C: Console<P>, V: Server, M: Maker<P>>(
     requires offered { IsOfferedRequest request.now }
     ensures names { C.names console.new ≡ C.names console.old }
     ensures met { (IsAllowed (V.terms server.old).rights request.now
-        × IsMetBeside C.seen C.kept C.looks C.answers V.terms V.counted V.woken V.stopped (C.names console.old)
-        (console.old, server.old) (console.new, server.new) request.now result)
+        × IsMetBeside C.seen C.kept C.looks C.answers V.terms V.counted V.woken V.expected
+        V.stopped (C.names console.old) (console.old, server.old) (console.new, server.new)
+        request.now result)
         ⊎ ((¬ IsAllowed (V.terms server.old).rights request.now) × (result ≡ Answer.NotAllowed)
         × (console.new ≡ console.old) × (server.new ≡ server.old)) }
 {
@@ -133,7 +175,7 @@ pub(crate) fn meet_text<P: Probe, C: Console<P>, V: Server, M: Maker<P>>(
 ) -> Answer
     ensures names { C.names console.new ≡ C.names console.old }
     ensures met { IsLineMetBeside C.seen C.kept C.looks C.answers V.terms V.counted V.woken
-        V.stopped (C.names console.old) (console.old, server.old)
+        V.expected V.stopped (C.names console.old) (console.old, server.old)
         (console.new, server.new) line.now result }
 {
     if line.len() > MAX_LINE {

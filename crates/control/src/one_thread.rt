@@ -1,9 +1,9 @@
 //! A registry of one thread for tests, over which sessions are held, and a server that counts what it is told. Their ghosts say
 //! little: the tests look at what they answer.
 
-use crate::{Counts, Ended, OpenNow, Rights, Server, Terms};
+use crate::{Counts, Ended, Expected, OpenNow, Rights, Server, Terms};
 use desk_core::{
-    Call, Catalogue, Console, Desk, Effect, Extent, Refusal, Registrar, board_entries,
+    Call, Catalogue, Console, Desk, Effect, Extent, Refusal, Registrar, Ruled, Slot, board_entries,
 };
 use health_wire::Serving;
 use probe_core::{Maker, Manual, Probe, Rule};
@@ -92,6 +92,13 @@ impl<P: Probe> Console<P> for OneThread<P> {
         self.desk.board()
     }
 
+    fn rule(&mut self, slot: Slot) -> Ruled {
+        Ruled {
+            rule: self.desk.rule(slot),
+            entries: board_entries(self.desk.board()),
+        }
+    }
+
     fn extent(&mut self) -> Extent {
         Extent {
             entries: board_entries(self.desk.board()),
@@ -107,6 +114,9 @@ pub struct Told {
     pub rights: Rights,
     /// How often it was told that a status changed.
     pub wakes: u32,
+    /// What it was told newest that is expected of a service: the number of its slot, the seconds, and
+    /// behind how many entries.
+    pub expected: Option<(u8, u32, u32)>,
     /// How often it was told to end.
     pub stops: u32,
 }
@@ -116,6 +126,7 @@ impl Told {
     pub const NOTHING: Told = Told {
         rights: Rights::All,
         wakes: 0,
+        expected: None,
         stops: 0,
     };
 
@@ -123,6 +134,7 @@ impl Told {
     pub const NOTHING_BY_REPORTERS: Told = Told {
         rights: Rights::Reports,
         wakes: 0,
+        expected: None,
         stops: 0,
     };
 }
@@ -133,6 +145,8 @@ impl Server for Told {
     ghost counted = { λ server counts. Unit {0} };
 
     ghost woken = { λ old new. Unit {0} };
+
+    ghost expected = { λ old new expected. Unit {0} };
 
     ghost stopped = { λ old new. Unit {0} };
 
@@ -162,6 +176,10 @@ impl Server for Told {
 
     fn wake(&mut self) {
         self.wakes = self.wakes.wrapping_add(1);
+    }
+
+    fn expect(&mut self, what: Expected) {
+        self.expected = Some((what.slot.number(), what.seconds, what.behind));
     }
 
     fn stop(&mut self) {

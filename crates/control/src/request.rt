@@ -3,7 +3,7 @@ ghost use Rattle.script.specs.Reading.{IsReading};
 ghost use Rattle.control.specs.Request.{IsOffered, IsOfferedText, IsRequest, IsWord};
 
 use desk_core::Catalogue;
-use script::{Line, read_line};
+use script::{Expectation, Line, read_expectation, read_line};
 use std::alloc::{AllocError, Global};
 
 /// What a line of a session asks for.
@@ -11,6 +11,8 @@ use std::alloc::{AllocError, Global};
 pub enum Request {
     /// A change, a Check or the board, as a line of a script.
     Line(Line),
+    /// How often a service has to be reported.
+    Expect(Expectation),
     /// The status of each name.
     List,
     /// How many entries, connections and calls there are and were.
@@ -30,6 +32,9 @@ pub(crate) fn read_request(
 {
     if let Some(request) = read_word(text) {
         return Ok(Some(request));
+    }
+    if let Some(expectation) = read_expectation(alloc, text)? {
+        return Ok(Some(Request::Expect(expectation)));
     }
     match read_offered(alloc, catalogue, text)? {
         Some(line) => Ok(Some(Request::Line(line))),

@@ -25,6 +25,7 @@ impl Rights {
             Rights::Reports => match request {
                 Request::Line(line) => is_report(line),
                 Request::List | Request::Stats => true,
+                Request::Expect(_) => false,
                 Request::Stop => false,
             },
         }

@@ -1,12 +1,15 @@
+use crate::expected::Expected;
 use crate::stats::Counts;
 use crate::terms::Terms;
 
 /// The server that runs over a registry, as a session sees it.
 ///
 /// `terms` are those that hold for its sessions, whatever it is told. `woken` says that it was told, once, that a status changed,
-/// `stopped` that it was told to end, and `counted` that it counts so.
+/// `expected` that it was told, once, what is expected of a service, `stopped` that it was told to end,
+/// and `counted` that it counts so.
 pub trait Server {
     ghost use Rattle.std.specs.Prelude.{◌≡◌};
+    ghost use Rattle.control.specs.declared.expected.Expected.{Expected};
     ghost use Rattle.control.specs.declared.stats.Counts.{Counts};
     ghost use Rattle.control.specs.declared.terms.Terms.{Terms};
 
@@ -15,6 +18,8 @@ pub trait Server {
     ghost counted: { Self → Counts → Type 0 };
 
     ghost woken: { Self → Self → Type 0 };
+
+    ghost expected: { Self → Self → Expected → Type 0 };
 
     ghost stopped: { Self → Self → Type 0 };
 
@@ -29,6 +34,11 @@ pub trait Server {
     /// Tells it that a status changed.
     fn wake(&mut self)
         ensures woken { woken self.old self.new }
+        ensures terms { terms self.new ≡ terms self.old };
+
+    /// Tells it what is expected of a service.
+    fn expect(&mut self, what: Expected)
+        ensures expected { expected self.old self.new what }
         ensures terms { terms self.new ≡ terms self.old };
 
     /// Tells it to end.

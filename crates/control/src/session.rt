@@ -135,7 +135,8 @@ impl Session {
         requires sent { self.old.waiting ≡ [] }
         ensures names { C.names console.new ≡ C.names console.old }
         ensures met { IsLineMetBeside C.seen C.kept C.looks C.answers V.terms V.counted V.woken
-            V.stopped (C.names console.old) (console.old, server.old) (console.new, server.new)
+            V.expected V.stopped (C.names console.old) (console.old, server.old)
+            (console.new, server.new)
             (first_line self.old.unread) result }
         ensures cut { IsCut self.old.unread (first_line self.old.unread)
             (behind_line self.old.unread) }

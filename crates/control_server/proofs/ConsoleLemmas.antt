@@ -1,12 +1,14 @@
 -- What lines make of a door's seat.
 use Rattle.std.proofs.Common.{◌≡◌, ℕ, ◌-◌, List, ap, refl, subst, ◌∙◌}
-use Rattle.std.specs.Prelude.{[], ◌∷◌, Option}
+use Rattle.std.specs.Prelude.{[], ◌∷◌, Option, None, Some, IfNone, IfSome}
 use Rattle.crew.specs.declared.door.HallDoor.{HallDoor}
-use Rattle.crew.specs.HallDoor.{CarriesOut, StaysAt, door_hall, door_seat}
+use Rattle.crew.specs.HallDoor.{CarriesOut, StaysAt, door_hall, door_seat, stays_same}
 use Rattle.desk_core.specs.declared.entry.Entry.{Entry}
+use Rattle.desk_core.specs.Catalogue.{slot_of}
 use Rattle.hall.specs.Seats.{SeatState}
 use Rattle.control.proofs.TalkLemmas.{met_then}
 use Rattle.control.specs.declared.answer.Answer.{Answer}
+use Rattle.control.specs.declared.expected.Expected.{Expected}
 use Rattle.control.specs.declared.request.Request.{Request}
 use Rattle.control.specs.declared.stats.Counts.{Counts}
 use Rattle.script.specs.TextLines.{without_cr}
@@ -15,7 +17,7 @@ use Rattle.control.specs.Beside.{IsLineMetBeside, IsMetBeside, LooksBeside}
 use Rattle.control.specs.Request.{IsRequest}
 use Rattle.control.specs.Rights.{IsAllowed}
 use Rattle.control.specs.Meeting.{IsSaid}
-use Rattle.control.specs.Meeting.IsMet.{Changes, Checks, Packs, Lists, Tells, Stops, Starves, StarvesTold}
+use Rattle.control.specs.Meeting.IsMet.{Changes, Expects, Checks, Packs, Lists, Tells, Stops, Starves, StarvesTold}
 use Rattle.control.specs.Meeting.IsLineMet.{IsTooLong, IsSkipped, IsNoText, IsNoRequest, IsUnread, IsDenied, IsAsked}
 use Rattle.control.specs.Talk.{AreMet, nobody}
 use Rattle.control.specs.Talk.AreMet.{Ends, Then, Moves}
@@ -61,17 +63,28 @@ module _ {R P K V : Type 0} where
   same_seat : (old new : HallDoor R P K × V) → new.0 ≡ old.0 → seat_of new ≡ seat_of old
   same_seat old new same = ap (λ (door : HallDoor R P K). door_seat door) same
 
+-- a door that has looked for a slot, or did nothing where there is none
+stays_by : {R P K : Type 0} (slot : Option ℕ) (old new : HallDoor R P K) → IfSome slot (λ found. StaysAt old new) → IfNone slot (new ≡ old) → StaysAt old new
+stays_by (Some found) old new looked same = looked
+stays_by {R} {P} {K} None old new looked same = subst (λ (door : HallDoor R P K). StaysAt door new) same (stays_same new)
+
 abbrev pub seen_by : {R P K : Type 0} → HallDoor R P K → List Entry
 seen_by door = (door_seat door).seen
 
-module _ {R P K V : Type 0} (kept : Option ℕ) (terms : V → Terms) (counted : V → Counts → Type 0) (woken stopped : V → V → Type 0) where
+module _ {R P K V : Type 0} (kept : Option ℕ) (terms : V → Terms) (counted : V → Counts → Type 0) (woken : V → V → Type 0) (expected : V → V → Expected → Type 0) (stopped : V → V → Type 0) where
   -- a line whose request is met over the door is met by its seat
   request_met : (names : List (List ℕ)) (old new : HallDoor R P K × V) (line : List ℕ) (request : Request) (answer : Answer) → IsSaid line → IsRequest names (without_cr line) request → IsAllowed (terms old.1).rights request
-      → IsMetBeside seen_by kept StaysAt CarriesOut terms counted woken stopped names old new request answer → IsSame terms old new × HasMet (terms old.1) names (seat_of old) (seat_of new) (line ∷ []) (answer ∷ [])
+      → IsMetBeside seen_by kept StaysAt CarriesOut terms counted woken expected stopped names old new request answer → IsSame terms old new × HasMet (terms old.1) names (seat_of old) (seat_of new) (line ∷ []) (answer ∷ [])
   request_met names old new line _ _ said is may (Changes asked call result change changes) = (
     record { reference = changes.answered.reference; hall = changes.answered.hall; by_terms = changes.terms_stay },
     met_one (terms old.1) names (seat_of old) (seat_of new) line _ (IsAsked said _ _ is may (Changes asked call result change changes.answered.carried)),
   )
+  request_met names old new line _ _ said is may (Expects expectation result expects) =
+      let stays = stays_by (slot_of names expectation.name) old.0 new.0 expects.looked expects.unlisted in (
+        record { reference = stays.reference; hall = stays.hall; by_terms = expects.terms_stay },
+        met_one (terms old.1) names (seat_of old) (seat_of new) line _
+            (IsAsked said _ _ is may (Expects expectation result (record { looked = stays.looked; answered = expects.answered }))),
+      )
   request_met names old new line _ _ said is may (Checks name looks) =
       (same_looks terms old new looks, met_one (terms old.1) names (seat_of old) (seat_of new) line _ (IsAsked said _ _ is may (Checks name looks.looked.looked)))
   request_met names old new line _ _ said is may (Packs looks) =
@@ -94,7 +107,7 @@ module _ {R P K V : Type 0} (kept : Option ℕ) (terms : V → Terms) (counted :
       (same_looks terms old new looks, met_one (terms old.1) names (seat_of old) (seat_of new) line _ (IsAsked said _ _ is may (StarvesTold request looks.looked.looked)))
 
   -- so is any line
-  line_met : (names : List (List ℕ)) (old new : HallDoor R P K × V) (line : List ℕ) (answer : Answer) → IsLineMetBeside seen_by kept StaysAt CarriesOut terms counted woken stopped names old new line answer
+  line_met : (names : List (List ℕ)) (old new : HallDoor R P K × V) (line : List ℕ) (answer : Answer) → IsLineMetBeside seen_by kept StaysAt CarriesOut terms counted woken expected stopped names old new line answer
       → IsSame terms old new × HasMet (terms old.1) names (seat_of old) (seat_of new) (line ∷ []) (answer ∷ [])
   line_met names old new line _ (IsTooLong long same) =
       (same_whole terms old new same, met_one (terms old.1) names (seat_of old) (seat_of new) line _ (IsTooLong long (same_seat old new (first_of old new same))))
@@ -112,7 +125,7 @@ module _ {R P K V : Type 0} (kept : Option ℕ) (terms : V → Terms) (counted :
 
   -- and so are lines, one after the other
   pub lines_met : (names : List (List ℕ)) (old new : HallDoor R P K × V) (lines : List (List ℕ)) (answers : List Answer)
-      → AreMet nobody (IsLineMetBeside seen_by kept StaysAt CarriesOut terms counted woken stopped names) old new lines answers → IsSame terms old new × HasMet (terms old.1) names (seat_of old) (seat_of new) lines answers
+      → AreMet nobody (IsLineMetBeside seen_by kept StaysAt CarriesOut terms counted woken expected stopped names) old new lines answers → IsSame terms old new × HasMet (terms old.1) names (seat_of old) (seat_of new) lines answers
   lines_met names _ _ _ _ (Ends held) = (same_self terms held, Ends (seat_of held))
   lines_met names _ _ _ _ (Then old between new line answer lines answers met are) =
       let first = line_met names old between line answer met in

@@ -3,6 +3,7 @@ use Rattle.std.proofs.Common.{◌≡◌, ◌⊎◌, ℕ, inl, Bool, true, false,
 use Rattle.std.specs.Prelude.{Option}
 use Rattle.crew.specs.declared.door.HallDoor.{HallDoor}
 use Rattle.crew.specs.HallDoor.{CarriesOut, StaysAt}
+use Rattle.control.specs.declared.expected.Expected.{Expected}
 use Rattle.control.specs.declared.stats.Counts.{Counts}
 use Rattle.control.specs.declared.terms.Terms.{Terms}
 use Rattle.control.specs.Beside.{IsLineMetBeside}
@@ -20,13 +21,13 @@ pub by_draining : {X : Type 0} (draining : Bool) → (draining ≡ false → X) 
 by_draining false talks drains = talks refl
 by_draining true talks drains = drains refl
 
-module _ {R P K V : Type 0} (kept : Option ℕ) (terms : V → Terms) (counted : V → Counts → Type 0) (woken stopped : V → V → Type 0) where
+module _ {R P K V : Type 0} (kept : Option ℕ) (terms : V → Terms) (counted : V → Counts → Type 0) (woken : V → V → Type 0) (expected : V → V → Expected → Type 0) (stopped : V → V → Type 0) where
   -- what was said over a door was said by its seat
   pub said_by_seat : (names : List (List ℕ)) (old new : HallDoor R P K × V) {session session_now : SessionState} {moved : Moved}
-      → HasSaid nobody (IsLineMetBeside seen_by kept StaysAt CarriesOut terms counted woken stopped names) names old new session session_now moved
+      → HasSaid nobody (IsLineMetBeside seen_by kept StaysAt CarriesOut terms counted woken expected stopped names) names old new session session_now moved
       → IsSame terms old new × SpeaksBy (terms old.1) names (seat_of old) (seat_of new) session session_now moved
   said_by_seat names old new said =
-      let met = lines_met kept terms counted woken stopped names old new said.lines said.answers said.are_met in (
+      let met = lines_met kept terms counted woken expected stopped names old new said.lines said.answers said.are_met in (
         met.0,
         record { closing = said.closing; lines = said.lines; answers = said.answers; talked = said.talked; are_met = met.1 },
       )
@@ -34,7 +35,7 @@ module _ {R P K V : Type 0} (kept : Option ℕ) (terms : V → Terms) (counted :
   -- a connection's turn, be its session over or not
   pub speaks_by_turn : (names : List (List ℕ)) (old new : HallDoor R P K × V) (session session_now : SessionState) (draining : Bool)
       → (draining ≡ false → (moved : Moved)
-      × HasSaid nobody (IsLineMetBeside seen_by kept StaysAt CarriesOut terms counted woken stopped names) names old new session session_now moved)
+      × HasSaid nobody (IsLineMetBeside seen_by kept StaysAt CarriesOut terms counted woken expected stopped names) names old new session session_now moved)
       → (draining ≡ true → (new ≡ old) × (session_now ≡ session)) → IsSame terms old new × ((moved : Moved) × SpeaksBy (terms old.1) names (seat_of old) (seat_of new) session session_now moved)
   speaks_by_turn names old new session session_now false goes stays =
       let said = goes refl in

@@ -9,26 +9,33 @@ use Rattle.desk_core.specs.Watch.{IsOlder}
 use Rattle.hall.specs.Seats.{SeatState, IsCarriedOut, own_calls, with_seen}
 use Rattle.hall.specs.CarriedOut.{replied}
 use Rattle.hall.specs.Looking.{HasLooked}
+use Rattle.script.specs.declared.expectation.Expectation.{Expectation}
 use Rattle.script.specs.declared.line.Line.{Line}
 use Rattle.script.specs.Change.{line_change}
 use Rattle.script.specs.TextLines.{without_cr}
 use Rattle.control.specs.declared.answer.Answer.{Answer}
-use Rattle.control.specs.declared.answer.Answer.TheVariants.{Changed, Checked, Board, Listed, Told, Stopping, BadLine, TooLong, NotAllowed, OutOfMemory, Skipped}
+use Rattle.control.specs.declared.answer.Answer.TheVariants.{Changed, Expected, Checked, Board, Listed, Told, Stopping, BadLine, TooLong, NotAllowed, OutOfMemory, Skipped}
 use Rattle.control.specs.declared.request.Request.TheVariants as requests
 use Rattle.control.specs.declared.stats.Stats.{Stats}
 use Rattle.control.specs.declared.terms.Terms.{Terms}
 use Rattle.control.specs.Request.{IsRequest}
-use Rattle.control.specs.Meeting.{IsLineMet}
+use Rattle.control.specs.Meeting.{IsLineMet, expected_reply}
 use Rattle.control.specs.Talk.{AreMet}
 
 -- the numbers of entries, those that were made and those that may still be made, are those of what the seat has seen
 abbrev pub CountsSeen : Terms → SeatState → Stats → Type 0
 CountsSeen terms seat stats = (stats.entries ≡ length seat.seen) × (stats.left ≡ terms.most - length seat.seen)
 
+-- the seat has at most looked, and an expectation is answered by what it has seen by then
+pub record IsExpectedBySeat (names : List (List ℕ)) (old new : SeatState)
+    (expectation : Expectation) (result : Result Reply Refusal) : Type 0 where
+  pub looked : HasLooked old new
+  pub answered : result ≡ expected_reply names new.seen expectation
+
 -- The line is met by the seat with this answer, by these terms: a change by a change of the seat, anything else by what the seat has seen
 abbrev pub IsMetBySeat : Terms → List (List ℕ) → SeatState → SeatState → List ℕ → Answer → Type 0
 IsMetBySeat terms names old new line answer =
-    IsLineMet terms.rights names (λ seat. seat.seen) HasLooked IsCarriedOut (CountsSeen terms) (λ before after. after ≡ before) old new line answer
+    IsLineMet terms.rights names (λ seat. seat.seen) HasLooked IsCarriedOut (IsExpectedBySeat names) (CountsSeen terms) (λ before after. after ≡ before) old new line answer
 
 -- By this seat these lines were met, one after the other, each with its answer at its point of the history. In between it has at most looked
 abbrev pub HasMet : Terms → List (List ℕ) → SeatState → SeatState → List (List ℕ) → List Answer → Type 0
@@ -38,6 +45,7 @@ HasMet terms names old new lines answers = AreMet HasLooked (IsMetBySeat terms n
 abbrev pub results_of : List Answer → List (Result Reply Refusal)
 results_of [] = []
 results_of (Changed result ∷ answers) = result ∷ results_of answers
+results_of (Expected result ∷ answers) = results_of answers
 results_of (Checked status ∷ answers) = results_of answers
 results_of (Board word ∷ answers) = results_of answers
 results_of (Listed word ∷ answers) = results_of answers

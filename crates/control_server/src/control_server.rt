@@ -20,6 +20,7 @@ use std::rt::Files;
 use std::sync::atomic::AtomicU64;
 use std::sync::{Arc, Wait};
 use std::time::Clock;
+use watchdog::Expectations;
 
 /// The connections of a control place. No Watches are among them.
 const LIMITS: Limits = Limits {
@@ -38,6 +39,8 @@ pub struct ControlServer {
     terms: Terms,
     /// Tells a supervisor that the server was told to stop.
     notifier: Notifier,
+    /// What its sessions expect of services.
+    expectations: Arc<Expectations>,
 }
 
 impl ControlServer {
@@ -49,13 +52,15 @@ impl ControlServer {
     ghost use Rattle.control_server.specs.Seats.{SeatsHaveMet};
     ghost use Rattle.live_server.specs.Settled.{KeepsAccount};
 
-    /// A loop over a place whose sessions may ask for so much, and tell what the loops with these tallies count.
+    /// A loop over a place whose sessions may ask for so much, tell what the loops with these tallies
+    /// count, and say what is expected of services.
     pub fn new<R: Net + Clock>(
         rt: &R,
         alloc: Global,
         listener: ControlListener,
         tallies: Vec<Arc<Tally>>,
         terms: Terms,
+        expectations: Arc<Expectations>,
     ) -> io::Result<ControlServer>
         ensures { IfOk result (λ server. terms_of server ≡ terms) }
     {
@@ -66,6 +71,7 @@ impl ControlServer {
             stops: AtomicU64::new(0),
             terms,
             notifier: Notifier::nobody(),
+            expectations,
         })
     }
 
@@ -80,6 +86,7 @@ impl ControlServer {
             stops,
             terms,
             notifier: _,
+            expectations,
         } = self;
         ControlServer {
             sessions,
@@ -87,6 +94,7 @@ impl ControlServer {
             stops,
             terms,
             notifier,
+            expectations,
         }
     }
 
@@ -115,6 +123,7 @@ impl ControlServer {
             context,
             seats,
             tallies: self.tallies.as_slice(),
+            expectations: &self.expectations,
             stops: &self.stops,
             terms: self.terms,
             notifier: &self.notifier,

@@ -1,7 +1,8 @@
-use control::{Counts, Ended, OpenNow, Server, Terms};
+use control::{Counts, Ended, Expected, OpenNow, Server, Terms};
 use live_server::{News, Tally};
 use std::sync::Arc;
 use std::sync::atomic::{AtomicU64, Ordering};
+use watchdog::{Expectations, Wish};
 
 /// What a session sees and asks of the server that runs over the registry.
 #[derive(Clone, Copy)]
@@ -10,6 +11,8 @@ pub struct Overview<'a> {
     pub news: &'a News,
     /// What the loops count.
     pub tallies: &'a [Arc<Tally>],
+    /// What sessions expect of services.
+    pub expectations: &'a Expectations,
     /// How many sessions there are.
     pub sessions: u64,
     /// What holds for them.
@@ -28,6 +31,8 @@ impl<'a> Server for Overview<'a> {
 
     ghost woken = { λ old new. new ≡ old };
 
+    ghost expected = { λ old new expected. new ≡ old };
+
     ghost stopped = { λ old new. new ≡ old };
 
     fn terms(&self) -> Terms {
@@ -35,11 +40,26 @@ impl<'a> Server for Overview<'a> {
     }
 
     fn counts(&self) -> Counts {
-        counts_of(self.tallies, self.sessions)
+        let (current, ended) = sums_of(self.tallies, self.sessions);
+        Counts {
+            current,
+            ended,
+            expired: self.expectations.expired(),
+        }
     }
 
     fn wake(&mut self) {
         self.news.change();
+    }
+
+    fn expect(&mut self, what: Expected) {
+        let Expected {
+            slot,
+            seconds,
+            behind,
+        } = what;
+        self.expectations.expect(slot, Wish { seconds, behind });
+        self.news.wake();
     }
 
     fn stop(&mut self) {
@@ -48,7 +68,7 @@ impl<'a> Server for Overview<'a> {
 }
 
 /// What all loops have counted by now, beside so many sessions. A sum stays at its greatest number once it has come to it.
-fn counts_of(tallies: &[Arc<Tally>], sessions: u64) -> Counts {
+fn sums_of(tallies: &[Arc<Tally>], sessions: u64) -> (OpenNow, Ended) {
     let mut current = OpenNow {
         connections: 0,
         watches: 0,
@@ -69,9 +89,5 @@ fn counts_of(tallies: &[Arc<Tally>], sessions: u64) -> Counts {
         ended.behind = ended.behind.saturating_add(loaded.behind);
         ended.gone = ended.gone.saturating_add(loaded.gone);
     }
-    Counts {
-        current,
-        ended,
-        expired: 0,
-    }
+    (current, ended)
 }

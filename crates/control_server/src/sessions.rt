@@ -26,6 +26,7 @@ use std::marker::PhantomData;
 use std::sync::atomic::{AtomicU64, Ordering};
 use std::sync::{Arc, Wait};
 use std::time::Instant;
+use watchdog::Expectations;
 use web_call::{Turn, Why};
 
 /// The most sessions at once.
@@ -46,6 +47,8 @@ pub(crate) struct Sessions<'s, 'a, 'b, R, P: Probe, K: Keep, M> {
     pub(crate) context: &'a Context<'b, R, P, K, M>,
     pub(crate) seats: &'s mut [Seat<P, K>],
     pub(crate) tallies: &'a [Arc<Tally>],
+    /// What they expect of services.
+    pub(crate) expectations: &'a Expectations,
     /// Not 0 once a session was told to stop the server.
     pub(crate) stops: &'a AtomicU64,
     /// What holds for them.
@@ -227,6 +230,7 @@ impl<R: Wait, P: Probe, K: Keep, M: Maker<P>> Handler<ControlStream, Session>
         let overview = Overview {
             news: self.context.news,
             tallies: self.tallies,
+            expectations: self.expectations,
             sessions: visit.talking as u64,
             stops: self.stops,
             terms: self.terms,

@@ -6,7 +6,7 @@ use std::test::Fail;
 use test_support::same;
 
 /// Lines one after the other, and what is answered.
-const LINES: [(&[u8], &[u8]); 19] = [
+const LINES: [(&[u8], &[u8]); 28] = [
     (b"list\n", b"a=absent -=absent\n"),
     (b"check a\n", b"not found\n"),
     (b"register a manual\n", b"done\n"),
@@ -16,6 +16,8 @@ const LINES: [(&[u8], &[u8]); 19] = [
     (b"list\n", b"a=not_serving -=absent\n"),
     (b"board\n", b"8589934594\n"),
     (b"up b\n", b"refused not listed\n"),
+    (b"expect a 5\n", b"wrong kind\n"),
+    (b"expect - 5\n", b"missing\n"),
     (b"up -\n", b"missing\n"),
     (b"retire a\n", b"done\n"),
     (b"retire a\n", b"refused full\n"),
@@ -26,6 +28,13 @@ const LINES: [(&[u8], &[u8]); 19] = [
     (b"\n", b""),
     (b"\r\n", b""),
     (b"open a\n", b"bad line\n"),
+    (b"expect a 5\n", b"missing\n"),
+    (b"expect b 5\n", b"refused not listed\n"),
+    (b"expect\n", b"bad line\n"),
+    (b"expect a\n", b"bad line\n"),
+    (b"expect a x\n", b"bad line\n"),
+    (b"expect a 86401\n", b"bad line\n"),
+    (b"expect a 5 6\n", b"bad line\n"),
     (b"check \xff\n", b"bad line\n"),
     (b"stop\n", b"stopping\n"),
     (b"list\n", b""),
@@ -178,6 +187,9 @@ const WAKES: [&[Row]; 4] = [
         (b"check a\n", 2, 0),
         (b"stats\n", 2, 0),
         (b"board\n", 2, 0),
+        (b"expect a 5\n", 2, 0),
+        (b"expect - 5\n", 2, 0),
+        (b"expect zz 5\n", 2, 0),
         (b"stop\n", 2, 1),
     ],
     &[
@@ -210,6 +222,7 @@ fn expect_told(scene: &mut Scene, rows: &[Row]) -> Result<(), Fail> {
         let told = Told {
             rights: Rights::All,
             wakes: *wakes,
+            expected: None,
             stops: *stops,
         };
         same(&scene.server, &told, line)?;

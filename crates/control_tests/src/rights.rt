@@ -1,12 +1,12 @@
 use control::{Request, Rights};
 use desk_core::Catalogue;
-use script::read_line;
+use script::{read_expectation, read_line};
 use std::alloc::Global;
 use std::test::Fail;
 use test_support::same;
 
 /// A request of each kind, and whether who reports may make it.
-const REQUESTS: [(&str, bool); 13] = [
+const REQUESTS: [(&str, bool); 15] = [
     ("pass a", true),
     ("fail a", true),
     ("check a", true),
@@ -19,11 +19,16 @@ const REQUESTS: [(&str, bool); 13] = [
     ("retire a", false),
     ("shutdown", false),
     ("resume", false),
+    ("expect a 5", false),
+    ("expect a 0", false),
     ("stop", false),
 ];
 
 /// The request that a text makes where `a` is listed.
 fn request_of(alloc: Global, catalogue: &Catalogue, text: &str) -> Result<Request, Fail> {
+    if let Some(expectation) = read_expectation(alloc, text)? {
+        return Ok(Request::Expect(expectation));
+    }
     match text {
         "list" => Ok(Request::List),
         "stats" => Ok(Request::Stats),

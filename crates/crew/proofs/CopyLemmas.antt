@@ -1,5 +1,5 @@
 -- A door that tells from a copy: what its copy is of.
-use Rattle.std.proofs.Common.{◌≡◌, ◌+◌, List, Result, Ok, Err, OnOk, OnErr, true, length, take, ap, sym, ◌∙◌, arith}
+use Rattle.std.proofs.Common.{◌≡◌, ◌+◌, List, Result, Ok, Err, OnOk, OnErr, true, length, take, ap, sym, arith}
 use Rattle.std.specs.Result.{is_ok}
 use Rattle.desk_core.specs.declared.change.Change.{Change}
 use Rattle.desk_core.specs.declared.entry.Entry.{Entry}

@@ -1,7 +1,8 @@
 ghost use Rattle.hall.specs.Seats.{IsOf};
 
 use desk_core::{
-    Behind, Call, Catalogue, Console, Effect, Extent, Keep, KeepAll, Registrar, Transcript, Watch,
+    Behind, Call, Catalogue, Console, Effect, Extent, Keep, KeepAll, Registrar, Ruled, Slot,
+    Transcript, Watch,
 };
 use hall::{Hall, Seat};
 use health_wire::Serving;
@@ -144,6 +145,10 @@ impl<'a, R: Wait, P: Probe, K: Keep> Console<P> for HallDoor<'a, R, P, K> {
 
     fn board(&mut self) -> u64 {
         self.hall.board(self.seat)
+    }
+
+    fn rule(&mut self, slot: Slot) -> Ruled {
+        self.hall.rule(self.rt, self.seat, slot)
     }
 
     fn extent(&mut self) -> Extent {

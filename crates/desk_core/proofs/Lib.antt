@@ -13,6 +13,7 @@ pub mod OnceLemmas
 pub mod OutcomeLemmas
 pub mod ReadingLemmas
 pub mod RefreshLemmas
+pub mod SilenceLemmas
 pub mod SlotLemmas
 pub mod StatusLemmas
 pub mod ToldLemmas

@@ -1,5 +1,5 @@
 -- Copies of status changes.
-use Rattle.std.proofs.Common.{ℕ, suc, ◌≡◌, ◌+◌, ◌-◌, ◌≤◌, ◌<◌, Option, None, Some, List, [], ◌∷◌, ◌++◌, length, take, drop, refl, sym, ap, ◌∙◌, subst, arith, max, IfSome, length-drop, append_assoc}
+use Rattle.std.proofs.Common.{ℕ, ◌≡◌, ◌+◌, ◌≤◌, Option, None, Some, List, ◌++◌, length, take, drop, sym, ap, ◌∙◌, subst, arith, max, IfSome, length-drop}
 use Rattle.std.proofs.lemmas.List.{take-append-drop, drop-append-le, length-take, take-take}
 use Rattle.std.proofs.Math.Seq.{take-length}
 use Rattle.desk_core.specs.declared.change.Change.{Change}

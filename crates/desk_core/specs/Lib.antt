@@ -8,12 +8,14 @@ pub mod Heard
 pub mod Legal
 pub mod Mutation
 pub mod Order
+pub mod Owned
 pub mod Past
 pub mod Present
 pub mod Refusal
 pub mod Reply
 pub mod Seats
 pub mod Shut
+pub mod Silence
 pub mod Slots
 pub mod Status
 pub mod Transcript

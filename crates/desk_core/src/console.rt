@@ -1,5 +1,7 @@
 use crate::extent::Extent;
 use crate::registrar::Registrar;
+use crate::ruled::Ruled;
+use crate::slot::Slot;
 use health_wire::Serving;
 use probe_core::Probe;
 
@@ -10,6 +12,7 @@ use probe_core::Probe;
 pub trait Console<P: Probe>: Registrar<P> {
     ghost use Rattle.std.specs.Prelude.{◌≡◌, ◌-◌, ℕ, Option, length};
     ghost use Rattle.desk_core.specs.Board.{board_of};
+    ghost use Rattle.desk_core.specs.Present.{rule_at};
     ghost use Rattle.desk_core.specs.Status.{status_map};
     ghost use Rattle.tail.specs.Tail.{forgotten};
 
@@ -28,6 +31,13 @@ pub trait Console<P: Probe>: Registrar<P> {
         ensures names { Self.names self.new ≡ Self.names self.old }
         ensures looks { looks self.old self.new }
         ensures board { result ≡ board_of (Self.seen self.new) };
+
+    /// The rule that a slot is registered by, and how many entries there are where it is so.
+    fn rule(&mut self, slot: Slot) -> Ruled
+        ensures names { Self.names self.new ≡ Self.names self.old }
+        ensures looks { looks self.old self.new }
+        ensures rule { result.rule ≡ rule_at (Self.seen self.new) slot }
+        ensures entries { result.entries ≡ length (Self.seen self.new) };
 
     /// How many entries there are, and how many of them are in memory.
     fn extent(&mut self) -> Extent

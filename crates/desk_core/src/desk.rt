@@ -1,4 +1,6 @@
 ghost use Rattle.std.specs.Prelude.{◌≡◌, ◌<◌, ◌+◌, ◌*◌, ◌^◌, unwrap_or};
+ghost use Rattle.std.specs.List.{list_any};
+ghost use Rattle.desk_core.specs.Silence.{retimes};
 ghost use Rattle.desk_core.specs.Shut.{says_shut};
 
 use crate::call::{Call, Finding, Setting};
@@ -57,7 +59,7 @@ impl<P: Probe, K: Keep> Model for Desk<P, K> {
 
 impl<P: Probe, K: Keep> Desk<P, K> {
     ghost use Rattle.desk_core.specs.declared.change.Change.{Change};
-    ghost use Rattle.std.specs.Prelude.{◌≡◌, ◌≢◌, ◌<◌, ◌≤◌, ◌↔◌, ℕ, List, length, None, Ok, Err, IfSome, IfNone, IfOk, IfErr, IsErr, IsTrue, OnOk, OnErr, MatchResult};
+    ghost use Rattle.std.specs.Prelude.{◌≡◌, ◌≢◌, ◌<◌, ◌≤◌, ◌↔◌, ◌-◌, ◌++◌, ℕ, List, length, take, drop, None, Ok, Err, IfSome, IfNone, IfOk, IfErr, IsErr, IsTrue, IsFalse, OnOk, OnErr, MatchResult};
     ghost use Rattle.std.specs.Option.{option_map};
     ghost use Rattle.desk_core.specs.Past.{past};
     ghost use Rattle.desk_core.specs.Mutation.{rule_of};
@@ -70,6 +72,9 @@ impl<P: Probe, K: Keep> Desk<P, K> {
     ghost use Rattle.desk_core.specs.Watch.{IsBehind, opened, stepped};
     ghost use Rattle.tail.specs.Tail.{kept_of, most_held};
     ghost use Rattle.desk_core.specs.Board.{board_of};
+    ghost use Rattle.desk_core.specs.Silence.{is_to_fail};
+    ghost use Rattle.tail.specs.Tail.{forgotten};
+    ghost use Rattle.std.specs.Vec.{vec_len, vec_capacity};
     ghost use Rattle.desk_core.specs.Desk.{HasAnswered, HoldsMemory, IsAtLimit, new_desk, probe_at, probe_of};
 
     /// An empty desk, whose journal takes at most so many entries. It takes no memory yet.
@@ -175,8 +180,8 @@ impl<P: Probe, K: Keep> Desk<P, K> {
         }
     }
 
-    /// The rule in force.
-    fn rule(&self, slot: Slot) -> Option<Rule>
+    /// The rule that the slot is registered by.
+    pub fn rule(&self, slot: Slot) -> Option<Rule>
         ensures { result ≡ rule_at (past self.now.journal) slot }
     {
         self.slots.rule(slot)
@@ -338,6 +343,49 @@ impl<P: Probe, K: Keep> Desk<P, K> {
     {
         copy.follow(self.history.changes())
     }
+
+    /// Copies entries from this place of the journal on, the oldest first, as many as there is room for. It copies none, and says so,
+    /// where one of them is forgotten.
+    pub fn copy_entries(&self, from: u64, entries: &mut Vec<Entry>) -> bool
+        ensures copied { IsTrue result → entries.new.items ≡ entries.old.items
+            ++ take (vec_capacity entries.old - vec_len entries.old) (drop from self.now.journal) }
+        ensures none { IsFalse result → entries.new ≡ entries.old }
+        ensures forgotten { IsFalse result
+            ↔ (from < forgotten K.kept (length self.now.journal)) }
+        ensures room { vec_capacity entries.old ≤ vec_capacity entries.new }
+        ensures legal { IsLegal (past self.now.journal) }
+    {
+        let Some(found) = self.history.since(from) else {
+            return false;
+        };
+        let room = entries.capacity() - entries.len();
+        entries
+            .extend_from_slice(&found[..room.min(found.len())])
+            .unwrap();
+        true
+    }
+
+    /// Whether a fail is to be made of the slot, of which this seat has heard nothing up to this place of the journal for as long as it
+    /// is to be heard: where it was heard since, or its place is forgotten, it is not.
+    pub fn is_to_fail(&self, seat: u16, slot: Slot, from: u64) -> bool
+        ensures value { result ≡ is_to_fail K.kept seat slot from (past self.now.journal) }
+        ensures legal { IsLegal (past self.now.journal) }
+    {
+        let Some(entries) = self.history.since(from) else {
+            return false;
+        };
+        if self.is_shut || is_retimed(entries, seat, slot) {
+            return false;
+        }
+        self.slots.may_fall(slot)
+    }
+}
+
+/// Whether one of the entries begins the slot's time anew, or ends what is expected of it.
+fn is_retimed(entries: &[Entry], seat: u16, slot: Slot) -> bool
+    ensures { result ≡ list_any (λ entry. retimes seat slot entry) entries.now }
+{
+    entries.iter().any(|entry| entry.retimes(seat, slot))
 }
 
 /// What a desk that keeps all can tell.

@@ -23,13 +23,13 @@ pub(crate) struct History {
 }
 
 impl History {
-    ghost use Rattle.std.specs.Prelude.{◌≡◌, ℕ, ◌+◌, ◌^◌, ◌<◌, ◌≤◌, Some, [], ◌∷◌, ◌++◌, ◌↔◌, length, replicate, IfSome, IsOk, IsTrue, IfOk, OnOk, OnErr};
+    ghost use Rattle.std.specs.Prelude.{◌≡◌, ℕ, ◌+◌, ◌^◌, ◌<◌, ◌≤◌, Some, [], ◌∷◌, ◌++◌, ◌↔◌, length, drop, replicate, IfSome, IsNone, IsOk, IsTrue, IfOk, OnOk, OnErr};
     ghost use Rattle.desk_core.specs.Cache.{IsRelated};
     ghost use Rattle.desk_core.specs.Changes.{changed};
     ghost use Rattle.desk_core.specs.Mutation.{entry_of};
     ghost use Rattle.desk_core.specs.Slots.{shown_in, touched};
     ghost use Rattle.desk_core.specs.Desk.{IsShown};
-    ghost use Rattle.tail.specs.Tail.{kept_of, most_held};
+    ghost use Rattle.tail.specs.Tail.{forgotten, kept_of, most_held};
 
     /// An empty one, which keeps so many entries and changes, or all.
     pub(crate) fn new(alloc: Global, keep: Option<u32>) -> History
@@ -59,6 +59,16 @@ impl History {
         ensures { result.now ≡ kept_of self.now.journal.keep self.now.journal.items }
     {
         self.journal.kept()
+    }
+
+    /// The entries from this place on, unless one of them is forgotten.
+    pub(crate) fn since(&self, place: u64) -> Option<&[Entry]>
+        ensures items { IfSome result (λ entries.
+            entries.now ≡ drop place self.now.journal.items) }
+        ensures forgotten { IsNone result
+            ↔ (place < forgotten self.now.journal.keep (length self.now.journal.items)) }
+    {
+        self.journal.since(place)
     }
 
     pub(crate) fn changes(&self) -> &Tail<Change>

@@ -17,7 +17,7 @@ pub(crate) struct Slots<P: Probe> {
 }
 
 impl<P: Probe> Slots<P> {
-    ghost use Rattle.std.specs.Prelude.{◌≡◌, ◌≢◌, ◌<◌, ◌≤◌, ℕ, List, [], None, Some, length, slice_index_or, slice_set, map, IsOk, OnOk};
+    ghost use Rattle.std.specs.Prelude.{◌≡◌, ◌≢◌, ◌<◌, ◌≤◌, ℕ, List, [], None, Some, false, length, slice_index_or, slice_set, map, IsOk, OnOk};
     ghost use Rattle.std.specs.Option.{option_copied, option_map};
     ghost use Rattle.desk_core.specs.declared.entry.Entry.{Entry};
     ghost use Rattle.desk_core.specs.Past.{past};
@@ -26,6 +26,9 @@ impl<P: Probe> Slots<P> {
     ghost use Rattle.desk_core.specs.Slots.{was_reset, HasSame, IsHeard, IsApplied, held_at};
     ghost use Rattle.desk_core.specs.Mutation.{rule_of};
     ghost use Rattle.desk_core.specs.Desk.{Keeps};
+    ghost use Rattle.desk_core.specs.Silence.{falls_at};
+    ghost use Rattle.probe_core.specs.declared.rule.Rule.{Rule};
+    ghost use Rattle.probe_core.specs.Rule.{HasCounts};
 
     pub(crate) fn new(alloc: Global) -> Slots<P>
         ensures { result.places.items ≡ [] }
@@ -62,6 +65,18 @@ impl<P: Probe> Slots<P> {
             ≡ option_map (λ state. state.0) (slice_index_or self.now.places.items slot None) }
     {
         self.get(slot).map(|owned| owned.rule())
+    }
+
+    /// Whether a fail would change what the slot's probe counts.
+    pub(crate) fn may_fall(&self, slot: Slot) -> bool
+        ensures some { (state : Rule × ℕ) → slice_index_or self.now.places.items slot None ≡ Some state
+            → HasCounts state.0 → result ≡ falls_at state.0 state.1 }
+        ensures none { slice_index_or self.now.places.items slot None ≡ None → result ≡ false }
+    {
+        match self.get(slot) {
+            Some(owned) => owned.may_fall(),
+            None => false,
+        }
     }
 
     /// Does what a call that had this reply does to the probes, with the probe that it registers. Gives back the one that it takes

@@ -1,5 +1,6 @@
 pub mod Views
 pub mod Gates
+pub mod Silence
 pub mod Steps
 pub mod Seats
 pub mod Fault

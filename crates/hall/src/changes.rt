@@ -190,7 +190,7 @@ impl<P: Probe, K: Keep> Hall<P, K> {
     }
 }
 
-fn entry(seat: u16, call: &Call, reply: Reply) -> Entry
+pub(crate) fn entry(seat: u16, call: &Call, reply: Reply) -> Entry
     ensures { result ≡ entry_of seat call.now reply }
 {
     Entry {

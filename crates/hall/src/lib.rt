@@ -36,6 +36,7 @@ mod hall;
 mod looking;
 mod note;
 mod seat;
+mod silence;
 mod steps;
 mod view;
 

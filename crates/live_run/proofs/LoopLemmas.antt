@@ -15,6 +15,13 @@ use Rattle.control_server.proofs.SeatLemmas.{met_line_ours}
 use Rattle.control.specs.declared.rights.Rights.TheVariants.{All as AllRights, Reports}
 use Rattle.control.specs.declared.terms.Terms.{Terms}
 use Rattle.live_run.specs.Sitting.{terms_by}
+use Rattle.live_run.specs.Watched.{IsWatchedBy, guards_at, guards_in}
+use Rattle.live_run.specs.declared.watchdog_loop.WatchdogLoop.{WatchdogLoop}
+use Rattle.std.specs.Prelude.{Bool, true, false, Option, None, Some}
+use Rattle.watchdog.specs.Falling.{HaveFailed, NoFail, OneMore, HasFallen, Down, WasRefused}
+use Rattle.watchdog.specs.Guard.{GuardState}
+use Rattle.watchdog.specs.Watching.{HasWatched, Begins, Sees, Steps, IsStep, Stays, Wishes, Follows, PassesBy, Skips, Waits, Expires, IsRefused}
+use Rattle.watchdog.proofs.FallLemmas.{carried_of}
 use Rattle.live_run.specs.Loops.{HasServedAll, HaveServed, HaveServedAll, SeatsHaveLooked, SeatsHaveServed}
 
 -- an element of the middle one of three parts
@@ -37,13 +44,13 @@ long : {X Y : Type 0} (v : X → Y) (first rest : List Y) (xs : List X) → leng
 long v first rest xs = omega (arith, length-append first (map v xs ++ rest), length-append (map v xs) rest, length-map xs v)
 
 -- the loops' seats have looked
-loops_looked : {P K : Type 0} (first rest rest' : List SeatState) (old new : List (SeatedLoop P K)) → length first ≡ 1 → length new ≡ length old → HaveServed old new
+loops_looked : {P K : Type 0} (first first' rest rest' : List SeatState) (old new : List (SeatedLoop P K)) → length first ≡ 1 → length first' ≡ 1 → length new ≡ length old → HaveServed old new
     → (place : ℕ) (other : SeatState) → place < length old
-    → HasLooked (get_or (first ++ (map (λ seated. seated.seat) old ++ rest)) (1 + place) other) (get_or (first ++ (map (λ seated. seated.seat) new ++ rest')) (1 + place) other)
-loops_looked first rest rest' [] new one same served place other below = absurd (omega (arith, below))
-loops_looked {P} {K} first rest rest' (seated ∷ old) new one same served place other below =
+    → HasLooked (get_or (first ++ (map (λ seated. seated.seat) old ++ rest)) (1 + place) other) (get_or (first' ++ (map (λ seated. seated.seat) new ++ rest')) (1 + place) other)
+loops_looked first first' rest rest' [] new one one' same served place other below = absurd (omega (arith, below))
+loops_looked {P} {K} first first' rest rest' (seated ∷ old) new one one' same served place other below =
     let seat : SeatedLoop P K → SeatState = λ one. one.seat in
-    rw (middle seat first rest (seated ∷ old) place seated other one below, middle seat first rest' new place seated other one (omega (arith, same, below)))
+    rw (middle seat first rest (seated ∷ old) place seated other one below, middle seat first' rest' new place seated other one' (omega (arith, same, below)))
     (served place seated below).looked
 
 -- where loops have served, the seats have looked
@@ -56,21 +63,30 @@ seats_looked {P} {K} first rest old new loops one count same served =
       looked = λ place other least most.
           let at : 1 + (place - 1) ≡ place = omega (arith, least) in
           subst (λ (n : ℕ). HasLooked (get_or (first ++ (map seat old ++ rest)) n other) (get_or (first ++ (map seat new ++ rest)) n other)) at
-          (loops_looked first rest rest old new one same served (place - 1) other (omega (arith, least, most, count)));
+          (loops_looked first first rest rest old new one one same served (place - 1) other (omega (arith, least, most, count)));
       spare = λ place other past.
           behind seat first rest new place other one (omega (arith, past, count, same))
           ∙ (ap (λ (n : ℕ). get_or rest (place - 1 - n) other) same ∙ sym (behind seat first rest old place other one (omega (arith, past, count))));
     }
 
 -- where nobody held sessions, the seats behind the loops' are as they were
-pub seats_looked_by : {P K : Type 0} (first control control' report report' : List SeatState) (old new : List (SeatedLoop P K)) (loops : ℕ) → length first ≡ 1 → length old ≡ loops → length new ≡ length old
-    → HaveServed old new → control' ≡ control → report' ≡ report
-    → SeatsHaveLooked loops (first ++ (map (λ seated. seated.seat) old ++ (control ++ report))) (first ++ (map (λ seated. seated.seat) new ++ (control' ++ report')))
-seats_looked_by {P} {K} first control control' report report' old new loops one count same served still quiet =
+pub seats_looked_by : {P K : Type 0} (first first' control control' report report' : List SeatState) (old new : List (SeatedLoop P K)) (loops : ℕ) → length first ≡ 1 → length old ≡ loops
+    → length new ≡ length old → HaveServed old new → first' ≡ first → control' ≡ control → report' ≡ report
+    → SeatsHaveLooked loops (first ++ (map (λ seated. seated.seat) old ++ (control ++ report))) (first' ++ (map (λ seated. seated.seat) new ++ (control' ++ report')))
+seats_looked_by {P} {K} first first' control control' report report' old new loops one count same served stays still quiet =
     let seat : SeatedLoop P K → SeatState = λ one. one.seat in
-    subst (λ (c : List SeatState). SeatsHaveLooked loops (first ++ (map seat old ++ (control ++ report))) (first ++ (map seat new ++ (c ++ report')))) (sym still)
+    subst (λ (f : List SeatState). SeatsHaveLooked loops (first ++ (map seat old ++ (control ++ report))) (f ++ (map seat new ++ (control' ++ report')))) (sym stays)
+    (subst (λ (c : List SeatState). SeatsHaveLooked loops (first ++ (map seat old ++ (control ++ report))) (first ++ (map seat new ++ (c ++ report')))) (sym still)
     (subst (λ (r : List SeatState). SeatsHaveLooked loops (first ++ (map seat old ++ (control ++ report))) (first ++ (map seat new ++ (control ++ r)))) (sym quiet)
-    (seats_looked first (control ++ report) old new loops one count same served))
+    (seats_looked first (control ++ report) old new loops one count same served)))
+
+-- the only seat of a list that is as it was
+pub one_stays : (old new : List SeatState) → length old ≡ 1 → length new ≡ length old → ((other : SeatState) → get_or new 0 other ≡ get_or old 0 other) → new ≡ old
+one_stays [] new one same first = absurd (omega (arith, one))
+one_stays (seat ∷ x ∷ xs) new one same first = absurd (omega (arith, one))
+one_stays (seat ∷ []) [] one same first = absurd (omega (arith, same))
+one_stays (seat ∷ []) (now ∷ []) one same first = ap (λ (s : SeatState). s ∷ []) (first seat)
+one_stays (seat ∷ []) (now ∷ x ∷ xs) one same first = absurd (omega (arith, same))
 
 -- a seat of the first of two parts, and one of the second
 in_first : (terms : Terms) (names : List (List ℕ)) (control control' report report' : List SeatState) (k : ℕ) (other : SeatState) → SeatsHaveMet terms names control control' → k < length control
@@ -85,27 +101,32 @@ in_second terms mine names control control' report report' k other first met pas
     (met.each (k - length control) other (omega (arith, past, below)))
 
 -- where sessions were held beside loops, the loops' seats have looked, and lines were met by those behind them
-pub seats_served : {P K : Type 0} (most : ℕ) (names : List (List ℕ)) (first control control' report report' : List SeatState) (old new : List (SeatedLoop P K)) (loops controlled : ℕ) → length first ≡ 1
+pub seats_served : {P K : Type 0} (kept : Option ℕ) (watching watching_now : Option WatchdogLoop) (most : ℕ) (names : List (List ℕ)) (first first' control control' report report' : List SeatState)
+    (old new : List (SeatedLoop P K)) (loops controlled : ℕ) → length first ≡ 1 → length first' ≡ length first
+    → ((other : SeatState) → IsWatchedBy kept watching watching_now (get_or first 0 other) (get_or first' 0 other))
     → length old ≡ loops → length new ≡ length old → length control ≡ controlled → HaveServed old new
     → SeatsHaveMet (terms_by AllRights most) names control control' → SeatsHaveMet (terms_by Reports most) names report report'
-    → SeatsHaveServed most names loops controlled (first ++ (map (λ seated. seated.seat) old ++ (control ++ report))) (first ++ (map (λ seated. seated.seat) new ++ (control' ++ report')))
-seats_served {P} {K} most names first control control' report report' old new loops controlled one count same split served met reported =
+    → SeatsHaveServed kept watching watching_now most names loops controlled (first ++ (map (λ seated. seated.seat) old ++ (control ++ report)))
+    (first' ++ (map (λ seated. seated.seat) new ++ (control' ++ report')))
+seats_served {P} {K} kept watching watching_now most names first first' control control' report report' old new loops controlled one one' watched count same split served met reported =
     let seat : SeatedLoop P K → SeatState = λ one. one.seat in
     let rest : List SeatState = control ++ report in
     let rest' : List SeatState = control' ++ report' in
     let lens : length rest' ≡ length rest = omega (arith, length-append control report, length-append control' report', met.count, reported.count) in
     let at : (place : ℕ) (other : SeatState) → loops < place → get_or (first ++ (map seat old ++ rest)) place other ≡ get_or rest (place - 1 - loops) other =
     λ place other past. behind seat first rest old place other one (omega (arith, past, count)) ∙ ap (λ (n : ℕ). get_or rest (place - 1 - n) other) count in
-    let at' : (place : ℕ) (other : SeatState) → loops < place → get_or (first ++ (map seat new ++ rest')) place other ≡ get_or rest' (place - 1 - loops) other =
-    λ place other past. behind seat first rest' new place other one (omega (arith, past, count, same)) ∙ ap (λ (n : ℕ). get_or rest' (place - 1 - n) other) (same ∙ count) in
+    let at' : (place : ℕ) (other : SeatState) → loops < place → get_or (first' ++ (map seat new ++ rest')) place other ≡ get_or rest' (place - 1 - loops) other =
+    λ place other past. behind seat first' rest' new place other (one' ∙ one) (omega (arith, past, count, same)) ∙ ap (λ (n : ℕ). get_or rest' (place - 1 - n) other) (same ∙ count) in
     let all : length (first ++ (map seat old ++ rest)) ≡ length first + (length old + length rest) = long seat first rest old in
     record {
-      seats = omega (arith, all, long seat first rest' new, same, lens);
-      first = λ other. get_or_append_left first (map seat new ++ rest') other 0 (omega (arith, one)) ∙ sym (get_or_append_left first (map seat old ++ rest) other 0 (omega (arith, one)));
+      seats = omega (arith, all, long seat first' rest' new, same, lens, one');
+      first = λ other.
+          rw (get_or_append_left first (map seat old ++ rest) other 0 (omega (arith, one)), get_or_append_left first' (map seat new ++ rest') other 0 (omega (arith, one, one')))
+          (watched other);
       looked = λ place other least most_of.
           let here : 1 + (place - 1) ≡ place = omega (arith, least) in
-          subst (λ (n : ℕ). HasLooked (get_or (first ++ (map seat old ++ rest)) n other) (get_or (first ++ (map seat new ++ rest')) n other)) here
-          (loops_looked first rest rest' old new one same served (place - 1) other (omega (arith, least, most_of, count)));
+          subst (λ (n : ℕ). HasLooked (get_or (first ++ (map seat old ++ rest)) n other) (get_or (first' ++ (map seat new ++ rest')) n other)) here
+          (loops_looked first first' rest rest' old new one (one' ∙ one) same served (place - 1) other (omega (arith, least, most_of, count)));
       sessions = λ place other past within below.
           rw (at place other past, at' place other past) (in_first (terms_by AllRights most) names control control' report report' (place - 1 - loops) other met (omega (arith, past, within, split)));
       reports = λ place other past below.
@@ -177,11 +198,46 @@ loops_ours {P} {K} hall first rest loops one ours place other below =
     subst (IsOf hall) (middle seat first rest loops place other other.seat one below)
     (All-get_or (IsOf hall) (first ++ (map seat loops ++ rest)) (1 + place) other.seat (omega (arith, long seat first rest loops, one, below)) ours)
 
+-- a watchdog's seat stays the hall's
+failed_ours : (kept : Option ℕ) (slot from : ℕ) (hall : HallState) (old new : SeatState) (made : Bool) → IsOf hall old → HaveFailed kept slot from old new made → IsOf hall new
+failed_ours kept slot from hall old new made ours (NoFail seat) = ours
+failed_ours kept slot from hall old new made ours (OneMore first between last made' reply failed carried due) =
+    carried_of hall between new _ _ (failed_ours kept slot from hall old between made' ours failed) carried
+
+fallen_ours : (kept : Option ℕ) (slot from : ℕ) (hall : HallState) (old new : SeatState) (made refused : Bool) → IsOf hall old → HasFallen kept slot from old new made refused → IsOf hall new
+fallen_ours kept slot from hall old new made refused ours (Down between failed looked none) =
+    looked_ours hall between new (failed_ours kept slot from hall old between made ours failed) looked
+fallen_ours kept slot from hall old new made refused ours (WasRefused between refusal failed carried) =
+    carried_of hall between new _ _ (failed_ours kept slot from hall old between made ours failed) carried
+
+step_ours : (kept : Option ℕ) (hall : HallState) (guard : GuardState) (old : SeatState) (guard_now : GuardState) (new : SeatState) → IsOf hall old → IsStep kept guard old guard_now new → IsOf hall new
+step_ours kept hall guard old guard_now new ours Stays = ours
+step_ours kept hall guard old guard_now new ours (Wishes wish) = ours
+step_ours kept hall guard old guard_now new ours (Follows now entries are) = ours
+step_ours kept hall guard old guard_now new ours (PassesBy place none) = ours
+step_ours kept hall guard old guard_now new ours (Skips now place gone) = ours
+step_ours kept hall guard old guard_now new ours (Waits now early) = ours
+step_ours kept hall guard old guard_now new ours (Expires now last made due fell) = fallen_ours kept guard.slot guard.place hall old new made false ours fell
+step_ours kept hall guard old guard_now new ours (IsRefused now last made due fell) = fallen_ours kept guard.slot guard.place hall old new made true ours fell
+
+pub steps_ours : (kept : Option ℕ) (hall : HallState) (guards guards_now : List GuardState) (old new : SeatState) → IsOf hall old → HasWatched kept guards old guards_now new → IsOf hall new
+steps_ours kept hall guards guards_now old new ours (Begins gs seat) = ours
+steps_ours kept hall guards guards_now old new ours (Sees gs gs_now seat between last watched looked) =
+    looked_ours hall between new (steps_ours kept hall guards guards_now old between ours watched) looked
+steps_ours kept hall guards guards_now old new ours (Steps gs between seat before last place guard other watched below step) =
+    step_ours kept hall (get_or between place other) before guard new (steps_ours kept hall guards between old before ours watched) step
+
+watched_ours : (kept : Option ℕ) (watching watching_now : Option WatchdogLoop) (hall : HallState) (old new : SeatState) → IsWatchedBy kept watching watching_now old new → IsOf hall old → IsOf hall new
+watched_ours kept None watching_now hall old new same ours = subst (IsOf hall) (sym same) ours
+watched_ours kept (Some watching) watching_now hall old new watched ours = steps_ours kept hall (guards_in watching) (guards_at watching_now) old new ours watched
+
 -- all seats stay the hall's beside sessions too
-ours_at : (most : ℕ) (names : List (List ℕ)) (hall : HallState) (loops controlled : ℕ) (old new : List SeatState) → SeatsHaveServed most names loops controlled old new → (place : ℕ) (other : SeatState)
+ours_at : (kept : Option ℕ) (watching watching_now : Option WatchdogLoop) (most : ℕ) (names : List (List ℕ)) (hall : HallState) (loops controlled : ℕ) (old new : List SeatState)
+    → SeatsHaveServed kept watching watching_now most names loops controlled old new → (place : ℕ) (other : SeatState)
     → place < length old → IsOf hall (get_or old place other) → IsOf hall (get_or new place other)
-ours_at most names hall loops controlled old new served zero other below was = subst (IsOf hall) (sym (served.first other)) was
-ours_at most names hall loops controlled old new served (suc place) other below was =
+ours_at kept watching watching_now most names hall loops controlled old new served zero other below was =
+    watched_ours kept watching watching_now hall (get_or old 0 other) (get_or new 0 other) (served.first other) was
+ours_at kept watching watching_now most names hall loops controlled old new served (suc place) other below was =
     ⊎_elim
     (λ past. ⊎_elim
     (λ far. met_line_ours (terms_by Reports most) names hall (get_or old (suc place) other) (get_or new (suc place) other) (served.reports (suc place) other far below) was)
@@ -190,11 +246,17 @@ ours_at most names hall loops controlled old new served (suc place) other below 
     (λ most_of. looked_ours hall (get_or old (suc place) other) (get_or new (suc place) other) was (served.looked (suc place) other (omega arith) most_of))
     (cases_lt loops (suc place))
 
-pub all_ours : (most : ℕ) (names : List (List ℕ)) (hall : HallState) (loops controlled : ℕ) (old new : List SeatState) → SeatsHaveServed most names loops controlled old new → All (IsOf hall) old
-    → All (IsOf hall) new
-all_ours most names hall loops controlled old new served ours place other below =
+pub all_ours : (kept : Option ℕ) (watching watching_now : Option WatchdogLoop) (most : ℕ) (names : List (List ℕ)) (hall : HallState) (loops controlled : ℕ) (old new : List SeatState)
+    → SeatsHaveServed kept watching watching_now most names loops controlled old new → All (IsOf hall) old → All (IsOf hall) new
+all_ours kept watching watching_now most names hall loops controlled old new served ours place other below =
     let within : place < length old = omega (arith, served.seats, below) in
-    ours_at most names hall loops controlled old new served place other within (All-get_or (IsOf hall) old place other within ours)
+    ours_at kept watching watching_now most names hall loops controlled old new served place other within (All-get_or (IsOf hall) old place other within ours)
+
+-- the first seat is the hall's
+pub first_ours : {X : Type 0} (seat : X → SeatState) (hall : HallState) (first rest : List SeatState) (loops : List X) → All (IsOf hall) (first ++ (map seat loops ++ rest)) → All (IsOf hall) first
+first_ours seat hall first rest loops ours place other below =
+    subst (IsOf hall) (get_or_append_left first (map seat loops ++ rest) other place below)
+    (All-get_or (IsOf hall) (first ++ (map seat loops ++ rest)) place other (omega (arith, below, length-append first (map seat loops ++ rest))) ours)
 
 -- the seats that sessions use are the hall's
 spare_ours : {X : Type 0} (seat : X → SeatState) (hall : HallState) (first rest : List SeatState) (loops : List X) → length first ≡ 1

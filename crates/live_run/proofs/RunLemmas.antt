@@ -17,8 +17,10 @@ use Rattle.server.specs.Setup.{AreSetUp, SetUpState}
 use Rattle.live_run.specs.declared.run_fault.RunFault.{RunFault}
 use Rattle.live_run.specs.declared.run_fault.RunFault.TheVariants as faults
 use Rattle.live_server.specs.Loop.{EventServer}
+use Rattle.live_run.specs.declared.ran.SessionPlaces.{SessionPlaces}
 use Rattle.live_run.specs.declared.seated_loop.SeatedLoop.{SeatedLoop}
 use Rattle.live_run.specs.declared.seating.Seating.{Seating}
+use Rattle.live_run.specs.declared.watchdog_loop.WatchdogLoop.{WatchdogLoop}
 use Rattle.live_run.specs.Loops.{SeatsHaveLooked, SeatsHaveServed}
 use Rattle.live_run.specs.Seating.{IsSeatingOf, seats_of}
 use Rattle.live_run.specs.WholeRun.{HasRun, HasRunLoops, IsLaterFault, NoMemory, SeatsMissing}
@@ -116,14 +118,14 @@ has_run hall own loops seats after journal same looked all legal seen counted = 
 }
 
 -- the same beside sessions
-pub served_by : {P K : Type 0} (most : ℕ) (names : List (List ℕ)) (servers : List EventServer) (loops : ℕ) (seats places after : List SeatState) (seating : Seating P K)
+pub served_by : {P K : Type 0} (kept : Option ℕ) (watching watching_now : Option WatchdogLoop) (most : ℕ) (names : List (List ℕ)) (servers : List EventServer) (loops : ℕ) (seats places after : List SeatState) (seating : Seating P K)
     → loops ≡ length servers → vec_len seating.loops ≡ length seating.loops.items → places ≡ seats → IsSeatingOf servers places seating
-    → SeatsHaveServed most names (vec_len seating.loops) (vec_len seating.control) (seats_of seating) after → SeatsHaveServed most names loops (vec_len seating.control) seats after
-served_by {P} {K} most names servers loops seats places after seating count len same are served =
+    → SeatsHaveServed kept watching watching_now most names (vec_len seating.loops) (vec_len seating.control) (seats_of seating) after → SeatsHaveServed kept watching watching_now most names loops (vec_len seating.control) seats after
+served_by {P} {K} kept watching watching_now most names servers loops seats places after seating count len same are served =
     let server : SeatedLoop P K → EventServer = λ seated. seated.server in
     let many : vec_len seating.loops ≡ loops = len ∙ (sym (length-map seating.loops.items server) ∙ (ap length are.servers ∙ sym count)) in
-    subst (λ (some : List SeatState). SeatsHaveServed most names loops (vec_len seating.control) some after) (are.seats ∙ same)
-    (subst (λ (n : ℕ). SeatsHaveServed most names n (vec_len seating.control) (seats_of seating) after) many served)
+    subst (λ (some : List SeatState). SeatsHaveServed kept watching watching_now most names loops (vec_len seating.control) some after) (are.seats ∙ same)
+    (subst (λ (n : ℕ). SeatsHaveServed kept watching watching_now most names n (vec_len seating.control) (seats_of seating) after) many served)
 
 -- how many seats the control place has
 pub controlled_by : {P K : Type 0} (servers : List EventServer) (loops : ℕ) (seats places : List SeatState) (seating : Seating P K) → loops ≡ length servers → places ≡ seats → IsSeatingOf servers places seating
@@ -131,13 +133,13 @@ pub controlled_by : {P K : Type 0} (servers : List EventServer) (loops : ℕ) (s
 controlled_by servers loops seats places seating count same are =
     are.control_are ∙ (ap (λ (n : ℕ). min 32 (length places - (1 + n))) (sym count) ∙ ap (λ (all : List SeatState). min 32 (length all - (1 + loops))) same)
 
-pub has_run_beside : (hall own : HallState) (loops controlled : ℕ) (seats after : List SeatState) (journal : List Entry) → own ≡ hall → controlled ≡ min 32 (length seats - (1 + loops)) → SeatsHaveServed own.most own.names loops controlled seats after → length after ≡ own.seats
-    → IsLegal (past journal) → All (IsSeenIn (past journal)) after → length journal ≡ sum_by made after → HasRun hall loops seats (past journal)
-has_run_beside hall own loops controlled seats after journal same split served all legal seen counted = record {
+pub has_run_beside : (kept : Option ℕ) (places places_now : SessionPlaces) (hall own : HallState) (loops controlled : ℕ) (seats after : List SeatState) (journal : List Entry) → own ≡ hall → controlled ≡ min 32 (length seats - (1 + loops)) → SeatsHaveServed kept places.watchdog places_now.watchdog own.most own.names loops controlled seats after → length after ≡ own.seats
+    → IsLegal (past journal) → All (IsSeenIn (past journal)) after → length journal ≡ sum_by made after → HasRun kept places places_now hall loops seats (past journal)
+has_run_beside kept places places_now hall own loops controlled seats after journal same split served all legal seen counted = record {
   controlled = controlled;
   controlled_are = split;
   after = after;
-  served = subst (λ (one : HallState). SeatsHaveServed one.most one.names loops controlled seats after) same served;
+  served = subst (λ (one : HallState). SeatsHaveServed kept places.watchdog places_now.watchdog one.most one.names loops controlled seats after) same served;
   all = all ∙ ap (λ (one : HallState). one.seats) same;
   legal = legal;
   seen = seen;

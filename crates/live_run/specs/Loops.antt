@@ -1,5 +1,5 @@
 -- What loops leave of a hall's seats.
-use Rattle.std.specs.Prelude.{ℕ, ◌≡◌, ◌<◌, ◌≤◌, ◌+◌, List, length}
+use Rattle.std.specs.Prelude.{ℕ, ◌≡◌, ◌<◌, ◌≤◌, ◌+◌, List, Option, length}
 use Rattle.std.specs.List.{slice_index_or}
 use Rattle.hall.specs.Seats.{SeatState}
 use Rattle.hall.specs.Looking.{HasLooked}
@@ -10,6 +10,8 @@ use Rattle.live_server.specs.Loop.{EventServer, held_by}
 use Rattle.live_server.specs.Settled.{KeepsAccount}
 use Rattle.live_run.specs.declared.seated_loop.SeatedLoop.{SeatedLoop}
 use Rattle.live_run.specs.Sitting.{terms_by}
+use Rattle.live_run.specs.Watched.{IsWatchedBy}
+use Rattle.live_run.specs.declared.watchdog_loop.WatchdogLoop.{WatchdogLoop}
 
 -- a loop has served until no connection was left: as many may be held as before, and none that it took in or that ended is forgotten
 pub record HasServedAll (old new : EventServer) : Type 0 where
@@ -42,10 +44,10 @@ pub record SeatsHaveLooked (loops : ℕ) (old new : List SeatState) : Type 0 whe
 
 -- Loops have looked by so many seats behind the first. By each of the seats behind these, so many, lines of the control place's sessions
 -- were met, one after the other, and by each of those behind them lines of the report place's, over a catalogue of these names and a
--- history of at most so many entries. The first seat is as it was
-pub record SeatsHaveServed (most : ℕ) (names : List (List ℕ)) (loops controlled : ℕ) (old new : List SeatState) : Type 0 where
+-- history of at most so many entries. By the first seat a watchdog has kept watch, if there is one
+pub record SeatsHaveServed (kept : Option ℕ) (watching watching_now : Option WatchdogLoop) (most : ℕ) (names : List (List ℕ)) (loops controlled : ℕ) (old new : List SeatState) : Type 0 where
   pub seats : length new ≡ length old
-  pub first : (other : SeatState) → slice_index_or new 0 other ≡ slice_index_or old 0 other
+  pub first : (other : SeatState) → IsWatchedBy kept watching watching_now (slice_index_or old 0 other) (slice_index_or new 0 other)
   pub looked : (place : ℕ) (other : SeatState) → 1 ≤ place → place ≤ loops
       → HasLooked (slice_index_or old place other) (slice_index_or new place other)
   pub sessions : (place : ℕ) (other : SeatState) → loops < place → place ≤ loops + controlled → place < length old

@@ -1,5 +1,5 @@
 -- Loops on their seats, with the seats beside theirs.
-use Rattle.std.specs.Prelude.{◌≡◌, ◌+◌, ◌-◌, ◌≤◌, min, Vec, List, [], ◌∷◌, ◌++◌, length, map, vec_len, vec_capacity}
+use Rattle.std.specs.Prelude.{◌≡◌, ◌+◌, ◌-◌, ◌≤◌, min, Vec, List, [], ◌++◌, length, map, vec_len, vec_capacity}
 use Rattle.std.specs.Global.{Global}
 use Rattle.hall.specs.Seats.{SeatState}
 use Rattle.live_server.specs.Loop.{EventServer}

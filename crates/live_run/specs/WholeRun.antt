@@ -34,22 +34,23 @@ pub record HasRunLoops (hall : HallState) (loops : ℕ) (seats : List SeatState)
   pub counted : length history ≡ sum_by (λ seat. length (own_calls seat)) after
 
 -- The same where lines of sessions were met by the seats behind the loops', those of the control place by 32 of them at most, and those of
--- the report place by the others: the history has what the setup made, the changes that lines of the control place asked for, and the findings
--- that lines of the report place told, and no others
-pub record HasRun (hall : HallState) (loops : ℕ) (seats : List SeatState) (history : List Entry) : Type 0 where
+-- the report place by the others: the history has what the setup made, the changes that lines of the control place asked for, the findings
+-- that lines of the report place told, and the fails by which the watchdog brought down what was not heard from, and no others
+pub record HasRun (kept : Option ℕ) (places places_now : SessionPlaces) (hall : HallState) (loops : ℕ) (seats : List SeatState) (history : List Entry) : Type 0 where
   pub controlled : ℕ
   pub controlled_are : controlled ≡ min 32 (length seats - (1 + loops))
   pub after : List SeatState
-  pub served : SeatsHaveServed hall.most hall.names loops controlled seats after
+  pub served : SeatsHaveServed kept places.watchdog places_now.watchdog hall.most hall.names loops controlled seats after
   pub all : length after ≡ hall.seats
   pub legal : IsLegal history
   pub seen : All (IsSeenIn history) after
   pub counted : length history ≡ sum_by (λ seat. length (own_calls seat)) after
 
--- there is neither a control place nor a report place
+-- there is neither a control place nor a report place, and no watchdog
 pub record AreNone (places : SessionPlaces) : Type 0 where
   pub control : IsNone places.control
   pub report : IsNone places.report
+  pub watchdog : places.watchdog ≡ None
 
 -- both have come back, if they were there, and hold no connection any more
 pub record HaveEnded (old new : SessionPlaces) : Type 0 where

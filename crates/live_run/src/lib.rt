@@ -36,6 +36,7 @@
 //!     let places = SessionPlaces {
 //!         control: None,
 //!         report: None,
+//!         watchdog: None,
 //!     };
 //!     run_live(rt, alloc, made, servers, places, maker, news)
 //! }
@@ -51,6 +52,8 @@ mod run_fault;
 mod seated_loop;
 mod seating;
 mod sitting;
+mod watchdog_loop;
+mod watched;
 mod whole_run;
 
 pub use laws::results_in_place;
@@ -58,4 +61,5 @@ pub use ran::{Ran, SessionPlaces};
 pub use refused_line::{RefusedLine, first_refused};
 pub use run_fault::RunFault;
 pub use seated_loop::{SeatedLoop, serve_loops};
+pub use watchdog_loop::WatchdogLoop;
 pub use whole_run::run_live;

@@ -1,13 +1,16 @@
+use crate::watchdog_loop::WatchdogLoop;
 use control_server::ControlServer;
 use desk_core::{Desk, Keep, KeepAll, board_entries};
 use live_server::EventServer;
 use probe_core::Probe;
 
-/// The loops over sessions of a server, those of its control place and those of its report place, as far as it has these places.
+/// What a server has beside the loops over calls: the loops over sessions, those of its control place and those of its report place, as
+/// far as it has these places, and the watchdog over what is expected to be heard.
 #[derive(Drop)]
 pub struct SessionPlaces {
     pub control: Option<ControlServer>,
     pub report: Option<ControlServer>,
+    pub watchdog: Option<WatchdogLoop>,
 }
 
 /// What is left of a hall that was run to its end.

@@ -5,9 +5,9 @@ ghost use Rattle.live_run.specs.Loops.{HaveServed};
 ghost use Rattle.live_run.specs.Seating.{AreDivided};
 
 use crate::ran::SessionPlaces;
-use crate::reported::serve_reported;
 use crate::seated_loop::{SeatedLoop, serve_loops};
 use crate::sitting::Sitting;
+use crate::watched::{Watch, serve_watched};
 use control_server::SESSION_SEATS;
 use desk_core::Keep;
 use hall::{Hall, Seat};
@@ -29,7 +29,8 @@ pub(crate) struct Seating<P: Probe, K: Keep> {
     pub(crate) back: Back<P, K>,
 }
 
-/// What comes back of loops: their servers, all seats, and the loops over sessions if there were any. While they serve, it holds the first seat alone.
+/// What comes back of loops: their servers, all seats, and what served beside them. While they serve, it holds the first seat alone,
+/// which the watchdog uses.
 #[derive(Drop)]
 pub(crate) struct Back<P: Probe, K: Keep> {
     pub(crate) servers: Vec<EventServer>,
@@ -81,6 +82,7 @@ impl<P: Probe, K: Keep> Seating<P, K> {
             places: SessionPlaces {
                 control: None,
                 report: None,
+                watchdog: None,
             },
         };
         let mut report = Vec::with_capacity(alloc, seats.len())?;
@@ -180,8 +182,8 @@ impl<P: Probe + Send, K: Keep + Send> Seating<P, K> {
         requires ours { All (IsOf hall.now) (seats_of self) }
         requires room { HasRoom self }
         requires terms { HaveTerms hall.now.most places }
-        ensures served { SeatsHaveServed hall.now.most hall.now.names (vec_len self.loops)
-            (vec_len self.control)
+        ensures served { SeatsHaveServed K.kept places.watchdog result.places.watchdog
+            hall.now.most hall.now.names (vec_len self.loops) (vec_len self.control)
             (seats_of self) result.seats.items }
         ensures looked { AreNone places → SeatsHaveLooked (vec_len self.loops)
             (seats_of self) result.seats.items }
@@ -203,26 +205,32 @@ impl<P: Probe + Send, K: Keep + Send> Seating<P, K> {
             server: places.control,
             seats: control,
         };
-        let (reported, (controlled, loops)) = serve_reported(
+        let Back { servers, seats, .. } = back;
+        let watch = Watch {
+            watchdog: places.watchdog,
+            seats,
+        };
+        let (watched, (reported, (controlled, loops))) = serve_watched(
             rt,
             hall,
             maker,
             news,
+            watch,
             reporters,
             controllers,
             loops,
         );
-        let Back { servers, seats, .. } = back;
         let seating = Seating {
             loops,
             control: controlled.seats,
             report: reported.seats,
             back: Back {
                 servers,
-                seats,
+                seats: watched.seats,
                 places: SessionPlaces {
                     control: controlled.server,
                     report: reported.server,
+                    watchdog: watched.watchdog,
                 },
             },
         };

@@ -24,7 +24,7 @@ use std::time::Clock;
 /// Serves by loops over a hall that is set up, beside sessions where there are places for them, until `news` tells that all is to end
 /// and no connection is left, and then closes the hall.
 ///
-/// The first seat has set the hall up. Those behind it are the loops', in their order; behind these 32 are the control place's, and the
+/// The first seat has set the hall up, and the watchdog makes its fails by it. Those behind it are the loops', in their order; behind these 32 are the control place's, and the
 /// others the report place's. Sessions make their changes by them, with probes that `maker` gives.
 pub fn run_live<R, P: Probe + Send, K: Keep + Send, M>(
     rt: &R,
@@ -49,8 +49,8 @@ where
 
     // The history that is left is one legal history of what all seats saw and made: the loops have made nothing, and sessions what their
     // lines asked for, those of the report place findings alone.
-    ensures ran { IfOk result (λ ran. HasRun made.hall (vec_len servers) made.seats
-        (past ran.desk.journal)) }
+    ensures ran { IfOk result (λ ran. HasRun K.kept places ran.places made.hall (vec_len servers)
+        made.seats (past ran.desk.journal)) }
     ensures most { IfOk result (λ ran. ran.desk.max_entries ≡ made.hall.most) }
     // The loops over sessions come back, so that their caller can take their sockets' files away, and hold none any more.
     ensures sessions { IfOk result (λ ran. HaveEnded places ran.places) }

@@ -1,4 +1,5 @@
 use mio::Waker;
+use std::alloc::AllocError;
 use std::sync::atomic::{AtomicU64, Ordering};
 
 /// What the loops of a server are told: that something changed, and that all is to end.
@@ -17,6 +18,21 @@ impl News {
             ends: AtomicU64::new(0),
             wakers,
         }
+    }
+
+    /// The same news, which wake one more.
+    pub fn waking(self, waker: Waker) -> Result<News, AllocError> {
+        let News {
+            changes,
+            ends,
+            mut wakers,
+        } = self;
+        wakers.push(waker)?;
+        Ok(News {
+            changes,
+            ends,
+            wakers,
+        })
     }
 
     /// Tells that something changed.
@@ -42,7 +58,7 @@ impl News {
     }
 
     /// Wakes all loops.
-    pub(crate) fn wake(&self) {
+    pub fn wake(&self) {
         for waker in &self.wakers {
             let _ = waker.wake();
         }

@@ -98,7 +98,7 @@ impl<P: Probe, C: Console<P>, V: Server, M: Maker<P>> Host<Session> for Attendan
 
     ghost source = { λ a. source_of (C.names a.console.now) C.kept };
 
-    ghost goes = { λ t a b m n x. HasSaid nobody (IsLineMetBeside C.seen C.kept C.looks C.answers V.terms V.counted V.woken V.stopped (C.names a.console.now)) (C.names a.console.now) (stands a) (stands b) m n x × (C.names b.console.now ≡ C.names a.console.now) × (b.console.ghost_name ≡ a.console.ghost_name) };
+    ghost goes = { λ t a b m n x. HasSaid nobody (IsLineMetBeside C.seen C.kept C.looks C.answers V.terms V.counted V.woken V.expected V.stopped (C.names a.console.now)) (C.names a.console.now) (stands a) (stands b) m n x × (C.names b.console.now ≡ C.names a.console.now) × (b.console.ghost_name ≡ a.console.ghost_name) };
 
     ghost idle = { λ t session. IsIdle session };
 
@@ -110,7 +110,7 @@ impl<P: Probe, C: Console<P>, V: Server, M: Maker<P>> Host<Session> for Attendan
 
     ghost stays = { λ a b. C.names b.console.now ≡ C.names a.console.now };
 
-    ghost spans = { λ a b m n x. HasSaid (keeps_names C.names) (IsLineMetBeside C.seen C.kept C.looks C.answers V.terms V.counted V.woken V.stopped (C.names a.console.now)) (C.names a.console.now) (stands a) (stands b) m n x × (C.names b.console.now ≡ C.names a.console.now) };
+    ghost spans = { λ a b m n x. HasSaid (keeps_names C.names) (IsLineMetBeside C.seen C.kept C.looks C.answers V.terms V.counted V.woken V.expected V.stopped (C.names a.console.now)) (C.names a.console.now) (stands a) (stands b) m n x × (C.names b.console.now ≡ C.names a.console.now) };
 
     fn step(&mut self, alloc: Global, session: &mut Session, then: Turn) -> Step {
         if then == Turn::End {
@@ -130,7 +130,7 @@ impl<P: Probe, C: Console<P>, V: Server, M: Maker<P>> Host<Session> for Attendan
 
     ghost goes_alone = { λ t a m n x taken. (said_alone (stands a) taken, refl, refl) };
 
-    ghost goes_on = { λ t a b c m n o x y p q. (said_then p.0 (subst (λ names. HasSaid nobody (IsLineMetBeside C.seen C.kept C.looks C.answers V.terms V.counted V.woken V.stopped names) names (stands b) (stands c) n o y) p.1 q.0), q.1 ∙ p.1, q.2 ∙ p.2) };
+    ghost goes_on = { λ t a b c m n o x y p q. (said_then p.0 (subst (λ names. HasSaid nobody (IsLineMetBeside C.seen C.kept C.looks C.answers V.terms V.counted V.woken V.expected V.stopped names) names (stands b) (stands c) n o y) p.1 q.0), q.1 ∙ p.1, q.2 ∙ p.2) };
 
     ghost rests_to_look = { λ t a m none. absurd none };
 
@@ -150,5 +150,5 @@ impl<P: Probe, C: Console<P>, V: Server, M: Maker<P>> Host<Session> for Attendan
 
     ghost spans_waiting = { λ a b c m n x p moves. (said_still p.0 moves, moves ∙ p.1) };
 
-    ghost spans_on = { λ t a b c m n o x y p q. (said_then p.0 (subst (λ names. HasSaid (keeps_names C.names) (IsLineMetBeside C.seen C.kept C.looks C.answers V.terms V.counted V.woken V.stopped names) names (stands b) (stands c) n o y) p.1 (said_beside q.0)), q.1 ∙ p.1) };
+    ghost spans_on = { λ t a b c m n o x y p q. (said_then p.0 (subst (λ names. HasSaid (keeps_names C.names) (IsLineMetBeside C.seen C.kept C.looks C.answers V.terms V.counted V.woken V.expected V.stopped names) names (stands b) (stands c) n o y) p.1 (said_beside q.0)), q.1 ∙ p.1) };
 }

@@ -46,7 +46,7 @@ fn answers_beside(
 }
 
 /// A line of who reports, and its answer. `a` is registered and up, and there is room for three entries more.
-const LINES: [(&[u8], &[u8]); 23] = [
+const LINES: [(&[u8], &[u8]); 27] = [
     (b"check a\n", b"serving\n"),
     (b"pass a\n", b"done\n"),
     (b"fail a\n", b"done\n"),
@@ -54,6 +54,10 @@ const LINES: [(&[u8], &[u8]); 23] = [
     (b"down a\n", b"not allowed\n"),
     (b"up a\n", b"not allowed\n"),
     (b"up zz\n", b"not allowed\n"),
+    (b"expect a 5\n", b"not allowed\n"),
+    (b"expect a 0\n", b"not allowed\n"),
+    (b"expect zz 5\n", b"not allowed\n"),
+    (b"expect\n", b"not allowed\n"),
     (b"stop\n", b"not allowed\n"),
     (b"register - threshold 1\n", b"not allowed\n"),
     (b"register - threshold 0\n", b"not allowed\n"),
@@ -98,6 +102,7 @@ fn who_reports_is_answered_and_changes_nothing_but_by_findings(
     let told = Told {
         rights: Rights::Reports,
         wakes: 1,
+        expected: None,
         stops: 0,
     };
     same(&server, &told, &"what the server was told")

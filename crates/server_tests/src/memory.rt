@@ -49,6 +49,7 @@ where
         places: SessionPlaces {
             control: None,
             report: None,
+            watchdog: None,
         },
         maker: &Manuals,
         news: &news,

@@ -18,11 +18,12 @@ use probe_core::{Maker, Manual, Probe};
 use std::alloc::Global;
 use std::net::{IpAddr, Ipv4Addr, Net, SocketAddr, TcpListener, TcpStream};
 use std::rt::Files;
-use std::sync::Wait;
+use std::sync::{Arc, Wait};
 use std::test::Fail;
 use std::thread;
 use std::thread::Threads;
 use std::time::Clock;
+use watchdog::Expectations;
 
 pub(super) const SCRIPT: &[u8] = b"catalogue a b -
 max 10000
@@ -66,7 +67,8 @@ fn sessions_of<R: Net + Files + Clock>(
     for server in servers {
         tallies.push(server.tally()?)?;
     }
-    let server = ControlServer::new(rt, alloc, listener, tallies, terms)?;
+    let expectations = Arc::new(alloc, Expectations::new(alloc)?)?;
+    let server = ControlServer::new(rt, alloc, listener, tallies, terms, expectations)?;
     Ok((server, addr))
 }
 
@@ -101,6 +103,7 @@ fn places_of<R: Net + Files + Clock>(
     let places = SessionPlaces {
         control: wanted(control, talk != Talk::Calls),
         report: wanted(report, talk.has_reports()),
+        watchdog: None,
     };
     let addresses = Addresses {
         calls,

@@ -62,6 +62,7 @@ where
     let places = SessionPlaces {
         control: None,
         report: None,
+        watchdog: None,
     };
     let ran = run_live(rt, alloc, made, servers, places, maker, news).ok()?;
     let mut ended = 0u64;

@@ -26,13 +26,14 @@ use std::alloc::{AllocError, Global};
 use std::io::{Read, Write};
 use std::net::{Net, Shutdown, SocketAddr, TcpListener, TcpStream};
 use std::rt::Files;
-use std::sync::Wait;
+use std::sync::{Arc, Wait};
 use std::test::Fail;
 use std::thread::Threads;
 use std::time::Clock;
 use std::{env, fs, io, process, thread};
 use test_support::requests::WATCH_OF_EMPTY;
 use test_support::same;
+use watchdog::Expectations;
 use web_call::Method;
 
 /// The whole depends on `a`.
@@ -314,12 +315,17 @@ where
         rights: Rights::Reports,
         most,
     };
-    let control = session_loop(rt, alloc, control, &servers, all)?;
-    let report = session_loop(rt, alloc, report, &servers, reports)?;
+    let expectations = Arc::new(alloc, Expectations::new(alloc)?)?;
+    let control = session_loop(rt, alloc, control, &servers, all, &expectations)?;
+    let report = session_loop(rt, alloc, report, &servers, reports, &expectations)?;
     Ok(Begun {
         servers,
         news,
-        places: SessionPlaces { control, report },
+        places: SessionPlaces {
+            control,
+            report,
+            watchdog: None,
+        },
     })
 }
 

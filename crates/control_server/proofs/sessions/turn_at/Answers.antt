@@ -12,12 +12,12 @@ returns-clause-reference g c = by_draining (state_of c.args.connection.now).is_d
 
 pub returns-clause-seat : goal.returns-clause-seat
 returns-clause-seat g c =
-    (speaks_by_turn _ _ _ _ _ _ (stands c.args.attendant.now) (stands c.turn.new.host) _ _ (state_of c.args.connection.now).is_draining
+    (speaks_by_turn _ _ _ _ _ _ _ (stands c.args.attendant.now) (stands c.turn.new.host) _ _ (state_of c.args.connection.now).is_draining
     (λ talks. let served = c.turn.ensures.served talks in (served.0, served.2.goes.0))
     (λ drains. let drained = c.turn.ensures.drained drains in (ap stands drained.0, ap (λ (s : ConnectionState SessionState). s.machine) drained.1))).0.reference
 
 pub returns-clause-spoken : goal.returns-clause-spoken
 returns-clause-spoken g c =
-    (speaks_by_turn _ _ _ _ _ _ (stands c.args.attendant.now) (stands c.turn.new.host) _ _ (state_of c.args.connection.now).is_draining
+    (speaks_by_turn _ _ _ _ _ _ _ (stands c.args.attendant.now) (stands c.turn.new.host) _ _ (state_of c.args.connection.now).is_draining
     (λ talks. let served = c.turn.ensures.served talks in (served.0, served.2.goes.0))
     (λ drains. let drained = c.turn.ensures.drained drains in (ap stands drained.0, ap (λ (s : ConnectionState SessionState). s.machine) drained.1))).1

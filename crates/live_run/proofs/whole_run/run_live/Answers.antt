@@ -10,14 +10,14 @@ returns-in_default-new-clause-failed g c = no_memory_later _ c.args.made
 pub returns-in_default-close-clause-failed : goal.returns-in_default-close-clause-failed
 returns-in_default-close-clause-failed g c =
     missing_later _ c.args.made c.into_hall-hall.result.0 c.serve-servers.result.seats.items c.into_hall-hall.ensures.hall
-    (served_by _ _ c.args.servers.items _ _ _ _ c.in-Ok.seating c.args.servers.ok.0 c.in-Ok.seating.loops.ok.0 c.into_hall-hall.ensures.seats c.in-Ok.ensures c.serve-servers.ensures.served).seats
+    (served_by _ _ _ _ _ c.args.servers.items _ _ _ _ c.in-Ok.seating c.args.servers.ok.0 c.in-Ok.seating.loops.ok.0 c.into_hall-hall.ensures.seats c.in-Ok.ensures c.serve-servers.ensures.served).seats
     c.in_default-close.ensures.unclosed.0
 
 pub returns-clause-ran : goal.returns-clause-ran
 returns-clause-ran g c =
-    has_run_beside c.args.made.hall c.into_hall-hall.result.0 _ _ _ _ _ c.into_hall-hall.ensures.hall
+    has_run_beside _ c.args.places c.serve-servers.result.places c.args.made.hall c.into_hall-hall.result.0 _ _ _ _ _ c.into_hall-hall.ensures.hall
     (controlled_by c.args.servers.items _ _ _ c.in-Ok.seating c.args.servers.ok.0 c.into_hall-hall.ensures.seats c.in-Ok.ensures)
-    (served_by _ _ c.args.servers.items _ _ _ _ c.in-Ok.seating c.args.servers.ok.0 c.in-Ok.seating.loops.ok.0 c.into_hall-hall.ensures.seats c.in-Ok.ensures c.serve-servers.ensures.served)
+    (served_by _ _ _ _ _ c.args.servers.items _ _ _ _ c.in-Ok.seating c.args.servers.ok.0 c.in-Ok.seating.loops.ok.0 c.into_hall-hall.ensures.seats c.in-Ok.ensures c.serve-servers.ensures.served)
     c.in-Ok-close.ensures.closed c.in-Ok-close.ensures.legal c.in-Ok-close.ensures.seats c.in-Ok-close.ensures.counted
 
 pub returns-clause-alone : goal.returns-clause-alone

@@ -1,4 +1,4 @@
-use Rattle.std.proofs.Common.{◌≡◌, ◌++◌, length, ap, sym, ◌∙◌, arith, length-drop}
+use Rattle.std.proofs.Common.{◌≡◌, ◌++◌, length, ap, ◌∙◌, arith, length-drop}
 use Rattle.tail.specs.Tail.{forgotten, kept_of}
 use Rattle.desk_core.proofs.TranscriptLemmas.{forgotten_within, room_anew}
 use Rattle.desk_core.proofs.transcript.Transcript.begin_anew.Goals as goal

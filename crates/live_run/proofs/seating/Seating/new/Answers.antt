@@ -1,5 +1,3 @@
-use Rattle.std.proofs.Common.{ap, sym, ◌∙◌, ◌++◌, map, List}
-use Rattle.hall.specs.Seats.{SeatState}
 use Rattle.live_run.proofs.SeatingLemmas.{parted}
 use Rattle.live_run.proofs.seating.Seating.new.Goals as goal
 

@@ -1,0 +1,70 @@
+use Rattle.std.proofs.Common.{List, ◌∷◌, ap, sym, subst, arith, ◌∙◌}
+use Rattle.desk_core.specs.declared.call.Call.TheVariants.{Observe}
+use Rattle.desk_core.specs.declared.call.Finding.TheVariants.{Fail}
+use Rattle.desk_core.specs.declared.entry.Entry.{Entry}
+use Rattle.desk_core.specs.Mutation.{entry_of}
+use Rattle.desk_core.specs.Silence.{is_to_fail}
+use Rattle.hall.specs.Seats.{SeatState}
+use Rattle.hall.specs.Silence.{seen_before}
+use Rattle.hall.specs.Steps.{HasDesk, seen_in}
+use Rattle.hall.proofs.Taken.{may_commit, may_count, may_leave, newest, unchanged, before_newest, seat_taken, seat_kept, own_entry}
+use Rattle.hall.proofs.hall.Hall.fail_unheard.Goals as goal
+
+pub finish-requires-clause-desk : goal.finish-requires-clause-desk
+finish-requires-clause-desk g c =
+    let waiting = c.enter-desk.new.place.me in
+    subst (λ seat. HasDesk waiting seat c.change.new.self.max_entries (seen_in waiting)) (sym (ap (λ e. e.seat) (own_entry _ _ c.seat.inside.number _ _ c.entry-entry.ensures (omega arith))))
+    (may_commit c.seat.inside.place.me waiting c.seat.inside.number c.seat.inside.made c.enter-desk.result c.change.new.self
+    (record { seat = c.seat.invariant; limit = c.enter-desk.ensures.limit; has = c.enter-desk.ensures.desk; follows = c.enter-desk.ensures.follows })
+    c.in-Ok.ensures.answered.most)
+
+pub finish-requires-clause-newest : goal.finish-requires-clause-newest
+finish-requires-clause-newest g c =
+    newest _ _ _ _ _ c.in-Ok.ensures.answered ∙ ap (λ (h : List Entry). entry_of c.seat.inside.number (Observe c.args.slot Fail) c.in-Ok.made.reply ∷ h) (sym (ap seen_in c.enter-desk.ensures.desk.1))
+    ∙ ap (λ e. e ∷ seen_in c.enter-desk.new.place.me) (sym (own_entry _ _ c.seat.inside.number _ _ c.entry-entry.ensures (omega arith)))
+
+pub finish-requires-clause-limit : goal.finish-requires-clause-limit
+finish-requires-clause-limit g c =
+    may_count c.seat.inside.place.me c.enter-desk.new.place.me c.seat.inside.number c.seat.inside.made c.enter-desk.result
+    (record { seat = c.seat.invariant; limit = c.enter-desk.ensures.limit; has = c.enter-desk.ensures.desk; follows = c.enter-desk.ensures.follows })
+
+pub invariant_of-seat-in-Ok : goal.invariant_of-seat-in-Ok
+invariant_of-seat-in-Ok g c =
+    seat_taken c.seat.inside.place.me c.enter-desk.new.place.me _ _ c.seat.inside.made _ c.entry-entry.result.seat c.enter-desk.result _ _ _
+    (record { seat = c.seat.invariant; limit = c.enter-desk.ensures.limit; has = c.enter-desk.ensures.desk; follows = c.enter-desk.ensures.follows })
+    c.in-Ok.ensures.answered (ap (λ e. e.seat) (own_entry _ _ c.seat.inside.number _ _ c.entry-entry.ensures (omega arith))) c.finish.ensures.rests c.finish.ensures.made c.finish.ensures.legal
+
+pub returns-in-Ok-clause-due : goal.returns-in-Ok-clause-due
+returns-in-Ok-clause-due g c =
+    ap (λ number. is_to_fail g.K.Keep.kept number c.args.slot c.args.from (seen_before c.effect.result.result (seen_in c.finish.new.place.me)))
+    (sym (ap (λ (seat : SeatState). seat.number) c.seat.view_is))
+    ∙ ap (λ result. is_to_fail g.K.Keep.kept c.seat.inside.number c.args.slot c.args.from (seen_before result (seen_in c.finish.new.place.me)))
+    (ap (λ effect. effect.result) c.effect.ensures)
+    ∙ ap (is_to_fail g.K.Keep.kept c.seat.inside.number c.args.slot c.args.from)
+    (before_newest c.finish.new.place.me c.entry-entry.result.seat c.seat.inside.number c.enter-desk.result c.change.new.self (Observe c.args.slot Fail)
+    c.in-Ok.made.reply c.in-Ok.ensures.answered c.finish.ensures.rests)
+    ∙ sym c.is_to_fail.ensures.value
+    ∙ c.if-not-is_to_fail.false
+
+pub leave-requires-in-Err-clause-desk : goal.leave-requires-in-Err-clause-desk
+leave-requires-in-Err-clause-desk g c =
+    may_leave c.seat.inside.place.me c.enter-desk.new.place.me c.seat.inside.number c.seat.inside.made c.enter-desk.result c.change.new.self
+    (record { seat = c.seat.invariant; limit = c.enter-desk.ensures.limit; has = c.enter-desk.ensures.desk; follows = c.enter-desk.ensures.follows })
+    (unchanged _ _ _ _ _ c.in-Err.ensures.answered)
+
+pub invariant_of-seat-in-Err : goal.invariant_of-seat-in-Err
+invariant_of-seat-in-Err g c =
+    seat_kept c.seat.inside.place.me c.enter-desk.new.place.me _ _ _ c.enter-desk.result _ _ _
+    (record { seat = c.seat.invariant; limit = c.enter-desk.ensures.limit; has = c.enter-desk.ensures.desk; follows = c.enter-desk.ensures.follows })
+    c.in-Err.ensures.answered c.leave-in-Err.ensures.rests
+
+pub returns-clause-due : goal.returns-clause-due
+returns-clause-due g c =
+    ap (λ number. is_to_fail g.K.Keep.kept number c.args.slot c.args.from (seen_before c.of_refusal.result.result (seen_in c.leave-in-Err.new.place.me)))
+    (sym (ap (λ (seat : SeatState). seat.number) c.seat.view_is))
+    ∙ ap (λ result. is_to_fail g.K.Keep.kept c.seat.inside.number c.args.slot c.args.from (seen_before result (seen_in c.leave-in-Err.new.place.me)))
+    (ap (λ effect. effect.result) c.of_refusal.ensures)
+    ∙ ap (is_to_fail g.K.Keep.kept c.seat.inside.number c.args.slot c.args.from)
+    (ap seen_in c.leave-in-Err.ensures.rests ∙ (unchanged _ _ _ _ _ c.in-Err.ensures.answered).history)
+    ∙ sym c.is_to_fail.ensures.value
+    ∙ c.if-not-is_to_fail.false

@@ -1,0 +1,4 @@
+pub mod FailLemmas
+pub mod FallLemmas
+pub mod MetLemmas
+pub mod StepLemmas

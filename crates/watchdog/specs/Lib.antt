@@ -1,0 +1,4 @@
+pub mod Guard
+pub mod Falling
+pub mod Watching
+pub mod Wish

@@ -1,0 +1,11 @@
+//! Tests of the watchdog over halls, by public calls alone, at readings of the clock that a test picks.
+#![tactic(auto)]
+
+#[cfg(test)]
+mod reading;
+#[cfg(test)]
+mod rows;
+#[cfg(test)]
+mod stage;
+#[cfg(test)]
+mod watching;

@@ -1,0 +1,102 @@
+//! When the watchdog brings a service down.
+
+ghost use Rattle.std.specs.Prelude.{◌≡◌};
+ghost use Rattle.hall.specs.Seats.{IsOf};
+
+use crate::rows::{FORGETTING, FULL, MANY, ROWS, Step};
+use crate::stage::Stage;
+use desk_core::{Catalogue, Keep, KeepMany};
+use hall::{Hall, Seat};
+use probe_core::{Start, Threshold};
+use std::alloc::Global;
+use std::sync::{Arc, Wait};
+use std::test::Fail;
+use test_support::same;
+use watchdog::{Expectations, Watchdog};
+
+/// The last sixteen.
+#[derive(Drop)]
+struct KeepSixteen;
+
+impl Keep for KeepSixteen {
+    ghost use Rattle.std.specs.Prelude.{Some};
+
+    ghost kept = { Some 16 };
+
+    fn kept() -> Option<u32> {
+        Some(16)
+    }
+}
+
+/// Plays the steps over a new hall of the service `a`, with room for so many entries.
+fn play<R: Wait, K: Keep>(
+    rt: &R,
+    alloc: Global,
+    row: usize,
+    most: u32,
+    steps: &[Step],
+) -> Result<(), Fail> {
+    let mut names = Vec::new(alloc);
+    for text in ["a", ""] {
+        names.push(String::from_str(alloc, text)?)?;
+    }
+    let (hall, mut seats) = Hall::<Threshold, K>::new(
+        alloc,
+        Catalogue::new(alloc, names)?,
+        most,
+        2,
+    )?;
+    let mut others = seats.pop().ok_or("no seat")?;
+    let mut own = seats.pop().ok_or("no seat")?;
+    let expectations = Arc::new(alloc, Expectations::new(alloc)?)?;
+    let mut watchdog = Watchdog::new(alloc, expectations.clone()?)?;
+    play_over(
+        rt,
+        &hall,
+        &mut own,
+        &mut others,
+        &mut watchdog,
+        &expectations,
+        row,
+        steps,
+    )
+}
+
+/// Plays them by the watchdog's seat and another.
+fn play_over<R: Wait, K: Keep>(
+    rt: &R,
+    hall: &Hall<Threshold, K>,
+    own: &mut Seat<Threshold, K>,
+    others: &mut Seat<Threshold, K>,
+    watchdog: &mut Watchdog,
+    expectations: &Arc<Expectations>,
+    row: usize,
+    steps: &[Step],
+) -> Result<(), Fail>
+    requires own { IsOf hall.now own.old }
+    requires others { IsOf hall.now others.old }
+{
+    let mut stage = Stage {
+        rt,
+        hall,
+        watchdog,
+        own,
+        others,
+        expectations,
+        row,
+    };
+    for step in steps {
+        stage.take(*step)?;
+    }
+    Ok(())
+}
+
+#[test]
+fn brings_down_what_is_not_heard_from(rt: HostRuntime) -> Result<(), Fail> {
+    for (number, (_, steps)) in ROWS.iter().enumerate() {
+        play::<_, KeepMany>(&rt, rt.alloc(), number, 100, steps)?;
+    }
+    play::<_, KeepMany>(&rt, rt.alloc(), 101, 4, FULL)?;
+    play::<_, KeepSixteen>(&rt, rt.alloc(), 102, 100, FORGETTING)?;
+    play::<_, KeepMany>(&rt, rt.alloc(), 103, 10_000, MANY)
+}
