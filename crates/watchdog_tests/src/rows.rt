@@ -1,7 +1,7 @@
 use health_wire::Serving;
 use probe_core::Start;
 
-/// What a test does with the service `a`, or looks at.
+/// What a test does with the service that is watched, or looks at.
 #[derive(Clone, Copy, Debug)]
 pub(crate) enum Step {
     Register(u32, u32, Start),
@@ -33,7 +33,7 @@ const UP: Step = Step::Status(Some(Serving::Serving));
 
 const DOWN: Step = Step::Status(Some(Serving::NotServing));
 
-/// Over a history of at most four entries: the third fail is refused, and is tried again a second later, also in vain.
+/// Over a history of at most four entries: the fourth fail is refused, and is tried again a second later, also in vain.
 pub(crate) const FULL: &[Step] = &[
     Step::Register(5, 1, Start::Up),
     Step::Expect(1),
@@ -77,7 +77,7 @@ pub(crate) const MANY: &[Step] = &[
 ];
 
 /// Over a history of at most a hundred entries.
-pub(crate) const ROWS: [(&str, &[Step]); 16] = [
+pub(crate) const ROWS: [(&str, &[Step]); 18] = [
     (
         "a service that is not heard from falls at once, exactly when it is due, and once",
         &[
@@ -315,6 +315,31 @@ pub(crate) const ROWS: [(&str, &[Step]); 16] = [
             Step::Round(1_000, false),
             Step::Fails(0),
             Step::Status(None),
+        ],
+    ),
+    (
+        "what is reported behind an idle round is heard",
+        &[
+            REGISTER,
+            Step::Round(0, false),
+            Step::Expect(1),
+            Step::Round(0, false),
+            Step::Pass,
+            Step::Round(900, false),
+            Step::Round(1_000, false),
+            Step::Round(1_900, true),
+        ],
+    ),
+    (
+        "of two lines within a round the later counts",
+        &[
+            REGISTER,
+            Step::Expect(1),
+            Step::Expect(3),
+            Step::Round(0, false),
+            Step::Round(1_000, false),
+            Step::Round(2_999, false),
+            Step::Round(3_000, true),
         ],
     ),
     (

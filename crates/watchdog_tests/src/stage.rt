@@ -13,9 +13,6 @@ use std::test::Fail;
 use test_support::same;
 use watchdog::{Expectations, Watchdog, Wish};
 
-/// The service that is watched.
-const NAME: &str = "a";
-
 /// Whoever reports by the second seat.
 #[derive(Drop)]
 pub(crate) struct Stage<'a, R, K: Keep> {
@@ -25,6 +22,8 @@ pub(crate) struct Stage<'a, R, K: Keep> {
     pub(crate) own: &'a mut Seat<Threshold, K>,
     pub(crate) others: &'a mut Seat<Threshold, K>,
     pub(crate) expectations: &'a Arc<Expectations>,
+    /// The service that is watched.
+    pub(crate) name: &'a str,
     /// The number of the row that is played.
     pub(crate) row: usize,
     pub(crate) ghost own_fits: { IsOf hall.now own.now },
@@ -37,7 +36,7 @@ impl<R: Wait, K: Keep> Stage<'_, R, K> {
         match step {
             Step::Register(fall, rise, start) => self.register(fall, rise, start),
             Step::Retire => {
-                let _ = self.hall.retire(self.rt, self.others, NAME);
+                let _ = self.hall.retire(self.rt, self.others, self.name);
                 Ok(())
             }
             Step::Pass => self.report(Finding::Pass),
@@ -57,12 +56,12 @@ impl<R: Wait, K: Keep> Stage<'_, R, K> {
 
     fn register(&mut self, fall: u32, rise: u32, start: Start) -> Result<(), Fail> {
         let probe = Threshold::new(fall, rise, start);
-        let _ = self.hall.register(self.rt, self.others, NAME, probe);
+        let _ = self.hall.register(self.rt, self.others, self.name, probe);
         Ok(())
     }
 
     fn report(&mut self, finding: Finding) -> Result<(), Fail> {
-        let _ = self.hall.observe(self.rt, self.others, NAME, finding);
+        let _ = self.hall.observe(self.rt, self.others, self.name, finding);
         Ok(())
     }
 
@@ -88,7 +87,7 @@ impl<R: Wait, K: Keep> Stage<'_, R, K> {
             Step::Fails(count) => same(&self.own.made(), &count, &(self.row, step)),
             Step::Expired(count) => same(&self.expectations.expired(), &count, &(self.row, step)),
             Step::Status(status) => {
-                let found = self.hall.check(self.others, NAME).status;
+                let found = self.hall.check(self.others, self.name).status;
                 same(&found, &status, &(self.row, step))
             }
             Step::Patience(millis, most) => {
@@ -100,7 +99,7 @@ impl<R: Wait, K: Keep> Stage<'_, R, K> {
     }
 
     fn expect(&mut self, wish: Wish) -> Result<(), Fail> {
-        let slot = self.hall.catalogue().slot(NAME).ok_or("no slot")?;
+        let slot = self.hall.catalogue().slot(self.name).ok_or("no slot")?;
         self.expectations.expect(slot, wish);
         Ok(())
     }

@@ -28,16 +28,17 @@ impl Keep for KeepSixteen {
     }
 }
 
-/// Plays the steps over a new hall of the service `a`, with room for so many entries.
+/// Plays the steps over a new hall with room for so many entries, of which this service is watched.
 fn play<R: Wait, K: Keep>(
     rt: &R,
     alloc: Global,
+    name: &str,
     row: usize,
     most: u32,
     steps: &[Step],
 ) -> Result<(), Fail> {
     let mut names = Vec::new(alloc);
-    for text in ["a", ""] {
+    for text in ["a", "b", ""] {
         names.push(String::from_str(alloc, text)?)?;
     }
     let (hall, mut seats) = Hall::<Threshold, K>::new(
@@ -57,6 +58,7 @@ fn play<R: Wait, K: Keep>(
         &mut others,
         &mut watchdog,
         &expectations,
+        name,
         row,
         steps,
     )
@@ -70,6 +72,7 @@ fn play_over<R: Wait, K: Keep>(
     others: &mut Seat<Threshold, K>,
     watchdog: &mut Watchdog,
     expectations: &Arc<Expectations>,
+    name: &str,
     row: usize,
     steps: &[Step],
 ) -> Result<(), Fail>
@@ -83,6 +86,7 @@ fn play_over<R: Wait, K: Keep>(
         own,
         others,
         expectations,
+        name,
         row,
     };
     for step in steps {
@@ -91,12 +95,21 @@ fn play_over<R: Wait, K: Keep>(
     Ok(())
 }
 
+/// Plays all rows with the service of this name.
+fn play_all<R: Wait>(rt: &R, alloc: Global, name: &str) -> Result<(), Fail> {
+    for (number, (_, steps)) in ROWS.iter().enumerate() {
+        play::<R, KeepMany>(rt, alloc, name, number, 100, steps)?;
+    }
+    play::<R, KeepMany>(rt, alloc, name, 101, 4, FULL)?;
+    play::<R, KeepSixteen>(rt, alloc, name, 102, 100, FORGETTING)?;
+    play::<R, KeepMany>(rt, alloc, name, 103, 10_000, MANY)
+}
+
 #[test]
 fn brings_down_what_is_not_heard_from(rt: HostRuntime) -> Result<(), Fail> {
-    for (number, (_, steps)) in ROWS.iter().enumerate() {
-        play::<_, KeepMany>(&rt, rt.alloc(), number, 100, steps)?;
+    let alloc = rt.alloc();
+    for name in ["a", "b"] {
+        play_all(&rt, alloc, name)?;
     }
-    play::<_, KeepMany>(&rt, rt.alloc(), 101, 4, FULL)?;
-    play::<_, KeepSixteen>(&rt, rt.alloc(), 102, 100, FORGETTING)?;
-    play::<_, KeepMany>(&rt, rt.alloc(), 103, 10_000, MANY)
+    Ok(())
 }
