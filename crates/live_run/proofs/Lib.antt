@@ -2,3 +2,4 @@ pub mod LoopLemmas
 pub mod RunLemmas
 pub mod SeatingLemmas
 pub mod SetupLines
+pub mod WatchLemmas

@@ -15,13 +15,10 @@ use Rattle.control_server.proofs.SeatLemmas.{met_line_ours}
 use Rattle.control.specs.declared.rights.Rights.TheVariants.{All as AllRights, Reports}
 use Rattle.control.specs.declared.terms.Terms.{Terms}
 use Rattle.live_run.specs.Sitting.{terms_by}
-use Rattle.live_run.specs.Watched.{IsWatchedBy, guards_at, guards_in}
+use Rattle.live_run.specs.Watched.{IsWatchedBy}
 use Rattle.live_run.specs.declared.watchdog_loop.WatchdogLoop.{WatchdogLoop}
 use Rattle.std.specs.Prelude.{Bool, true, false, Option, None, Some}
-use Rattle.watchdog.specs.Falling.{HaveFailed, NoFail, OneMore, HasFallen, Down, WasRefused}
-use Rattle.watchdog.specs.Guard.{GuardState}
-use Rattle.watchdog.specs.Watching.{HasWatched, Begins, Sees, Steps, IsStep, Stays, Wishes, Follows, PassesBy, Skips, Waits, Expires, IsRefused}
-use Rattle.watchdog.proofs.FallLemmas.{carried_of}
+use Rattle.live_run.proofs.WatchLemmas.{watched_ours}
 use Rattle.live_run.specs.Loops.{HasServedAll, HaveServed, HaveServedAll, SeatsHaveLooked, SeatsHaveServed}
 
 -- an element of the middle one of three parts
@@ -197,39 +194,6 @@ loops_ours {P} {K} hall first rest loops one ours place other below =
     let seat : SeatedLoop P K → SeatState = λ one. one.seat in
     subst (IsOf hall) (middle seat first rest loops place other other.seat one below)
     (All-get_or (IsOf hall) (first ++ (map seat loops ++ rest)) (1 + place) other.seat (omega (arith, long seat first rest loops, one, below)) ours)
-
--- a watchdog's seat stays the hall's
-failed_ours : (kept : Option ℕ) (slot from : ℕ) (hall : HallState) (old new : SeatState) (made : Bool) → IsOf hall old → HaveFailed kept slot from old new made → IsOf hall new
-failed_ours kept slot from hall old new made ours (NoFail seat) = ours
-failed_ours kept slot from hall old new made ours (OneMore first between last made' reply failed carried due) =
-    carried_of hall between new _ _ (failed_ours kept slot from hall old between made' ours failed) carried
-
-fallen_ours : (kept : Option ℕ) (slot from : ℕ) (hall : HallState) (old new : SeatState) (made refused : Bool) → IsOf hall old → HasFallen kept slot from old new made refused → IsOf hall new
-fallen_ours kept slot from hall old new made refused ours (Down between failed looked none) =
-    looked_ours hall between new (failed_ours kept slot from hall old between made ours failed) looked
-fallen_ours kept slot from hall old new made refused ours (WasRefused between refusal failed carried) =
-    carried_of hall between new _ _ (failed_ours kept slot from hall old between made ours failed) carried
-
-step_ours : (kept : Option ℕ) (hall : HallState) (guard : GuardState) (old : SeatState) (guard_now : GuardState) (new : SeatState) → IsOf hall old → IsStep kept guard old guard_now new → IsOf hall new
-step_ours kept hall guard old guard_now new ours Stays = ours
-step_ours kept hall guard old guard_now new ours (Wishes wish) = ours
-step_ours kept hall guard old guard_now new ours (Follows now entries are) = ours
-step_ours kept hall guard old guard_now new ours (PassesBy place none) = ours
-step_ours kept hall guard old guard_now new ours (Skips now place gone) = ours
-step_ours kept hall guard old guard_now new ours (Waits now early) = ours
-step_ours kept hall guard old guard_now new ours (Expires now last made due fell) = fallen_ours kept guard.slot guard.place hall old new made false ours fell
-step_ours kept hall guard old guard_now new ours (IsRefused now last made due fell) = fallen_ours kept guard.slot guard.place hall old new made true ours fell
-
-pub steps_ours : (kept : Option ℕ) (hall : HallState) (guards guards_now : List GuardState) (old new : SeatState) → IsOf hall old → HasWatched kept guards old guards_now new → IsOf hall new
-steps_ours kept hall guards guards_now old new ours (Begins gs seat) = ours
-steps_ours kept hall guards guards_now old new ours (Sees gs gs_now seat between last watched looked) =
-    looked_ours hall between new (steps_ours kept hall guards guards_now old between ours watched) looked
-steps_ours kept hall guards guards_now old new ours (Steps gs between seat before last place guard other watched below step) =
-    step_ours kept hall (get_or between place other) before guard new (steps_ours kept hall guards between old before ours watched) step
-
-watched_ours : (kept : Option ℕ) (watching watching_now : Option WatchdogLoop) (hall : HallState) (old new : SeatState) → IsWatchedBy kept watching watching_now old new → IsOf hall old → IsOf hall new
-watched_ours kept None watching_now hall old new same ours = subst (IsOf hall) (sym same) ours
-watched_ours kept (Some watching) watching_now hall old new watched ours = steps_ours kept hall (guards_in watching) (guards_at watching_now) old new ours watched
 
 -- all seats stay the hall's beside sessions too
 ours_at : (kept : Option ℕ) (watching watching_now : Option WatchdogLoop) (most : ℕ) (names : List (List ℕ)) (hall : HallState) (loops controlled : ℕ) (old new : List SeatState)

@@ -8,7 +8,7 @@ use probe_core::Probe;
 use std::alloc::Global;
 use std::net::Net;
 use std::sync::Wait;
-use std::time::{Clock, Duration, Instant};
+use std::time::{Clock, Duration};
 use std::{io, thread};
 use watchdog::Watchdog;
 
@@ -85,12 +85,12 @@ impl WatchdogLoop {
             seat.new }
         ensures ours { IsOf hall.now seat.new }
     {
-        let Ok(now) = Instant::now(rt) else {
+        let Ok(round) = self.watchdog.round(rt, rt, hall, seat) else {
             return Duration::from_millis(RETRY_MILLIS);
         };
-        if self.watchdog.round(rt, hall, seat, now) {
+        if round.shows {
             news.change();
         }
-        self.watchdog.patience(now)
+        self.watchdog.patience(round.at)
     }
 }

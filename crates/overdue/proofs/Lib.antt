@@ -1,1 +1,1 @@
-mod LawLemmas
+pub mod LawLemmas

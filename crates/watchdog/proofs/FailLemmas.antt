@@ -1,5 +1,5 @@
 -- The own entries of a watchdog's seat.
-use Rattle.std.proofs.Common.{◌≡◌, ℕ, Bool, true, false, List, [], ◌∷◌, ◌++◌, refl, ap, sym, ◌∙◌, append_assoc, arith}
+use Rattle.std.proofs.Common.{◌≡◌, ℕ, Bool, true, false, List, [], ◌∷◌, ◌++◌, refl, ap, sym, ◌∙◌, append_assoc, ◌⊎◌, inl, inr, arith}
 use Rattle.std.specs.Prelude.{Option, Some, Result, Ok, Err}
 use Rattle.std.specs.List.{All}
 use Rattle.std.proofs.lemmas.List.Elements.{All-append, All-cons}
@@ -13,7 +13,11 @@ use Rattle.hall.specs.Seats.{SeatState, IsCarriedOut, own_calls}
 use Rattle.hall.proofs.CarryingOut.{are_own}
 use Rattle.watchdog.specs.Falling.{HaveFailed, NoFail, OneMore, HasFallen, Down, WasRefused}
 use Rattle.watchdog.specs.Guard.{GuardState}
-use Rattle.watchdog.specs.Watching.{HasWatched, Begins, Sees, Steps, IsStep, Stays, Wishes, Follows, PassesBy, Skips, Waits, Expires, IsRefused, IsFail}
+use Rattle.std.specs.Time.{instant_nanos}
+use Rattle.std.specs.declared.time.Instant.{Instant}
+use Rattle.overdue.specs.Laws.{was_refused}
+use Rattle.overdue.proofs.LawLemmas.{due}
+use Rattle.watchdog.specs.Watching.{HasWatched, NoRound, OneRound, Misses, HaveStepped, NoStep, OneStep, IsStep, Stays, Follows, PassesBy, Skips, Waits, Expires, IsRefused, IsFail, IsPast}
 
 -- a seat's own entries are these fails, in front of those that it had
 pub record MakesFails (old new : SeatState) : Type 0 where
@@ -53,19 +57,36 @@ fallen_fails kept slot from old new made refused (Down between failed looked non
 fallen_fails kept slot from old new made refused (WasRefused between refusal failed carried) =
     made_then old between new (failed_fails kept slot from old between made failed) (carried_fails slot between new (Err refusal) carried)
 
-step_fails : (kept : Option ℕ) (guard : GuardState) (old : SeatState) (guard_now : GuardState) (new : SeatState) → IsStep kept guard old guard_now new → MakesFails old new
-step_fails kept guard old guard_now new Stays = none_made old old refl
-step_fails kept guard old guard_now new (Wishes wish) = none_made old old refl
-step_fails kept guard old guard_now new (Follows now entries are) = none_made old old refl
-step_fails kept guard old guard_now new (PassesBy place none) = none_made old old refl
-step_fails kept guard old guard_now new (Skips now place gone) = none_made old old refl
-step_fails kept guard old guard_now new (Waits now early) = none_made old old refl
-step_fails kept guard old guard_now new (Expires now last made due fell) = fallen_fails kept guard.slot guard.place old new made false fell
-step_fails kept guard old guard_now new (IsRefused now last made due fell) = fallen_fails kept guard.slot guard.place old new made true fell
+step_fails : (kept : Option ℕ) (now : Instant) (guard : GuardState) (old : SeatState) (guard_now : GuardState) (new : SeatState)
+    → IsStep kept now guard old guard_now new → MakesFails old new
+step_fails kept now guard old guard_now new Stays = none_made old old refl
+step_fails kept now guard old guard_now new (Follows entries are) = none_made old old refl
+step_fails kept now guard old guard_now new (PassesBy none quiet) = none_made old old refl
+step_fails kept now guard old guard_now new (Skips gone) = none_made old old refl
+step_fails kept now guard old guard_now new (Waits early) = none_made old old refl
+step_fails kept now guard old guard_now new (Expires last made due fell) = fallen_fails kept guard.slot guard.place old new made false fell
+step_fails kept now guard old guard_now new (IsRefused last made due fell) = fallen_fails kept guard.slot guard.place old new made true fell
+
+stepped_fails : (kept : Option ℕ) (now : Instant) (guards guards_now : List GuardState) (old new : SeatState) → HaveStepped kept now guards old guards_now new → MakesFails old new
+stepped_fails kept now guards guards_now old new (NoStep gs seat) = none_made seat seat refl
+stepped_fails kept now guards guards_now old new (OneStep gs between seat before last place guard other stepped below step) =
+    made_then old before new (stepped_fails kept now guards between old before stepped) (step_fails kept now _ before guard new step)
 
 pub watched_fails : (kept : Option ℕ) (guards guards_now : List GuardState) (old new : SeatState) → HasWatched kept guards old guards_now new → MakesFails old new
-watched_fails kept guards guards_now old new (Begins gs seat) = none_made seat seat refl
-watched_fails kept guards guards_now old new (Sees gs gs_now seat between last watched looked) =
-    made_then old between new (watched_fails kept guards guards_now old between watched) (none_made between new looked.own)
-watched_fails kept guards guards_now old new (Steps gs between seat before last place guard other watched below step) =
-    made_then old before new (watched_fails kept guards between old before watched) (step_fails kept _ before guard new step)
+watched_fails kept guards guards_now old new (NoRound gs seat) = none_made seat seat refl
+watched_fails kept guards guards_now old new (OneRound gs between gs_now seat before last now watched round) =
+    made_then old before new (watched_fails kept guards between old before watched)
+    (made_then before round.between new (none_made before round.between round.saw.own) (stepped_fails kept now round.wishing guards_now round.between new round.steps))
+watched_fails kept guards guards_now old new (Misses gs between gs_now seat before last watched missed) =
+    made_then old before new (watched_fails kept guards between old before watched) (none_made before new missed.saw.own)
+
+-- a step that makes one has the period passed since the newest beginning, where none was refused since
+pub step_is_due : (kept : Option ℕ) (now : Instant) (guard : GuardState) (old : SeatState) (guard_now : GuardState) (new : SeatState)
+    → IsStep kept now guard old guard_now new → was_refused guard.met ≡ false → (own_calls new ≡ own_calls old) ⊎ IsPast guard.met (instant_nanos now)
+step_is_due kept now guard old guard_now new Stays fresh = inl refl
+step_is_due kept now guard old guard_now new (Follows entries are) fresh = inl refl
+step_is_due kept now guard old guard_now new (PassesBy none quiet) fresh = inl refl
+step_is_due kept now guard old guard_now new (Skips gone) fresh = inl refl
+step_is_due kept now guard old guard_now new (Waits early) fresh = inl refl
+step_is_due kept now guard old guard_now new (Expires last made told fell) fresh = inr (due guard.met (instant_nanos now) told fresh)
+step_is_due kept now guard old guard_now new (IsRefused last made told fell) fresh = inr (due guard.met (instant_nanos now) told fresh)

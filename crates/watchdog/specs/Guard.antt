@@ -15,6 +15,10 @@ pub record GuardState : Type 0 where
   pub wish : Option Wish
   pub place : ℕ
 
+-- a guard of which nothing is expected, and that has seen nothing
+abbrev pub fresh : ℕ → GuardState
+fresh slot = record { slot = slot; met = []; wish = None; place = 0 }
+
 -- what a timer has met behind an entry that a seat sees at this reading
 abbrev pub met_by : ℕ → ℕ → Instant → Entry → List Met → List Met
 met_by seat slot now entry met = if begins seat slot entry then Heard now ∷ met else (if ends slot entry then Ended ∷ met else met)
@@ -49,11 +53,16 @@ followed_by seat now entries guard (Some wish) = record {
 abbrev pub followed : ℕ → Instant → List Entry → GuardState → GuardState
 followed seat now entries guard = followed_by seat now entries guard guard.wish
 
--- a guard of which something is expected anew
+-- a guard of which something is expected anew from a place on: what was expected before has ended, and it sees again what stands behind that place
 abbrev pub wishing : Wish → GuardState → GuardState
-wishing wish guard = record { slot = guard.slot; met = guard.met; wish = Some wish; place = guard.place }
+wishing wish guard = record {
+  slot = guard.slot;
+  met = Ended ∷ guard.met;
+  wish = Some wish;
+  place = if nat_le wish.behind guard.place then wish.behind else guard.place;
+}
 
--- a guard of a service of which nothing is expected, further on in the journal
+-- a guard of a service of which nothing is expected, which has nothing to see
 abbrev pub passed : ℕ → GuardState → GuardState
 passed place guard = record { slot = guard.slot; met = guard.met; wish = guard.wish; place = place }
 

@@ -1,4 +1,5 @@
 pub mod Guard
 pub mod Falling
+pub mod Found
 pub mod Watching
 pub mod Wish

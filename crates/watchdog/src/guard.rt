@@ -42,11 +42,11 @@ impl Guard {
     ghost use Rattle.hall.specs.Seats.{IsOf};
     ghost use Rattle.overdue.specs.Timer.{due_at, is_overdue, period_of};
     ghost use Rattle.watchdog.specs.Falling.{HasFallen};
-    ghost use Rattle.watchdog.specs.Guard.{followed, looked, passed, refused, skipped, wishing};
+    ghost use Rattle.watchdog.specs.Guard.{followed, fresh, looked, passed, refused, skipped, wishing};
 
     /// The guard of a service of which nothing is expected, from the beginning of the journal on.
     pub(crate) fn new(slot: Slot) -> Guard
-        ensures { result ≡ record { slot = slot; met = []; wish = None; place = 0 } }
+        ensures { result ≡ fresh slot }
     {
         Guard {
             slot,
@@ -70,7 +70,8 @@ impl Guard {
 
     /// Whether something is expected, or will be.
     pub(crate) fn is_awake(&self) -> bool
-        ensures asleep { IsFalse result → period_of self.now.met ≡ None }
+        ensures asleep { IsFalse result
+            → (self.now.wish ≡ None) × (period_of self.now.met ≡ None) }
     {
         self.wish.is_some() || self.timer.period().is_some()
     }
@@ -82,11 +83,17 @@ impl Guard {
         self.timer.due()
     }
 
-    /// Takes over what is expected, once it comes to its place.
+    /// Takes over what is expected, once it comes to its place. What stands behind that place counts for it, so it is seen again where it
+    /// has been seen.
     pub(crate) fn wish(&mut self, wish: Wish)
         ensures { self.new ≡ wishing wish self.old }
     {
+        let behind = u64::from(wish.behind);
+        self.timer.end();
         self.wish = Some(wish);
+        if behind <= self.place {
+            self.place = behind;
+        }
     }
 
     /// Goes on to a place of the journal, where nothing is expected.

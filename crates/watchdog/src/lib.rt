@@ -5,37 +5,39 @@
 //! ```rust
 //! #![tactic(auto)]
 //!
-//! ghost use Rattle.std.specs.List.{All};
+//! ghost use Rattle.std.specs.Prelude.{◌≡◌, IfOk, IfErr};
 //! ghost use Rattle.hall.specs.Seats.{IsOf};
-//! ghost use Rattle.watchdog.specs.Watching.{HasWatched, WasLooked, guards_of};
+//! ghost use Rattle.watchdog.specs.Watching.{HasHadRound, HasMissedRound, guards_of};
 //!
 //! use desk_core::Keep;
 //! use hall::{Hall, Seat};
 //! use probe_core::Probe;
+//! use std::io;
 //! use std::sync::Wait;
-//! use std::time::{Duration, Instant};
-//! use watchdog::Watchdog;
+//! use std::time::Clock;
+//! use watchdog::{Round, Watchdog};
 //!
-//! /// A round of a thread's loop, and how long the thread may wait then.
-//! pub fn watch<R: Wait, P: Probe, K: Keep>(
+//! /// A round of a thread's loop.
+//! pub fn watch<R: Wait + Clock, P: Probe, K: Keep>(
 //!     rt: &R,
 //!     hall: &Hall<P, K>,
 //!     watchdog: &mut Watchdog,
 //!     seat: &mut Seat<P, K>,
-//!     now: Instant,
-//! ) -> Duration
+//! ) -> io::Result<Round>
 //!     requires ours { IsOf hall.now seat.old }
-//!     ensures watched { HasWatched K.kept (guards_of watchdog.old) seat.old (guards_of watchdog.new) seat.new }
-//!     ensures all { All (WasLooked now) (guards_of watchdog.new) }
+//!     ensures had { IfOk result (λ round. HasHadRound K.kept round.at (guards_of watchdog.old) seat.old
+//!         (guards_of watchdog.new) seat.new) }
+//!     ensures missed { IfErr result (λ error. HasMissedRound (guards_of watchdog.old) seat.old
+//!         (guards_of watchdog.new) seat.new) }
 //! {
-//!     watchdog.round(rt, hall, seat, now);
-//!     watchdog.patience(now)
+//!     watchdog.round(rt, rt, hall, seat)
 //! }
 //! ```
 #![tactic(auto)]
 
 mod expectations;
 mod falling;
+mod found;
 mod guard;
 mod laws;
 mod steps;
@@ -44,7 +46,8 @@ mod wish;
 
 pub use expectations::Expectations;
 pub use falling::Fall;
+pub use found::Found;
 pub use guard::Guard;
-pub use laws::watchdogs_make_fails_alone;
-pub use watchdog::Watchdog;
+pub use laws::{fails_are_due, watchdogs_make_fails_alone};
+pub use watchdog::{Round, Watchdog};
 pub use wish::{MAX_SECONDS, Wish};

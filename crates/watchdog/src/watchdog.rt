@@ -1,17 +1,16 @@
 //! A watchdog over all services of a hall.
 
 use crate::expectations::Expectations;
+use crate::found::{Found, find, is_any_awake};
 use crate::guard::Guard;
-use crate::steps::{
-    end_of_journal, follow_all, is_any_awake, look_all, next_entries, pass_all, skip_all,
-    take_wishes,
-};
+use crate::steps::{go_on_all, look_all, take_wishes};
 use desk_core::{Entry, Keep, Slot};
 use hall::{Hall, Seat};
 use probe_core::Probe;
 use std::alloc::{AllocError, Global};
+use std::io;
 use std::sync::{Arc, Wait};
-use std::time::{Duration, Instant};
+use std::time::{Clock, Duration, Instant};
 
 /// How many entries are looked at together, with one pass through the gate.
 const BATCH: usize = 4_096;
@@ -23,6 +22,15 @@ const TICK_MILLIS: u64 = 50;
 /// How many milliseconds it may be away else.
 const IDLE_MILLIS: u64 = 1_000;
 
+/// What a round came to.
+#[derive(Clone, Copy, Debug)]
+pub struct Round {
+    /// The reading of the clock by which it was had.
+    pub at: Instant,
+    /// Whether the status of a service changed.
+    pub shows: bool,
+}
+
 /// Watches over the services that are expected to be heard, with a seat of its own, and brings down those that are not.
 ///
 /// What a service was told by, be it a session or a script, it learns from the journal. It sees an entry in the first round behind it.
@@ -31,20 +39,23 @@ pub struct Watchdog {
     guards: Vec<Guard>,
     /// Room for a batch of entries.
     entries: Vec<Entry>,
-    /// The place up to which the guards have seen the journal.
-    place: u64,
+    /// Whether there may be more to see at once.
+    has_more: bool,
     expectations: Arc<Expectations>,
 }
 
 impl Watchdog {
-    ghost use Rattle.std.specs.Prelude.{◌≡◌, length, IfOk};
-    ghost use Rattle.std.specs.List.{All};
+    ghost use Rattle.std.specs.Prelude.{◌≡◌, ◌<◌, ℕ, length, IfErr, IfOk};
+    ghost use Rattle.std.specs.List.{slice_index_or};
     ghost use Rattle.hall.specs.Seats.{IsOf};
-    ghost use Rattle.watchdog.specs.Watching.{HasWatched, WasLooked, guards_of};
+    ghost use Rattle.watchdog.specs.Guard.{GuardState, fresh};
+    ghost use Rattle.watchdog.specs.Watching.{HasHadRound, HasMissedRound, guards_of};
 
     /// A watchdog over sixteen slots, of which sessions and scripts say what is expected. It takes all memory that it needs.
     pub fn new(alloc: Global, expectations: Arc<Expectations>) -> Result<Watchdog, AllocError>
-        ensures { IfOk result (λ watchdog. length (guards_of watchdog) ≡ 16) }
+        ensures count { IfOk result (λ watchdog. length (guards_of watchdog) ≡ 16) }
+        ensures fresh { IfOk result (λ watchdog. (slot : ℕ) (other : GuardState)
+            → slot < 16 → slice_index_or (guards_of watchdog) slot other ≡ fresh slot) }
     {
         let mut guards = Vec::with_capacity(alloc, usize::from(Slot::COUNT))?;
         for number in 0..Slot::COUNT {
@@ -53,14 +64,14 @@ impl Watchdog {
         Ok(Watchdog {
             guards,
             entries: Vec::with_capacity(alloc, BATCH)?,
-            place: 0,
+            has_more: false,
             expectations,
         })
     }
 
     /// How long the next round may be away from this one.
     pub fn patience(&self, now: Instant) -> Duration {
-        if self.entries.len() >= BATCH {
+        if self.has_more {
             return Duration::from_millis(0);
         }
         if !is_any_awake(&self.guards) {
@@ -75,55 +86,34 @@ impl Watchdog {
         patience
     }
 
-    /// Sees what has come by this reading, and brings the services down that are overdue. It tells whether a status changed.
-    pub fn round<R: Wait, P: Probe, K: Keep>(
+    /// Sees what has come, reads the clock, and brings the services down that are overdue then. So what is seen counts from a reading on that
+    /// is not before it came, and nothing is brought down early. Where the clock cannot be read, that is left to the next round.
+    pub fn round<R: Wait, C: Clock, P: Probe, K: Keep>(
         &mut self,
         rt: &R,
+        clock: &C,
         hall: &Hall<P, K>,
         seat: &mut Seat<P, K>,
-        now: Instant,
-    ) -> bool
+    ) -> io::Result<Round>
         requires ours { IsOf hall.now seat.old }
-        ensures watched { HasWatched K.kept (guards_of self.old) seat.old (guards_of self.new)
-            seat.new }
-        ensures all { All (WasLooked now) (guards_of self.new) }
-        ensures ours { IsOf hall.now seat.new }
-    {
-        self.see(rt, hall, seat, now);
-        look_all(rt, hall, seat, &mut self.guards, &self.expectations, now)
-    }
-
-    /// Takes over what is expected, and sees the next entries.
-    fn see<R: Wait, P: Probe, K: Keep>(
-        &mut self,
-        rt: &R,
-        hall: &Hall<P, K>,
-        seat: &mut Seat<P, K>,
-        now: Instant,
-    )
-        requires ours { IsOf hall.now seat.old }
-        ensures watched { HasWatched K.kept (guards_of self.old) seat.old (guards_of self.new)
-            seat.new }
+        ensures had { IfOk result (λ round. HasHadRound K.kept round.at (guards_of self.old) seat.old
+            (guards_of self.new) seat.new) }
+        ensures missed { IfErr result (λ error. HasMissedRound (guards_of self.old) seat.old
+            (guards_of self.new) seat.new) }
         ensures ours { IsOf hall.now seat.new }
     {
         let Watchdog {
             guards,
             entries,
-            place,
+            has_more,
             expectations,
         } = self;
         take_wishes(guards, expectations);
-        let end = end_of_journal(hall, seat);
-        if !is_any_awake(guards) {
-            entries.clear();
-            pass_all(guards, end);
-            *place = end;
-        } else if next_entries(rt, hall, seat, *place, entries) {
-            follow_all(seat.number(), guards, *place, entries, now);
-            *place = place.saturating_add(entries.len() as u64);
-        } else {
-            skip_all(guards, *place, end, now);
-            *place = end;
-        }
+        let found = find(rt, hall, seat, guards, entries);
+        *has_more = entries.len() >= BATCH || matches!(found, Found::Forgotten { .. });
+        let at = Instant::now(clock)?;
+        go_on_all(seat.number(), guards, found, entries, at);
+        let shows = look_all(rt, hall, seat, guards, expectations, at);
+        Ok(Round { at, shows })
     }
 }

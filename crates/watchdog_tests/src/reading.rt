@@ -1,21 +1,23 @@
 use std::io;
 use std::time::{Clock, Duration, Instant};
 
-/// A clock that stands still at so many milliseconds.
+/// A clock that stands still at so many milliseconds, or cannot be read.
 #[derive(Drop)]
-struct At(u64);
+pub(crate) struct At(pub(crate) Option<u64>);
 
 impl Clock for At {
     fn monotonic(&self) -> io::Result<Duration> {
-        Ok(Duration::from_millis(self.0))
+        self.0
+            .map(Duration::from_millis)
+            .ok_or(io::ErrorKind::Unsupported.into())
     }
 
     fn since_1970(&self) -> io::Result<Duration> {
-        Ok(Duration::from_millis(self.0))
+        self.monotonic()
     }
 }
 
 /// The reading of the clock at so many milliseconds.
 pub(crate) fn reading(millis: u64) -> io::Result<Instant> {
-    Instant::now(&At(millis))
+    Instant::now(&At(Some(millis)))
 }

@@ -18,6 +18,8 @@ pub(crate) enum Step {
     ExpectBehind(u32, u32),
     /// A round at so many milliseconds, and whether it changes a status.
     Round(u64, bool),
+    /// A round whose clock cannot be read.
+    NoClock,
     /// How many fails the watchdog has made in all.
     Fails(u64),
     /// How often it brought a service down.
@@ -62,6 +64,42 @@ pub(crate) const FORGETTING: &[Step] = &[
     Step::Fails(3),
 ];
 
+/// What was passed by is not missed once something is expected.
+pub(crate) const FORGETTING_ASLEEP: &[Step] = &[
+    REGISTER,
+    Step::Many(20),
+    Step::Round(0, false),
+    Step::Expect(1),
+    Step::Round(0, false),
+    Step::Round(1_000, true),
+];
+
+/// What comes behind a skip is heard.
+pub(crate) const HEARING_AGAIN: &[Step] = &[
+    REGISTER,
+    Step::Expect(1),
+    Step::Round(0, false),
+    Step::Many(20),
+    Step::Round(900, false),
+    Step::Patience(900, 0),
+    Step::Pass,
+    Step::Round(1_500, false),
+    Step::Patience(1_500, 50),
+    Step::Round(2_499, false),
+    Step::Round(2_500, true),
+];
+
+/// What is expected behind many entries holds behind these.
+pub(crate) const FAR_BEHIND: &[Step] = &[
+    REGISTER,
+    Step::Many(300),
+    Step::Retire,
+    REGISTER,
+    Step::Expect(1),
+    Step::Round(0, false),
+    Step::Round(1_000, true),
+];
+
 /// More entries than are seen in a round: what is seen later is a later beginning, and the next round comes at once.
 pub(crate) const MANY: &[Step] = &[
     REGISTER,
@@ -77,7 +115,7 @@ pub(crate) const MANY: &[Step] = &[
 ];
 
 /// Over a history of at most a hundred entries.
-pub(crate) const ROWS: [(&str, &[Step]); 18] = [
+pub(crate) const ROWS: [(&str, &[Step]); 24] = [
     (
         "a service that is not heard from falls at once, exactly when it is due, and once",
         &[
@@ -340,6 +378,89 @@ pub(crate) const ROWS: [(&str, &[Step]); 18] = [
             Step::Round(1_000, false),
             Step::Round(2_999, false),
             Step::Round(3_000, true),
+        ],
+    ),
+    (
+        "a retirement ends it that stands behind its place and was seen before it",
+        &[
+            REGISTER,
+            Step::Round(0, false),
+            Step::Retire,
+            REGISTER,
+            Step::Round(100, false),
+            Step::ExpectBehind(1, 1),
+            Step::Round(200, false),
+            Step::Round(1_200, false),
+            Step::Fails(0),
+        ],
+    ),
+    (
+        "and so it does where its guard was awake",
+        &[
+            REGISTER,
+            Step::Expect(5),
+            Step::Round(0, false),
+            Step::Retire,
+            REGISTER,
+            Step::Round(100, false),
+            Step::ExpectBehind(1, 1),
+            Step::Round(200, false),
+            Step::Round(9_200, false),
+            Step::Fails(0),
+        ],
+    ),
+    (
+        "what was expected before has ended while the new waits for its place",
+        &[
+            REGISTER,
+            Step::Expect(1),
+            Step::Round(0, false),
+            Step::ExpectBehind(1, 2),
+            Step::Round(500, false),
+            Step::Round(5_000, false),
+            Step::Fails(0),
+            Step::Pass,
+            Step::Round(6_000, false),
+            Step::Round(6_999, false),
+            Step::Round(7_000, true),
+        ],
+    ),
+    (
+        "where the clock cannot be read nothing is done, and nothing is lost",
+        &[
+            REGISTER,
+            Step::Expect(1),
+            Step::NoClock,
+            Step::Pass,
+            Step::NoClock,
+            Step::Fails(0),
+            Step::Round(1_000, false),
+            Step::NoClock,
+            Step::Round(1_999, false),
+            Step::Round(2_000, true),
+            Step::Fails(3),
+        ],
+    ),
+    (
+        "what is expected from a place on that was passed by is seen to from there on",
+        &[
+            REGISTER,
+            Step::Pass,
+            Step::Round(0, false),
+            Step::ExpectBehind(1, 1),
+            Step::Round(0, false),
+            Step::Round(1_000, true),
+            Step::Fails(3),
+        ],
+    ),
+    (
+        "a service may be silent for a day",
+        &[
+            REGISTER,
+            Step::Expect(86_400),
+            Step::Round(0, false),
+            Step::Round(86_399_999, false),
+            Step::Round(86_400_000, true),
         ],
     ),
     (

@@ -3,7 +3,7 @@
 ghost use Rattle.std.specs.Prelude.{IfOk};
 ghost use Rattle.hall.specs.Seats.{IsOf};
 
-use crate::reading::reading;
+use crate::reading::{At, reading};
 use crate::rows::Step;
 use desk_core::{Finding, Keep};
 use hall::{Hall, Seat};
@@ -80,9 +80,13 @@ impl<R: Wait, K: Keep> Stage<'_, R, K> {
             }
             Step::ExpectBehind(seconds, behind) => self.expect(Wish { seconds, behind }),
             Step::Round(millis, shows) => {
-                let now = reading(millis)?;
-                let shown = self.watchdog.round(self.rt, self.hall, self.own, now);
-                same(&shown, &shows, &(self.row, step))
+                let clock = At(Some(millis));
+                let round = self.watchdog.round(self.rt, &clock, self.hall, self.own)?;
+                same(&round.shows, &shows, &(self.row, step))
+            }
+            Step::NoClock => {
+                let round = self.watchdog.round(self.rt, &At(None), self.hall, self.own);
+                same(&round.is_err(), &true, &(self.row, step))
             }
             Step::Fails(count) => same(&self.own.made(), &count, &(self.row, step)),
             Step::Expired(count) => same(&self.expectations.expired(), &count, &(self.row, step)),

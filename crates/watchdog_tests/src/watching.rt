@@ -3,7 +3,9 @@
 ghost use Rattle.std.specs.Prelude.{◌≡◌};
 ghost use Rattle.hall.specs.Seats.{IsOf};
 
-use crate::rows::{FORGETTING, FULL, MANY, ROWS, Step};
+use crate::rows::{
+    FAR_BEHIND, FORGETTING, FORGETTING_ASLEEP, FULL, HEARING_AGAIN, MANY, ROWS, Step,
+};
 use crate::stage::Stage;
 use desk_core::{Catalogue, Keep, KeepMany};
 use hall::{Hall, Seat};
@@ -28,6 +30,11 @@ impl Keep for KeepSixteen {
     }
 }
 
+/// As many names as there are slots.
+const NAMES: [&str; 16] = [
+    "", "a", "b", "c", "d", "e", "f", "g", "h", "i", "j", "k", "l", "m", "n", "o",
+];
+
 /// Plays the steps over a new hall with room for so many entries, of which this service is watched.
 fn play<R: Wait, K: Keep>(
     rt: &R,
@@ -38,7 +45,7 @@ fn play<R: Wait, K: Keep>(
     steps: &[Step],
 ) -> Result<(), Fail> {
     let mut names = Vec::new(alloc);
-    for text in ["a", "b", ""] {
+    for text in NAMES {
         names.push(String::from_str(alloc, text)?)?;
     }
     let (hall, mut seats) = Hall::<Threshold, K>::new(
@@ -102,13 +109,16 @@ fn play_all<R: Wait>(rt: &R, alloc: Global, name: &str) -> Result<(), Fail> {
     }
     play::<R, KeepMany>(rt, alloc, name, 101, 4, FULL)?;
     play::<R, KeepSixteen>(rt, alloc, name, 102, 100, FORGETTING)?;
-    play::<R, KeepMany>(rt, alloc, name, 103, 10_000, MANY)
+    play::<R, KeepSixteen>(rt, alloc, name, 103, 100, FORGETTING_ASLEEP)?;
+    play::<R, KeepSixteen>(rt, alloc, name, 104, 100, HEARING_AGAIN)?;
+    play::<R, KeepMany>(rt, alloc, name, 105, 10_000, FAR_BEHIND)?;
+    play::<R, KeepMany>(rt, alloc, name, 106, 10_000, MANY)
 }
 
 #[test]
 fn brings_down_what_is_not_heard_from(rt: HostRuntime) -> Result<(), Fail> {
     let alloc = rt.alloc();
-    for name in ["a", "b"] {
+    for name in ["", "a", "o"] {
         play_all(&rt, alloc, name)?;
     }
     Ok(())

@@ -6,9 +6,9 @@ use Rattle.watchdog.proofs.steps.look_one.Goals as goal
 
 pub returns-in_default-clause-step : goal.returns-in_default-clause-step
 returns-in_default-clause-step g c =
-    subst (λ seat. IsStep g.K.Keep.kept c.args.guard.now c.args.seat.now c.look.new.self seat) (sym c.in_default.ensures.waits.1)
-    (subst (λ guard. IsStep g.K.Keep.kept c.args.guard.now c.args.seat.now guard c.args.seat.now) (sym c.in_default.ensures.waits.0)
-    (Waits c.args.now c.in_default.ensures.early))
+    subst (λ seat. IsStep g.K.Keep.kept c.args.now c.args.guard.now c.args.seat.now c.look.new.self seat) (sym c.in_default.ensures.waits.1)
+    (subst (λ guard. IsStep g.K.Keep.kept c.args.now c.args.guard.now c.args.seat.now guard c.args.seat.now) (sym c.in_default.ensures.waits.0)
+    (Waits c.in_default.ensures.early))
 
 pub returns-in_default-clause-looked : goal.returns-in_default-clause-looked
 returns-in_default-clause-looked g c = (c.args.guard.now.met, inl (ap (λ (guard : GuardState). guard.met) c.in_default.ensures.waits.0))

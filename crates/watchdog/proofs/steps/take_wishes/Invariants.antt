@@ -1,8 +1,6 @@
-use Rattle.std.proofs.Common.{◌≡◌, ℕ, vec_len}
-use Rattle.std.specs.Prelude.{Option}
-use Rattle.hall.specs.Seats.{SeatState}
-use Rattle.watchdog.specs.Watching.{HasWatched}
+use Rattle.std.proofs.Common.{◌≡◌, vec_len}
+use Rattle.watchdog.specs.Watching.{HaveWished}
 use Rattle.watchdog.proofs.steps.take_wishes.Given as goal
 
 abbrev pub invariant-loop-place : goal.invariant-loop-place
-invariant-loop-place l = (vec_len l.guards ≡ vec_len l.fn.guards) × ((kept : Option ℕ) (seat : SeatState) → HasWatched kept l.fn.guards.items seat l.guards.items seat)
+invariant-loop-place l = (vec_len l.guards ≡ vec_len l.fn.guards) × HaveWished l.fn.guards.items l.guards.items

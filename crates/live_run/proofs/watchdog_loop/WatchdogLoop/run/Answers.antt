@@ -1,10 +1,10 @@
 use Rattle.live_run.specs.Watched.{guards_in}
-use Rattle.watchdog.specs.Watching.{Begins}
-use Rattle.watchdog.proofs.StepLemmas.{watched_then}
+use Rattle.watchdog.specs.Watching.{NoRound}
+use Rattle.live_run.proofs.WatchLemmas.{watched_then}
 use Rattle.live_run.proofs.watchdog_loop.WatchdogLoop.run.Goals as goal
 
 pub loop-init : goal.loop-init
-loop-init g c = (tt, tt, c.requires.ours, Begins (guards_in c.args.self.now) c.args.seat.now)
+loop-init g c = (tt, tt, c.requires.ours, NoRound (guards_in c.args.self.now) c.args.seat.now)
 
 pub loop-preserved-then-is_err : goal.loop-preserved-then-is_err
 loop-preserved-then-is_err g c = (
