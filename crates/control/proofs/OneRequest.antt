@@ -5,13 +5,14 @@ use Rattle.std.specs.List.{slice_split}
 use Rattle.script.specs.declared.expectation.Expectation.{Expectation}
 use Rattle.script.specs.declared.line.Line.{Line}
 use Rattle.script.specs.Expectation.{IsExpectation, IsExpectationText}
+use Rattle.script.specs.Question.{IsQuestion, IsQuestionText}
 use Rattle.script.specs.Line.{IsLine}
 use Rattle.script.specs.Line.IsLine.{OrderLine}
-use Rattle.script.proofs.OneLine.{line_or_expectation, one_expectation_text, one_line_text}
+use Rattle.script.proofs.OneLine.{expectation_or_question, line_or_expectation, line_or_question, one_expectation_text, one_line_text, one_question_text}
 use Rattle.control.specs.declared.request.Request.{Request}
 use Rattle.control.specs.declared.request.Request.TheVariants as requests
 use Rattle.control.specs.Request.{IsOfferedText, IsRequest, IsWord}
-use Rattle.control.specs.Request.IsRequest.{OfLine, OfExpectation, OfWord}
+use Rattle.control.specs.Request.IsRequest.{OfLine, OfExpectation, OfQuestion, OfWord}
 use Rattle.control.specs.Request.IsWord.{ForList, ForStats, ForStop}
 
 -- each of three words alone is no line
@@ -48,6 +49,19 @@ word_or_expectation text request expectation (ForList _ same) found = word_or_ex
 word_or_expectation text request expectation (ForStats _ same) found = word_or_expectation_by text (codes "stats") expectation refl same found
 word_or_expectation text request expectation (ForStop _ same) found = word_or_expectation_by text (codes "stop") expectation refl same found
 
+-- nor is it a question
+no_question : (word : List ℕ) (name : List ℕ) → IsQuestion (word ∷ []) name → ⊥
+no_question word name is = elim is [ ]
+
+word_or_question_by : (text word name : List ℕ) → slice_split (λ c. c == 32) word ≡ word ∷ [] → text ≡ word → IsQuestionText text name → ⊥
+word_or_question_by text word name split same found =
+    no_question word name (subst (λ (all : List (List ℕ)). IsQuestion all name) (found.are.parted ∙ (ap (slice_split (λ c. c == 32)) same ∙ split)) found.is)
+
+word_or_question : (text : List ℕ) (request : Request) (name : List ℕ) → IsWord text request → IsQuestionText text name → ⊥
+word_or_question text request name (ForList _ same) found = word_or_question_by text (codes "list") name refl same found
+word_or_question text request name (ForStats _ same) found = word_or_question_by text (codes "stats") name refl same found
+word_or_question text request name (ForStop _ same) found = word_or_question_by text (codes "stop") name refl same found
+
 -- the three words differ in their third byte
 list_stats : (text : List ℕ) → text ≡ codes "list" → text ≡ codes "stats" → ⊥
 list_stats text is also = let differ : 115 ≡ 97 = ap (λ (t : List ℕ). get_or t 2 0) (sym is ∙ also) in absurd (omega (arith, differ))
@@ -76,6 +90,13 @@ one_request names text first second (OfLine _ line is) (OfExpectation _ expectat
 one_request names text first second (OfExpectation _ expectation is) (OfLine _ line also) = absurd (line_or_expectation names text line expectation also.is is)
 one_request names text first second (OfExpectation _ expectation is) (OfExpectation _ other also) = ap requests.Expect (one_expectation_text text expectation other is also)
 one_request names text first second (OfExpectation _ expectation is) (OfWord _ request also) = absurd (word_or_expectation text request expectation also is)
+one_request names text first second (OfLine _ line is) (OfQuestion _ name also) = absurd (line_or_question names text line name is.is also)
+one_request names text first second (OfExpectation _ expectation is) (OfQuestion _ name also) = absurd (expectation_or_question text expectation name is also)
+one_request names text first second (OfQuestion _ name is) (OfLine _ line also) = absurd (line_or_question names text line name also.is is)
+one_request names text first second (OfQuestion _ name is) (OfExpectation _ expectation also) = absurd (expectation_or_question text expectation name also is)
+one_request names text first second (OfQuestion _ name is) (OfQuestion _ other also) = ap requests.Why (one_question_text text name other is also)
+one_request names text first second (OfQuestion _ name is) (OfWord _ request also) = absurd (word_or_question text request name also is)
+one_request names text first second (OfWord _ request is) (OfQuestion _ name also) = absurd (word_or_question text request name is also)
 one_request names text first second (OfWord _ request is) (OfExpectation _ expectation also) = absurd (word_or_expectation text request expectation is also)
 one_request names text first second (OfWord _ request is) (OfLine _ line also) = absurd (word_or_line names text request line is also)
 one_request names text first second (OfWord _ request is) (OfWord _ other also) = one_word text request other is also

@@ -7,19 +7,21 @@ use Rattle.script.specs.declared.expectation.Expectation.{Expectation}
 use Rattle.script.specs.declared.line.Line.{Line}
 use Rattle.script.specs.Expectation.{IsExpectationText}
 use Rattle.script.specs.Line.{IsLineText}
+use Rattle.script.specs.Question.{IsQuestionText}
 use Rattle.script.proofs.OneLine.{one_line_text}
 use Rattle.control.specs.declared.request.Request.{Request}
 use Rattle.control.specs.Request.{IsOffered, IsOfferedText, IsRequest, IsWord}
-use Rattle.control.specs.Request.IsRequest.{OfLine, OfExpectation, OfWord}
+use Rattle.control.specs.Request.IsRequest.{OfLine, OfExpectation, OfQuestion, OfWord}
 use Rattle.control.specs.Request.IsWord.{ForList, ForStats, ForStop}
 
--- a text that is none of the words, no expectation, and no line that is offered
+-- a text that is none of the words, no expectation, no question, and no line that is offered
 pub no_request : (names : List (List ℕ)) (text : List ℕ) → ((request : Request) → ¬ IsWord text request)
-    → ((expectation : Expectation) → ¬ IsExpectationText text expectation) → ((line : Line) → ¬ IsOfferedText names text line)
+    → ((expectation : Expectation) → ¬ IsExpectationText text expectation) → ((name : List ℕ) → ¬ IsQuestionText text name) → ((line : Line) → ¬ IsOfferedText names text line)
     → (request : Request) → ¬ IsRequest names text request
-no_request names text word expectation line request (OfLine _ found is) = line found is
-no_request names text word expectation line request (OfExpectation _ found is) = expectation found is
-no_request names text word expectation line request (OfWord _ _ is) = word request is
+no_request names text word expectation question line request (OfLine _ found is) = line found is
+no_request names text word expectation question line request (OfExpectation _ found is) = expectation found is
+no_request names text word expectation question line request (OfQuestion _ name is) = question name is
+no_request names text word expectation question line request (OfWord _ _ is) = word request is
 
 -- a text that is none of the words
 pub no_word : (text : List ℕ) → ¬ text ≡ codes "list" → ¬ text ≡ codes "stats" → ¬ text ≡ codes "stop" → (request : Request) → ¬ IsWord text request

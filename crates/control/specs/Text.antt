@@ -1,12 +1,16 @@
 -- The texts of answers.
-use Rattle.std.specs.Prelude.{ℕ, ◌≡◌, ◌≢◌, Bool, true, false, ◌+◌, List, [], ◌∷◌, ◌++◌, codes, decimal, Option, None, Some}
+use Rattle.std.specs.Prelude.{ℕ, ◌≡◌, ◌≢◌, Bool, true, false, ◌+◌, List, [], ◌∷◌, ◌++◌, codes, decimal, Option, None, Some, unwrap_or, if◌then◌else◌}
 use Rattle.std.specs.List.{join_by}
 use Rattle.health_wire.specs.declared.serving.Serving.{Serving}
 use Rattle.health_wire.specs.declared.serving.Serving.TheVariants.{Unknown, NotServing, ServiceUnknown, Serving as IsServing}
+use Rattle.desk_core.specs.declared.reason.Cause.{Cause}
+use Rattle.desk_core.specs.declared.reason.Reason.{Reason}
+use Rattle.desk_core.specs.declared.reason.Reason.TheVariants as reasons
 use Rattle.desk_core.specs.Board.{status_in}
+use Rattle.desk_core.specs.Catalogue.{name_at}
 use Rattle.script.specs.RunText.{changed_text, checked_text}
 use Rattle.control.specs.declared.answer.Answer.{Answer}
-use Rattle.control.specs.declared.answer.Answer.TheVariants.{Changed, Expected, Checked, Board, Listed, Told, Stopping, BadLine, TooLong, NotAllowed, OutOfMemory, Skipped}
+use Rattle.control.specs.declared.answer.Answer.TheVariants.{Changed, Expected, Checked, Board, Listed, Told, Explained, NotFound, Stopping, BadLine, TooLong, NotAllowed, OutOfMemory, Skipped}
 use Rattle.control.specs.declared.stats.Counts.{Counts}
 use Rattle.control.specs.declared.stats.Ended.{Ended}
 use Rattle.control.specs.declared.stats.OpenNow.{OpenNow}
@@ -54,6 +58,30 @@ counts_text counts = open_text counts.current ++ codes " " ++ ended_text counts.
 abbrev pub stats_text : Stats → List ℕ
 stats_text stats = codes "entries " ++ decimal stats.entries ++ codes " kept " ++ decimal stats.kept ++ codes " " ++ counts_text stats.counts ++ codes " left " ++ decimal stats.left
 
+-- an entry that a reason names
+abbrev pub cause_text : Cause → List ℕ
+cause_text cause = if cause.is_kept then codes "entry " ++ decimal cause.place else codes "an older entry"
+
+-- the word for the name of a slot
+abbrev pub slot_word : List (List ℕ) → ℕ → List ℕ
+slot_word names slot = word_of (unwrap_or (name_at names slot) [])
+
+-- so many failures in a row, and so many of the passes that were wanted since
+abbrev pub row_text : ℕ → Cause → ℕ → ℕ → List ℕ
+row_text fails cause passes rise =
+    decimal fails ++ codes " fails in a row up to " ++ cause_text cause ++ codes ", " ++ decimal passes ++ codes " of " ++ decimal rise ++ codes " passes since"
+
+-- why a service has its status
+abbrev pub reason_text : List (List ℕ) → Reason → List ℕ
+reason_text names reasons.Serving = codes "serving"
+reason_text names (reasons.ShutDown cause) = codes "not_serving: shut down by " ++ cause_text cause
+reason_text names (reasons.DependsOn slot) = codes "not_serving: depends on " ++ slot_word names slot
+reason_text names (reasons.Failed fails cause passes rise) = codes "not_serving: " ++ row_text fails cause passes rise
+reason_text names (reasons.SetDown cause) = codes "not_serving: set down by " ++ cause_text cause
+reason_text names (reasons.Unheard cause) = codes "unknown: nothing heard since " ++ cause_text cause
+reason_text names (reasons.Retired cause) = codes "absent: retired by " ++ cause_text cause
+reason_text names reasons.NeverRegistered = codes "absent: never registered"
+
 -- the text of an answer that has one of a few
 abbrev pub short_text : Answer → Option (List ℕ)
 short_text (Changed result) = Some (changed_text result)
@@ -62,6 +90,8 @@ short_text (Checked status) = Some (checked_text status)
 short_text (Board word) = None
 short_text (Listed word) = None
 short_text (Told stats) = None
+short_text (Explained reason) = None
+short_text NotFound = Some (codes "not found")
 short_text Stopping = Some (codes "stopping")
 short_text BadLine = Some (codes "bad line")
 short_text TooLong = Some (codes "line too long")
@@ -77,6 +107,8 @@ long_text names (Checked status) = []
 long_text names (Board word) = decimal word
 long_text names (Listed word) = list_text (status_in word) names
 long_text names (Told stats) = stats_text stats
+long_text names (Explained reason) = reason_text names reason
+long_text names NotFound = []
 long_text names Stopping = []
 long_text names BadLine = []
 long_text names TooLong = []
@@ -92,6 +124,8 @@ answer_text names (Checked status) = checked_text status ++ codes "\n"
 answer_text names (Board word) = decimal word ++ codes "\n"
 answer_text names (Listed word) = list_text (status_in word) names ++ codes "\n"
 answer_text names (Told stats) = stats_text stats ++ codes "\n"
+answer_text names (Explained reason) = reason_text names reason ++ codes "\n"
+answer_text names NotFound = codes "not found\n"
 answer_text names Stopping = codes "stopping\n"
 answer_text names BadLine = codes "bad line\n"
 answer_text names TooLong = codes "line too long\n"
@@ -107,6 +141,8 @@ ends_session (Checked status) = false
 ends_session (Board word) = false
 ends_session (Listed word) = false
 ends_session (Told stats) = false
+ends_session (Explained reason) = false
+ends_session NotFound = false
 ends_session Stopping = true
 ends_session BadLine = false
 ends_session TooLong = true

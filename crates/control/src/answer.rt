@@ -1,5 +1,5 @@
 use crate::stats::Stats;
-use desk_core::{Refusal, Reply};
+use desk_core::{Reason, Refusal, Reply};
 use health_wire::Serving;
 use script::{changed_text, checked_text};
 
@@ -15,6 +15,10 @@ pub enum Answer {
     /// The board whose statuses a list of all names tells.
     Listed(u64),
     Told(Stats),
+    /// Why a service has its status.
+    Explained(Reason),
+    /// The name that was asked about is not listed.
+    NotFound,
     /// The server is to end.
     Stopping,
     /// The line is no request.
@@ -34,26 +38,31 @@ impl Answer {
     ghost use Rattle.control.specs.Text.{ends_session, short_text};
 
     /// The text of an answer that has one of a few. All others are told where nothing was changed.
-    pub(crate) fn short_text(self) -> Option<&'static str>
-        ensures value { IfSome result (λ text. short_text self ≡ Some text.now) }
-        ensures none { IfNone result (short_text self ≡ None) }
+    pub(crate) fn short_text(&self) -> Option<&'static str>
+        ensures value { IfSome result (λ text. short_text self.now ≡ Some text.now) }
+        ensures none { IfNone result (short_text self.now ≡ None) }
         ensures short { IfSome result (λ text. length text.now ≤ 20) }
     {
         match self {
-            Answer::Changed(result) | Answer::Expected(result) => Some(changed_text(result)),
-            Answer::Checked(status) => Some(checked_text(status)),
+            Answer::Changed(result) | Answer::Expected(result) => Some(changed_text(*result)),
+            Answer::Checked(status) => Some(checked_text(*status)),
+            Answer::NotFound => Some("not found"),
             Answer::Stopping => Some("stopping"),
             Answer::BadLine => Some("bad line"),
             Answer::TooLong => Some("line too long"),
             Answer::NotAllowed => Some("not allowed"),
             Answer::OutOfMemory => Some("refused no memory"),
-            Answer::Board(_) | Answer::Listed(_) | Answer::Told(_) | Answer::Skipped => None,
+            Answer::Board(_)
+            | Answer::Listed(_)
+            | Answer::Told(_)
+            | Answer::Explained(_)
+            | Answer::Skipped => None,
         }
     }
 
     /// Whether no line behind it is answered.
-    pub(crate) fn ends_session(self) -> bool
-        ensures { result ≡ ends_session self }
+    pub(crate) fn ends_session(&self) -> bool
+        ensures { result ≡ ends_session self.now }
     {
         matches!(self, Answer::Stopping | Answer::TooLong)
     }

@@ -79,6 +79,7 @@ mod meeting;
 pub mod one_thread;
 mod place;
 mod reading;
+mod reasons;
 mod refusals;
 mod request;
 mod rights;

@@ -1,4 +1,6 @@
-ghost use Rattle.std.specs.Prelude.{◌≡◌, ◌⊎◌, IsSome, IfSome, IfNone};
+ghost use Rattle.std.specs.Prelude.{◌≡◌, ◌⊎◌, ℕ, None, Some, IsSome, IfSome, IfNone};
+ghost use Rattle.desk_core.specs.Catalogue.{slot_of};
+ghost use Rattle.desk_core.specs.Reason.{reason_at};
 ghost use Rattle.script.specs.Change.{line_change};
 ghost use Rattle.control.specs.Beside.{ChangesBeside, ExpectsBeside, IsLineMetBeside};
 ghost use Rattle.control.specs.Beside.{IsMetBeside, TellsBeside};
@@ -11,7 +13,7 @@ use crate::expected::Expected;
 use crate::request::{Request, read_request};
 use crate::server::Server;
 use crate::stats::Stats;
-use desk_core::{Console, Effect, Extent, Refusal, Reply, Ruled};
+use desk_core::{Console, Effect, Extent, Name, Refusal, Reply, Ruled};
 use probe_core::{Maker, Probe, Rule};
 use script::{Expectation, Line, probe_for, without_cr};
 use std::alloc::Global;
@@ -32,6 +34,7 @@ pub(crate) fn meet<P: Probe, C: Console<P>, V: Server, M: Maker<P>>(
     match request {
         Request::Line(line) => meet_line(console, server, maker, line),
         Request::Expect(expectation) => Answer::Expected(expect(console, server, expectation)),
+        Request::Why(name) => why(console, name),
         Request::List => Answer::Listed(console.board()),
         Request::Stats => Answer::Told(stats(console, server)),
         Request::Stop => {
@@ -53,6 +56,21 @@ fn stats<P: Probe, C: Console<P>, V: Server>(console: &mut C, server: &V) -> Sta
         kept: kept as u32,
         counts: server.counts(),
         left: server.terms().most.saturating_sub(entries),
+    }
+}
+
+/// Looks for the reason of a service's status, if the name is listed.
+fn why<P: Probe, C: Console<P>>(console: &mut C, name: &Name) -> Answer
+    ensures names { C.names console.new ≡ C.names console.old }
+    ensures listed { (slot : ℕ) → slot_of (C.names console.old) name.now ≡ Some slot
+        → C.looks console.old console.new
+        × (result ≡ Answer.Explained (reason_at C.kept (C.seen console.new) slot)) }
+    ensures unlisted { slot_of (C.names console.old) name.now ≡ None
+        → (console.new ≡ console.old) × (result ≡ Answer.NotFound) }
+{
+    match console.catalogue().slot(name.as_str()) {
+        Some(slot) => Answer::Explained(console.why(slot)),
+        None => Answer::NotFound,
     }
 }
 

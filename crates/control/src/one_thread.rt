@@ -3,7 +3,8 @@
 
 use crate::{Counts, Ended, Expected, OpenNow, Rights, Server, Terms};
 use desk_core::{
-    Call, Catalogue, Console, Desk, Effect, Extent, Refusal, Registrar, Ruled, Slot, board_entries,
+    Call, Catalogue, Console, Desk, Effect, Extent, Reason, Refusal, Registrar, Ruled, Slot,
+    board_entries,
 };
 use health_wire::Serving;
 use probe_core::{Maker, Manual, Probe, Rule};
@@ -97,6 +98,10 @@ impl<P: Probe> Console<P> for OneThread<P> {
             rule: self.desk.rule(slot),
             entries: board_entries(self.desk.board()),
         }
+    }
+
+    fn why(&mut self, slot: Slot) -> Reason {
+        self.desk.why(slot)
     }
 
     fn extent(&mut self) -> Extent {

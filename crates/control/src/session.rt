@@ -175,10 +175,10 @@ impl Session {
         ensures state { self.new ≡ with_waiting (answer_text catalogue.now result) self.old }
         ensures told { IsTold answer result }
     {
-        if write_answer(alloc, catalogue, &mut self.waiting, answer).is_ok() {
+        if write_answer(alloc, catalogue, &mut self.waiting, &answer).is_ok() {
             return answer;
         }
-        write_answer(alloc, catalogue, &mut self.waiting, Answer::OutOfMemory).unwrap();
+        write_answer(alloc, catalogue, &mut self.waiting, &Answer::OutOfMemory).unwrap();
         Answer::OutOfMemory
     }
 }

@@ -18,7 +18,8 @@ fn status_word(status: Option<Serving>) -> &'static str
     }
 }
 
-fn word_of(name: &str) -> &str
+/// A name as lines have it.
+pub(crate) fn word_of(name: &str) -> &str
     ensures { result.now ≡ word_of name.now }
 {
     if name.is_empty() { "-" } else { name }

@@ -4,6 +4,7 @@ ghost use Rattle.std.specs.Prelude.{◌≡◌, ◌≢◌, None, ◌+◌, ◌≤�
 ghost use Rattle.control.specs.Text.{answer_text, long_text, short_text};
 
 use crate::answer::Answer;
+use crate::reasons::reason_text;
 use crate::words::list_text;
 use desk_core::Catalogue;
 use std::alloc::{AllocError, Global};
@@ -13,13 +14,13 @@ pub(crate) fn write_answer(
     alloc: Global,
     catalogue: &Catalogue,
     output: &mut Vec<u8>,
-    answer: Answer,
+    answer: &Answer,
 ) -> Result<(), AllocError>
-    ensures ok { OnOk result (output.new.items ≡ output.old.items ++ answer_text catalogue.now answer) }
+    ensures ok { OnOk result (output.new.items ≡ output.old.items ++ answer_text catalogue.now answer.now) }
     ensures err { OnErr result (output.new.items ≡ output.old.items) }
     ensures capacity { vec_capacity output.old ≤ vec_capacity output.new }
-    ensures long { OnErr result (vec_len output.old + 32 ≤ vec_capacity output.old → (short_text answer ≡ None) × (answer ≢ Answer.Skipped)) }
-    ensures short { IsSome (short_text answer) → vec_len output.old + 32 ≤ vec_capacity output.old → IsOk result }
+    ensures long { OnErr result (vec_len output.old + 32 ≤ vec_capacity output.old → (short_text answer.now ≡ None) × (answer.now ≢ Answer.Skipped)) }
+    ensures short { IsSome (short_text answer.now) → vec_len output.old + 32 ≤ vec_capacity output.old → IsOk result }
 {
     if let Answer::Skipped = answer {
         return Ok(());
@@ -34,13 +35,14 @@ pub(crate) fn write_answer(
 }
 
 /// The text of an answer that has none of a few.
-fn long_text(alloc: Global, catalogue: &Catalogue, answer: Answer) -> Result<String, AllocError>
-    ensures { IfOk result (λ text. string_bytes text ≡ long_text catalogue.now answer) }
+fn long_text(alloc: Global, catalogue: &Catalogue, answer: &Answer) -> Result<String, AllocError>
+    ensures { IfOk result (λ text. string_bytes text ≡ long_text catalogue.now answer.now) }
 {
     match answer {
         Answer::Board(word) => format!(in alloc; "{word}"),
-        Answer::Listed(board) => list_text(alloc, catalogue, board),
+        Answer::Listed(board) => list_text(alloc, catalogue, *board),
         Answer::Told(stats) => format!(in alloc; "{stats}"),
+        Answer::Explained(reason) => reason_text(alloc, catalogue, *reason),
         _ => Ok(String::new(alloc)),
     }
 }

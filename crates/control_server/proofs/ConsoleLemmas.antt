@@ -17,7 +17,7 @@ use Rattle.control.specs.Beside.{IsLineMetBeside, IsMetBeside, LooksBeside}
 use Rattle.control.specs.Request.{IsRequest}
 use Rattle.control.specs.Rights.{IsAllowed}
 use Rattle.control.specs.Meeting.{IsSaid}
-use Rattle.control.specs.Meeting.IsMet.{Changes, Expects, Checks, Packs, Lists, Tells, Stops, Starves, StarvesTold}
+use Rattle.control.specs.Meeting.IsMet.{Changes, Expects, Checks, Packs, Lists, Tells, Explains, ExplainsNone, Stops, Starves, StarvesTold}
 use Rattle.control.specs.Meeting.IsLineMet.{IsTooLong, IsSkipped, IsNoText, IsNoRequest, IsUnread, IsDenied, IsAsked}
 use Rattle.control.specs.Talk.{AreMet, nobody}
 use Rattle.control.specs.Talk.AreMet.{Ends, Then, Moves}
@@ -99,6 +99,12 @@ module _ {R P K V : Type 0} (kept : Option ℕ) (terms : V → Terms) (counted :
           ∙ (ap (λ (v : V). (terms v).most - stats.entries) looks.server ∙ ap (λ (n : ℕ). (terms old.1).most - n) counts.entries),
     ))),
   )
+  request_met names old new line _ _ said is may (Explains name slot reason at looks told) = (
+    same_looks terms old new looks,
+    met_one (terms old.1) names (seat_of old) (seat_of new) line _ (IsAsked said _ _ is may (Explains name slot reason at looks.looked.looked (kept, told))),
+  )
+  request_met names old new line _ _ said is may (ExplainsNone name at same) =
+      (same_whole terms old new same, met_one (terms old.1) names (seat_of old) (seat_of new) line _ (IsAsked said _ _ is may (ExplainsNone name at (same_seat old new (first_of old new same)))))
   request_met names old new line _ _ said is may (Stops stops) =
       (same_still terms old new stops.console stops.terms_stay, met_one (terms old.1) names (seat_of old) (seat_of new) line _ (IsAsked said _ _ is may (Stops (same_seat old new stops.console))))
   request_met names old new line _ _ said is may (Starves request same) =

@@ -31,11 +31,11 @@ use Rattle.control.specs.Rights.{IsAllowed, IsReport, unknown_line}
 use Rattle.control.specs.declared.request.Request.{Request}
 use Rattle.control.specs.declared.terms.Terms.{Terms}
 use Rattle.control.specs.Meeting.{IsMet}
-use Rattle.control.specs.Meeting.IsMet.{Changes, Expects, Checks, Packs, Lists, Tells, Stops, Starves, StarvesTold}
+use Rattle.control.specs.Meeting.IsMet.{Changes, Expects, Checks, Packs, Lists, Tells, Explains, ExplainsNone, Stops, Starves, StarvesTold}
 use Rattle.control.specs.Meeting.IsLineMet.{IsTooLong, IsSkipped, IsNoText, IsNoRequest, IsUnread, IsDenied, IsAsked}
 use Rattle.control.specs.Request.{IsRequest}
 use Rattle.control.specs.Talk.AreMet.{Ends, Then, Moves}
-use Rattle.control_server.specs.SeatLines.{AreAskedBy, AreFindings, CountsSeen, HasMade, HasMet, IsExpectedBySeat, IsFindingAsked, IsMetBySeat, results_of}
+use Rattle.control_server.specs.SeatLines.{AreAskedBy, AreFindings, CountsSeen, ExplainsSeen, HasMade, HasMet, IsExpectedBySeat, IsFindingAsked, IsMetBySeat, results_of}
 use Rattle.control_server.specs.SeatLines.AreAskedBy.{NoLines, Change, NoChange}
 
 -- the first change's entry stands before those of the others
@@ -129,7 +129,7 @@ abbrev stays_so : SeatState → SeatState → Type 0
 stays_so before after = after ≡ before
 
 request_first : (terms : Terms) (names : List (List ℕ)) (a b c : SeatState) (line : List ℕ) (request : Request) (answer : Answer) (lines : List (List ℕ)) (answers : List Answer)
-    → IsRequest names (without_cr line) request → IsAllowed terms.rights request → IsMet names seen_in HasLooked IsCarriedOut (IsExpectedBySeat names) (CountsSeen terms) stays_so a b request answer → Makes terms names b c lines answers → Makes terms names a c (line ∷ lines) (answer ∷ answers)
+    → IsRequest names (without_cr line) request → IsAllowed terms.rights request → IsMet names seen_in HasLooked IsCarriedOut (IsExpectedBySeat names) (CountsSeen terms) ExplainsSeen stays_so a b request answer → Makes terms names b c lines answers → Makes terms names a c (line ∷ lines) (answer ∷ answers)
 request_first terms names a b c line _ _ lines answers is may (Changes asked call result change carried) makes = record {
   calls = call ∷ makes.calls;
   asked = Change line call result lines answers makes.calls (record { request = asked; is = is; change = change }) makes.asked;
@@ -141,6 +141,8 @@ request_first terms names a b c line _ answer lines answers is may (Checks name 
 request_first terms names a b c line _ answer lines answers is may (Packs looked) makes = quiet_first terms names a b c line _ lines answers refl refl looked makes
 request_first terms names a b c line _ answer lines answers is may (Lists looked) makes = quiet_first terms names a b c line _ lines answers refl refl looked makes
 request_first terms names a b c line _ answer lines answers is may (Tells stats looked entries) makes = quiet_first terms names a b c line _ lines answers refl refl looked makes
+request_first terms names a b c line _ answer lines answers is may (Explains name slot reason at looked told) makes = quiet_first terms names a b c line _ lines answers refl refl looked makes
+request_first terms names a b c line _ answer lines answers is may (ExplainsNone name at same) makes = quiet_first terms names a b c line _ lines answers refl refl (stays a b same) makes
 request_first terms names a b c line _ answer lines answers is may (Stops same) makes = quiet_first terms names a b c line _ lines answers refl refl (stays a b same) makes
 request_first terms names a b c line _ answer lines answers is may (Starves request same) makes = quiet_first terms names a b c line _ lines answers refl refl (stays a b same) makes
 request_first terms names a b c line _ answer lines answers is may (StarvesTold request looked) makes = quiet_first terms names a b c line _ lines answers refl refl looked makes

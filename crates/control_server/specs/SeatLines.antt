@@ -2,9 +2,11 @@
 use Rattle.std.specs.Prelude.{ℕ, ◌≡◌, ◌-◌, Option, Some, None, List, [], ◌∷◌, ◌++◌, length, Result}
 use Rattle.desk_core.specs.declared.call.Call.{Call}
 use Rattle.desk_core.specs.declared.call.Call.TheVariants as calls
+use Rattle.desk_core.specs.declared.reason.Reason.{Reason}
 use Rattle.desk_core.specs.declared.refusal.Refusal.{Refusal}
 use Rattle.desk_core.specs.declared.reply.Reply.{Reply}
 use Rattle.desk_core.specs.Past.{past}
+use Rattle.desk_core.specs.Reason.{reason_at}
 use Rattle.desk_core.specs.Watch.{IsOlder}
 use Rattle.hall.specs.Seats.{SeatState, IsCarriedOut, own_calls, with_seen}
 use Rattle.hall.specs.CarriedOut.{replied}
@@ -14,7 +16,7 @@ use Rattle.script.specs.declared.line.Line.{Line}
 use Rattle.script.specs.Change.{line_change}
 use Rattle.script.specs.TextLines.{without_cr}
 use Rattle.control.specs.declared.answer.Answer.{Answer}
-use Rattle.control.specs.declared.answer.Answer.TheVariants.{Changed, Expected, Checked, Board, Listed, Told, Stopping, BadLine, TooLong, NotAllowed, OutOfMemory, Skipped}
+use Rattle.control.specs.declared.answer.Answer.TheVariants.{Changed, Expected, Checked, Board, Listed, Told, Explained, NotFound, Stopping, BadLine, TooLong, NotAllowed, OutOfMemory, Skipped}
 use Rattle.control.specs.declared.request.Request.TheVariants as requests
 use Rattle.control.specs.declared.stats.Stats.{Stats}
 use Rattle.control.specs.declared.terms.Terms.{Terms}
@@ -26,6 +28,10 @@ use Rattle.control.specs.Talk.{AreMet}
 abbrev pub CountsSeen : Terms → SeatState → Stats → Type 0
 CountsSeen terms seat stats = (stats.entries ≡ length seat.seen) × (stats.left ≡ terms.most - length seat.seen)
 
+-- the reason for a slot's status is that of what the seat has seen, of which some entries are kept
+abbrev pub ExplainsSeen : SeatState → ℕ → Reason → Type 0
+ExplainsSeen seat slot reason = (kept : Option ℕ) × (reason ≡ reason_at kept seat.seen slot)
+
 -- the seat has at most looked, and an expectation is answered by what it has seen by then
 pub record IsExpectedBySeat (names : List (List ℕ)) (old new : SeatState)
     (expectation : Expectation) (result : Result Reply Refusal) : Type 0 where
@@ -35,7 +41,7 @@ pub record IsExpectedBySeat (names : List (List ℕ)) (old new : SeatState)
 -- The line is met by the seat with this answer, by these terms: a change by a change of the seat, anything else by what the seat has seen
 abbrev pub IsMetBySeat : Terms → List (List ℕ) → SeatState → SeatState → List ℕ → Answer → Type 0
 IsMetBySeat terms names old new line answer =
-    IsLineMet terms.rights names (λ seat. seat.seen) HasLooked IsCarriedOut (IsExpectedBySeat names) (CountsSeen terms) (λ before after. after ≡ before) old new line answer
+    IsLineMet terms.rights names (λ seat. seat.seen) HasLooked IsCarriedOut (IsExpectedBySeat names) (CountsSeen terms) ExplainsSeen (λ before after. after ≡ before) old new line answer
 
 -- By this seat these lines were met, one after the other, each with its answer at its point of the history. In between it has at most looked
 abbrev pub HasMet : Terms → List (List ℕ) → SeatState → SeatState → List (List ℕ) → List Answer → Type 0
@@ -50,6 +56,8 @@ results_of (Checked status ∷ answers) = results_of answers
 results_of (Board word ∷ answers) = results_of answers
 results_of (Listed word ∷ answers) = results_of answers
 results_of (Told stats ∷ answers) = results_of answers
+results_of (Explained reason ∷ answers) = results_of answers
+results_of (NotFound ∷ answers) = results_of answers
 results_of (Stopping ∷ answers) = results_of answers
 results_of (BadLine ∷ answers) = results_of answers
 results_of (TooLong ∷ answers) = results_of answers

@@ -6,14 +6,19 @@ use std::test::Fail;
 use test_support::same;
 
 /// Lines one after the other, and what is answered.
-const LINES: [(&[u8], &[u8]); 28] = [
+const LINES: [(&[u8], &[u8]); 36] = [
     (b"list\n", b"a=absent -=absent\n"),
     (b"check a\n", b"not found\n"),
+    (b"why a\n", b"absent: never registered\n"),
+    (b"why -\n", b"absent: never registered\n"),
+    (b"why b\n", b"not found\n"),
     (b"register a manual\n", b"done\n"),
     (b"check a\r\n", b"serving\n"),
+    (b"why a\r\n", b"serving\n"),
     (b"register - threshold 3\n", b"refused no memory\n"),
     (b"down a\n", b"done\n"),
     (b"list\n", b"a=not_serving -=absent\n"),
+    (b"why a\n", b"not_serving: set down by entry 1\n"),
     (b"board\n", b"8589934594\n"),
     (b"up b\n", b"refused not listed\n"),
     (b"expect a 5\n", b"wrong kind\n"),
@@ -21,6 +26,7 @@ const LINES: [(&[u8], &[u8]); 28] = [
     (b"up -\n", b"missing\n"),
     (b"retire a\n", b"done\n"),
     (b"retire a\n", b"refused full\n"),
+    (b"why a\n", b"absent: retired by entry 3\n"),
     (
         b"stats\n",
         b"entries 4 kept 4 connections 3 watches 4 sessions 5 calls 6 given_up 7 behind 8 gone 9 expired 10 left 0\n",
@@ -35,6 +41,8 @@ const LINES: [(&[u8], &[u8]); 28] = [
     (b"expect a x\n", b"bad line\n"),
     (b"expect a 86401\n", b"bad line\n"),
     (b"expect a 5 6\n", b"bad line\n"),
+    (b"why\n", b"bad line\n"),
+    (b"why a b\n", b"bad line\n"),
     (b"check \xff\n", b"bad line\n"),
     (b"stop\n", b"stopping\n"),
     (b"list\n", b""),

@@ -1,15 +1,16 @@
 use control::{Request, Rights};
 use desk_core::Catalogue;
-use script::{read_expectation, read_line};
+use script::{read_expectation, read_line, read_question};
 use std::alloc::Global;
 use std::test::Fail;
 use test_support::same;
 
 /// A request of each kind, and whether who reports may make it.
-const REQUESTS: [(&str, bool); 15] = [
+const REQUESTS: [(&str, bool); 16] = [
     ("pass a", true),
     ("fail a", true),
     ("check a", true),
+    ("why a", true),
     ("list", true),
     ("board", true),
     ("stats", true),
@@ -28,6 +29,9 @@ const REQUESTS: [(&str, bool); 15] = [
 fn request_of(alloc: Global, catalogue: &Catalogue, text: &str) -> Result<Request, Fail> {
     if let Some(expectation) = read_expectation(alloc, text)? {
         return Ok(Request::Expect(expectation));
+    }
+    if let Some(name) = read_question(alloc, text)? {
+        return Ok(Request::Why(name));
     }
     match text {
         "list" => Ok(Request::List),

@@ -18,6 +18,8 @@ mod makers;
 #[cfg(test)]
 mod memory;
 #[cfg(test)]
+mod reasons;
+#[cfg(test)]
 mod rows;
 #[cfg(test)]
 mod sixteen;

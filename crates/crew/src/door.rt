@@ -1,8 +1,8 @@
 ghost use Rattle.hall.specs.Seats.{IsOf};
 
 use desk_core::{
-    Behind, Call, Catalogue, Console, Effect, Extent, Keep, KeepAll, Registrar, Ruled, Slot,
-    Transcript, Watch,
+    Behind, Call, Catalogue, Console, Effect, Extent, Keep, KeepAll, Reason, Registrar, Ruled,
+    Slot, Transcript, Watch,
 };
 use hall::{Hall, Seat};
 use health_wire::Serving;
@@ -149,6 +149,10 @@ impl<'a, R: Wait, P: Probe, K: Keep> Console<P> for HallDoor<'a, R, P, K> {
 
     fn rule(&mut self, slot: Slot) -> Ruled {
         self.hall.rule(self.rt, self.seat, slot)
+    }
+
+    fn why(&mut self, slot: Slot) -> Reason {
+        self.hall.why(self.rt, self.seat, slot)
     }
 
     fn extent(&mut self) -> Extent {

@@ -9,9 +9,11 @@ pub mod KeptLemmas
 pub mod KeyLemmas
 pub mod LawfulLemmas
 pub mod LawLemmas
+pub mod MarkLemmas
 pub mod OnceLemmas
 pub mod OutcomeLemmas
 pub mod ReadingLemmas
+pub mod ReasonLemmas
 pub mod RefreshLemmas
 pub mod SilenceLemmas
 pub mod SlotLemmas

@@ -20,3 +20,5 @@ pub mod Slots
 pub mod Status
 pub mod Transcript
 pub mod Watch
+pub mod Marks
+pub mod Reason

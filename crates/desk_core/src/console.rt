@@ -1,4 +1,5 @@
 use crate::extent::Extent;
+use crate::reason::Reason;
 use crate::registrar::Registrar;
 use crate::ruled::Ruled;
 use crate::slot::Slot;
@@ -13,6 +14,7 @@ pub trait Console<P: Probe>: Registrar<P> {
     ghost use Rattle.std.specs.Prelude.{◌≡◌, ◌-◌, ℕ, Option, length};
     ghost use Rattle.desk_core.specs.Board.{board_of};
     ghost use Rattle.desk_core.specs.Present.{rule_at};
+    ghost use Rattle.desk_core.specs.Reason.{reason_at};
     ghost use Rattle.desk_core.specs.Status.{status_map};
     ghost use Rattle.tail.specs.Tail.{forgotten};
 
@@ -38,6 +40,12 @@ pub trait Console<P: Probe>: Registrar<P> {
         ensures looks { looks self.old self.new }
         ensures rule { result.rule ≡ rule_at (Self.seen self.new) slot }
         ensures entries { result.entries ≡ length (Self.seen self.new) };
+
+    /// Why a slot has its status.
+    fn why(&mut self, slot: Slot) -> Reason
+        ensures names { Self.names self.new ≡ Self.names self.old }
+        ensures looks { looks self.old self.new }
+        ensures reason { result ≡ reason_at kept (Self.seen self.new) slot };
 
     /// How many entries there are, and how many of them are in memory.
     fn extent(&mut self) -> Extent

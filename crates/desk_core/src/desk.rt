@@ -10,11 +10,14 @@ use crate::history::History;
 use crate::keep::{Capacity, Keep, KeepAll};
 use crate::lawful::is_lawful_call;
 use crate::made::Made;
+use crate::marks::{Mark, Marks};
+use crate::reason::{Cause, Reason};
 use crate::refusal::Refusal;
 use crate::registration::{Handed, Registered};
 use crate::reply::{Reply, reply_to_event, reply_to_register, reply_to_retire};
 use crate::slot::Slot;
 use crate::slots::Slots;
+use crate::status::first_down;
 use crate::status_word::StatusWord;
 use crate::transcript::Transcript;
 use crate::watch::{Behind, Watch};
@@ -30,6 +33,7 @@ pub struct Desk<P: Probe, K: Keep = KeepAll> {
     slots: Slots<P>,
     is_shut: bool,
     history: History,
+    marks: Marks,
     max_entries: u32,
     keep: PhantomData<K>,
 }
@@ -37,6 +41,8 @@ pub struct Desk<P: Probe, K: Keep = KeepAll> {
 impl<P: Probe, K: Keep> Model for Desk<P, K> {
     ghost use Rattle.std.specs.Prelude.{◌≡◌, length};
     ghost use Rattle.desk_core.specs.Desk.{State, IsDesk};
+    ghost use Rattle.desk_core.specs.Marks.{HasMarks};
+    ghost use Rattle.desk_core.specs.Past.{past};
 
     ghost Value = { State };
 
@@ -54,12 +60,13 @@ impl<P: Probe, K: Keep> Model for Desk<P, K> {
         IsDesk desk.slots.places.items desk.is_shut desk.history.journal.items
         desk.history.changes.items desk.history.cache.statuses
         desk.history.cache.dependents desk.max_entries
-        × (desk.history.journal.keep ≡ K.kept) × (desk.history.changes.keep ≡ K.kept) };
+        × (desk.history.journal.keep ≡ K.kept) × (desk.history.changes.keep ≡ K.kept)
+        × HasMarks (past desk.history.journal.items) desk.marks.shut desk.marks.slots };
 }
 
 impl<P: Probe, K: Keep> Desk<P, K> {
     ghost use Rattle.desk_core.specs.declared.change.Change.{Change};
-    ghost use Rattle.std.specs.Prelude.{◌≡◌, ◌≢◌, ◌<◌, ◌≤◌, ◌↔◌, ◌-◌, ◌++◌, ℕ, List, length, take, drop, None, Ok, Err, IfSome, IfNone, IfOk, IfErr, IsErr, IsTrue, IsFalse, OnOk, OnErr, MatchResult};
+    ghost use Rattle.std.specs.Prelude.{◌≡◌, ◌≢◌, ◌<◌, ◌≤◌, ◌↔◌, ◌-◌, ◌++◌, ℕ, List, length, take, drop, None, Some, Ok, Err, IfSome, IfNone, IfOk, IfErr, IsErr, IsTrue, IsFalse, OnOk, OnErr, MatchResult};
     ghost use Rattle.std.specs.Option.{option_map};
     ghost use Rattle.desk_core.specs.Past.{past};
     ghost use Rattle.desk_core.specs.Mutation.{rule_of};
@@ -73,6 +80,8 @@ impl<P: Probe, K: Keep> Desk<P, K> {
     ghost use Rattle.tail.specs.Tail.{kept_of, most_held};
     ghost use Rattle.desk_core.specs.Board.{board_of};
     ghost use Rattle.desk_core.specs.Silence.{is_to_fail};
+    ghost use Rattle.desk_core.specs.Marks.{IsMark, IsRuleFor};
+    ghost use Rattle.desk_core.specs.Reason.{absent_by, down_by, named, not_serving_by, reason_at};
     ghost use Rattle.tail.specs.Tail.{forgotten};
     ghost use Rattle.std.specs.Vec.{vec_len, vec_capacity};
     ghost use Rattle.desk_core.specs.Desk.{HasAnswered, HoldsMemory, IsAtLimit, new_desk, probe_at, probe_of};
@@ -85,6 +94,7 @@ impl<P: Probe, K: Keep> Desk<P, K> {
             slots: Slots::new(alloc),
             is_shut: false,
             history: History::new(alloc, K::kept()),
+            marks: Marks::new(),
             max_entries,
             keep: PhantomData,
         }
@@ -135,12 +145,14 @@ impl<P: Probe, K: Keep> Desk<P, K> {
             return Err((refusal, probe));
         }
         let reply = self.reply_to(&call);
+        let rule = self.rule_for(&call);
         let Ok(()) = self.slots.reserve() else {
             return Err((Refusal::NoMemory, probe));
         };
         let Ok(at) = self.history.append(seat, call, reply) else {
             return Err((Refusal::NoMemory, probe));
         };
+        self.marks.note(&call, reply, rule, at);
         let old = self.slots.apply(&call, reply, probe);
         self.is_shut = shut_after(self.is_shut, &call);
         let shows = self.history.show(&self.slots, self.is_shut, &call, at);
@@ -177,6 +189,16 @@ impl<P: Probe, K: Keep> Desk<P, K> {
                 reply_to_event(self.rule(*slot), self.is_shut, setting.event())
             }
             Call::Shutdown | Call::Resume => Reply::Done,
+        }
+    }
+
+    /// The rule of the slot that a report is of.
+    fn rule_for(&self, call: &Call) -> Option<Rule>
+        ensures { IsRuleFor (past self.now.journal) call.now result }
+    {
+        match call {
+            Call::Observe(slot, _) => self.rule(*slot),
+            _ => None,
         }
     }
 
@@ -288,6 +310,78 @@ impl<P: Probe, K: Keep> Desk<P, K> {
         ensures legal { IsLegal (past self.now.journal) }
     {
         self.history.statuses().get(slot?)
+    }
+
+    /// Why the slot has the status that it has: which entries made it so, as far as they are kept.
+    pub fn why(&self, slot: Slot) -> Reason
+        ensures reason { result ≡ reason_at K.kept (past self.now.journal) slot }
+        ensures legal { IsLegal (past self.now.journal) }
+    {
+        let mark = self.marks.of(slot);
+        match self.check(Some(slot)) {
+            None => self.why_absent(mark),
+            Some(Serving::Serving) => Reason::Serving,
+            Some(Serving::Unknown) => Reason::Unheard(self.named(mark.forgot)),
+            Some(Serving::NotServing | Serving::ServiceUnknown) => self.why_not_serving(slot, mark),
+        }
+    }
+
+    fn why_absent(&self, mark: Mark) -> Reason
+        ensures { result ≡ absent_by K.kept (past self.now.journal) mark.retired }
+    {
+        match mark.retired {
+            None => Reason::NeverRegistered,
+            Some(_) => Reason::Retired(self.named(mark.retired)),
+        }
+    }
+
+    fn why_not_serving(&self, slot: Slot, mark: Mark) -> Reason
+        requires { IsMark (past self.now.journal) slot mark }
+        ensures { result ≡ not_serving_by K.kept (past self.now.journal) slot
+            (rule_at (past self.now.journal) slot) }
+    {
+        match self.rule(slot) {
+            None => self.why_absent(mark),
+            Some(_) if self.is_shut => Reason::ShutDown(self.named(self.marks.shut())),
+            Some(rule) => self.why_down(slot, rule, mark),
+        }
+    }
+
+    /// Why a slot of this rule is not serving while the server is not shut down.
+    fn why_down(&self, slot: Slot, rule: Rule, mark: Mark) -> Reason
+        requires ruled { rule_at (past self.now.journal) slot ≡ Some rule }
+        requires mark { IsMark (past self.now.journal) slot mark }
+        ensures { result ≡ down_by K.kept (past self.now.journal) slot rule }
+    {
+        match rule {
+            Rule::Threshold(fall, rise, _) => Reason::Failed {
+                fails: fall,
+                cause: self.named(mark.down),
+                passes: mark.passes,
+                rise,
+            },
+            Rule::Manual => Reason::SetDown(self.named(mark.down)),
+            Rule::Depends(mask) => match first_down(self.history.statuses(), mask) {
+                Some(slot) => Reason::DependsOn(slot),
+                None => Reason::Serving,
+            },
+        }
+    }
+
+    /// The entry at this place, and whether it is kept.
+    fn named(&self, place: Option<u32>) -> Cause
+        ensures { result ≡ named K.kept (past self.now.journal) place }
+    {
+        match place {
+            Some(place) => Cause {
+                place,
+                is_kept: self.history.since(u64::from(place)).is_some(),
+            },
+            None => Cause {
+                place: 0,
+                is_kept: false,
+            },
+        }
     }
 
     /// How many entries there are and the status of each slot, in one word.

@@ -13,6 +13,7 @@ ghost use Rattle.desk_core.specs.Heard.{heard};
 ghost use Rattle.desk_core.specs.Status.{status_at, serving_if, shown, AllServe};
 ghost use Rattle.desk_core.specs.Present.{rule_at};
 ghost use Rattle.desk_core.specs.Mutation.{IsAnswered};
+ghost use Rattle.desk_core.specs.Reason.{reason_at, status_by_reason};
 ghost use Rattle.desk_core.specs.Reply.{reply_to};
 ghost use Rattle.tail.specs.Tail.{forgotten, kept_of};
 ghost use Rattle.desk_core.specs.Changes.{changes_of};
@@ -195,4 +196,10 @@ pub fn behind_for_good()
     ensures { (kept : Option ℕ) (older entries : List Entry) (watch : WatchState)
         → IsOlder older entries → IsBehind kept (changes_of older) watch
         → IsBehind kept (changes_of entries) watch }
+{}
+
+/// The reason for the status of a slot is a reason for this status.
+pub fn reasons_tell_statuses()
+    ensures { (kept : Option ℕ) (entries : List Entry) (i : ℕ) → i ≤ 16
+        → status_by_reason (reason_at kept entries i) ≡ status_at entries i }
 {}

@@ -39,9 +39,11 @@ mod keep;
 mod lawful;
 mod laws;
 mod made;
+mod marks;
 mod name;
 mod order;
 mod owned;
+mod reason;
 mod refusal;
 mod registrar;
 mod registration;
@@ -66,12 +68,13 @@ pub use keep::{Capacity, Keep, KeepAll, KeepMany};
 pub use laws::{
     behind_for_good, changes_grow, depends_on_all, events_decide, faultless_names,
     kept_changes_suffice, last_call_decides, last_change_is_shown, legal_fronts, legal_growth,
-    one_outcome, slots_and_names, steps_leave_none_out, tells_changes_alone, walks_tell_the_story,
-    watchers_end_up_right,
+    one_outcome, reasons_tell_statuses, slots_and_names, steps_leave_none_out, tells_changes_alone,
+    walks_tell_the_story, watchers_end_up_right,
 };
 pub use made::{Effect, Made};
 pub use name::Name;
 pub use order::Order;
+pub use reason::{Cause, Reason};
 pub use refusal::Refusal;
 pub use registrar::{Registrar, carry_out};
 pub use registration::{Handed, Registered};

@@ -2,6 +2,7 @@ ghost use Rattle.std.specs.Prelude.{◌≡◌, ◌<◌, ◌||◌, not};
 ghost use Rattle.desk_core.specs.Status.{has_slot, is_serving};
 ghost use Rattle.std.specs.Option.{option_copied, option_map};
 ghost use Rattle.desk_core.specs.Board.{status_in};
+ghost use Rattle.desk_core.specs.Reason.{first_down, if_down};
 ghost use Rattle.desk_core.specs.Slots.{covers_below, status_from};
 
 use crate::owned::Owned;
@@ -45,6 +46,28 @@ fn covers(below: StatusWord, mask: u16) -> bool
         all &= allows(mask, slot, below.get(slot));
     }
     all
+}
+
+/// The first slot of the mask that is not serving.
+pub(crate) fn first_down(statuses: StatusWord, mask: u16) -> Option<Slot>
+    ensures { result ≡ first_down (status_in statuses) mask 16 }
+{
+    let mut first = None;
+    for number in 0..Slot::COUNT {
+        first = first.or(if_down(statuses, mask, Slot::at(number)));
+    }
+    first
+}
+
+/// The slot, if it is in the mask and not serving.
+fn if_down(statuses: StatusWord, mask: u16, slot: Slot) -> Option<Slot>
+    ensures { result ≡ if_down (status_in statuses) mask slot }
+{
+    if allows(mask, slot, statuses.get(slot)) {
+        None
+    } else {
+        Some(slot)
+    }
 }
 
 /// Whether the slot is serving, if it is in the mask.

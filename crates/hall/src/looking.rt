@@ -10,7 +10,7 @@ use crate::note::Note;
 use crate::seat::Seat;
 use crate::steps::{Look, Meet, Tell};
 use desk_core::{
-    Behind, Extent, Keep, KeepAll, Slot, Transcript, Watch, board_entries, board_status,
+    Behind, Extent, Keep, KeepAll, Reason, Slot, Transcript, Watch, board_entries, board_status,
 };
 use health_wire::Serving;
 use probe_core::Probe;
@@ -24,6 +24,7 @@ impl<P: Probe, K: Keep> Hall<P, K> {
     ghost use Rattle.desk_core.specs.Board.{board_of};
     ghost use Rattle.desk_core.specs.Catalogue.{slot_of};
     ghost use Rattle.desk_core.specs.Changes.{changes_of};
+    ghost use Rattle.desk_core.specs.Reason.{reason_at};
     ghost use Rattle.desk_core.specs.Status.{shown, status_map};
     ghost use Rattle.desk_core.specs.Transcript.{IsCopy, IsCopyWithin};
     ghost use Rattle.desk_core.specs.Watch.{IsBehind, IsOlder, opened, stepped};
@@ -72,6 +73,19 @@ impl<P: Probe, K: Keep> Hall<P, K> {
         };
         leave(&self.table.shared, &mut seat.place, desk);
         extent
+    }
+
+    /// Why the slot has its status. It waits for the seat's turn.
+    pub fn why<R: Wait>(&self, rt: &R, seat: &mut Seat<P, K>, slot: Slot) -> Reason
+        requires { IsOf self.now seat.old }
+        ensures goes_on { GoesOn seat.old seat.new }
+        ensures kept { own_calls seat.new ≡ own_calls seat.old }
+        ensures reason { result ≡ reason_at K.kept seat.new.seen slot }
+    {
+        let desk = enter(rt, &self.table.shared, &mut seat.place);
+        let reason = desk.why(slot);
+        leave(&self.table.shared, &mut seat.place, desk);
+        reason
     }
 
     /// What is shown of the name now, and a watch of what changes from now on. It waits for the seat's turn.

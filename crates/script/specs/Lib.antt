@@ -6,6 +6,7 @@ pub mod Expected
 pub mod Explanation
 pub mod Line
 pub mod Opening
+pub mod Question
 pub mod Quoted
 pub mod Reading
 pub mod Rules

@@ -4,6 +4,8 @@
 #[cfg(test)]
 mod reading;
 #[cfg(test)]
+mod reporting;
+#[cfg(test)]
 mod rows;
 #[cfg(test)]
 mod stage;

@@ -19,7 +19,7 @@ returns-in_default-clause-met g c = IsNoText (omega arith) c.in_default.ensures.
 
 pub returns-in-Ok-Some-clause-met : goal.returns-in-Ok-Some-clause-met
 returns-in-Ok-Some-clause-met g c =
-    met_or_denied _ _ _ _ _ _ _ _ _ _ _ _ _
+    met_or_denied _ _ _ _ _ _ _ _ _ _ _ _ _ _
     (record { short = omega arith; text = c.in-Ok.ensures.cases.1; some = found_some _ _ _ (sym (rw c.in-Ok.ensures.cases.0 at c.without_cr-content.ensures)) c.is_empty.ensures c.if-is_empty.false })
     (rw (c.in-Ok-Some.field-0-is, c.catalogue.ensures, c.without_cr-content.ensures, c.in-Ok.ensures.cases.0) at c.in-Ok-Some.ensures)
     (met_beside _ _ _ _ c.meet_allowed.ensures.met)

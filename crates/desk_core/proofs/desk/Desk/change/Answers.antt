@@ -1,4 +1,6 @@
-use Rattle.std.proofs.Common.{◌<◌, [], ◌∷◌, ◌++◌, length, refl, sym, ap, subst, ◌∙◌}
+use Rattle.std.proofs.Common.{◌<◌, arith, [], ◌∷◌, ◌++◌, length, refl, sym, ap, subst, ◌∙◌}
+use Rattle.desk_core.specs.Marks.{HasMarks, IsRuleFor}
+use Rattle.desk_core.proofs.MarkLemmas.{marks_more}
 use Rattle.desk_core.specs.Mutation.{entry_of}
 use Rattle.desk_core.specs.Past.{past}
 use Rattle.desk_core.specs.Reply.{reply_to}
@@ -15,6 +17,7 @@ invariant_of-self-in_default-append g c = (
       (ap (λ cache. cache.statuses) c.append.ensures.cache) (ap (λ cache. cache.dependents) c.append.ensures.cache),
   c.append.ensures.kept.0 ∙ c.self.invariant.1,
   c.append.ensures.kept.1 ∙ c.self.invariant.2,
+  subst (λ journal. HasMarks (past journal) c.self.inside.marks.shut c.self.inside.marks.slots) (sym c.in_default-append.ensures.err) c.self.invariant.3,
 )
 
 pub show-shows-requires-clause-few : goal.show-shows-requires-clause-few
@@ -34,6 +37,12 @@ invariant_of-self-2 g c =
           c.apply-old.ensures.applied c.shut_after-self-inside.ensures c.show-shows.ensures.dependents c.show-shows.ensures.statuses c.show-shows.ensures.changes,
       c.show-shows.ensures.kept.0 ∙ (c.append.ensures.kept.0 ∙ c.self.invariant.1),
       c.show-shows.ensures.kept.1 ∙ (c.append.ensures.kept.1 ∙ c.self.invariant.2),
+      marks_more c.args.seat c.in-Ok-append.at c.args.call c.reply_to-reply.result c.rule_for-rule.result c.self.inside.history.journal.items
+          c.show-shows.new.self.journal.items c.self.inside.marks.shut c.note.new.self.shut c.self.inside.marks.slots c.note.new.self.slots
+          c.in-Ok-append.ensures.ok.0 (omega (arith, room, c.self.invariant.0.parts.limit))
+          (subst (λ state. IsRuleFor (past state.journal) c.args.call c.rule_for-rule.result) (sym c.self.view_is) c.rule_for-rule.ensures)
+          (c.reply_to-reply.ensures ∙ ap (λ state. reply_to (past state.journal) c.args.call) (sym c.self.view_is))
+          (c.show-shows.ensures.journal ∙ c.in-Ok-append.ensures.ok.1) c.note.ensures.shut c.note.ensures.slots c.self.invariant.3,
     )
 
 pub returns-clause-answered : goal.returns-clause-answered

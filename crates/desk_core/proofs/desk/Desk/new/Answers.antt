@@ -9,4 +9,5 @@ invariant_of-result g c = (
       c.new-2.ensures.changes c.new-2.ensures.statuses c.new-2.ensures.dependents,
   search rules,
   search rules,
+  search rules,
 )
