@@ -1,0 +1,10 @@
+pub mod Checksum
+pub mod Crashes
+pub mod Device
+pub mod FileView
+pub mod Gate
+pub mod Log
+pub mod Memory
+pub mod MemoryView
+pub mod Noted
+pub mod OpenError

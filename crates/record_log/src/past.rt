@@ -1,0 +1,33 @@
+//! All that a file was since it was opened, of which clauses speak and no memory holds anything.
+ghost use Rattle.std.specs.Prelude.{◌≡◌, List, []};
+ghost use Rattle.std.specs.Borrow.{ftrue};
+ghost use Rattle.record_log.specs.Crashes.{State};
+ghost use Rattle.record_log.specs.Noted.{after};
+
+use std::marker::{Model, PhantomData};
+
+#[derive(Drop)]
+pub struct Past {
+    marker: PhantomData<u8>,
+    pub ghost states: { List State },
+}
+
+impl Model for Past {
+    ghost also_owns = { λ _. ftrue };
+}
+
+impl Past {
+    /// Of an empty file.
+    pub(crate) fn new() -> Past
+        ensures { result.states ≡ [] }
+    {
+        Past {
+            marker: PhantomData,
+        }
+    }
+
+    /// Notes a write of these bytes at the place that is given, or a sync where none is.
+    pub(crate) fn note(&mut self, _place: &[u64], _bytes: &[u8])
+        ensures { self.new.states ≡ after _place.now _bytes.now self.old.states }
+    {}
+}

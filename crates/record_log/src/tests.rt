@@ -1,0 +1,85 @@
+use crate::{Memory, ReadError, RecordLog, crc32, read_entries};
+use std::test::Fail;
+use test_support::same;
+
+/// The last is the check value of the standard; zlib has the others.
+const CHECKSUMS: [(&[u8], u32); 4] = [
+    (b"", 0),
+    (b"a", 0xE8B7_BE43),
+    (b"message digest", 0x2015_9D7F),
+    (b"123456789", 0xCBF4_3926),
+];
+
+#[test]
+fn has_the_checksums_of_zlib(rt: HostRuntime) -> Result<(), Fail> {
+    for (bytes, sum) in CHECKSUMS {
+        same(&crc32(bytes), &sum, &bytes)?;
+    }
+    Ok(())
+}
+
+/// The entries `abc` and an empty one, and a closed gate.
+const FILE: [u8; 16] = [
+    1, 3, 97, 98, 99, 0x35, 0x24, 0x41, 0xC2, 1, 0, 0, 0, 0, 0, 0,
+];
+
+#[test]
+fn writes_blocks(rt: HostRuntime) -> Result<(), Fail> {
+    let alloc = rt.alloc();
+    let mut log = RecordLog::new(Memory::new(alloc, Vec::new(alloc))?);
+    log.open(alloc)?;
+    let batch = vec![in alloc; b"abc".to_vec(alloc)?, Vec::new(alloc)]?;
+    log.append(alloc, &batch)?;
+    same(&log.device.bytes(), &FILE.as_slice(), &"the file")?;
+    same(&log.end, &15, &"the gate")
+}
+
+/// A byte of the file, what stands there instead, and where damage is found: at the first byte of
+/// the block. A gate that is closed is no damage, since a crash leaves it so.
+const CHANGES: [(usize, u8, Result<usize, ReadError>); 11] = [
+    (0, 0, Ok(0)),
+    (0, 7, Ok(0)),
+    (1, 2, Err(ReadError::Damaged(0))),
+    (1, 255, Err(ReadError::Damaged(0))),
+    (2, 96, Err(ReadError::Damaged(0))),
+    (8, 0, Err(ReadError::Damaged(0))),
+    (9, 2, Ok(9)),
+    (10, 1, Err(ReadError::Damaged(9))),
+    (14, 1, Err(ReadError::Damaged(9))),
+    (15, 1, Err(ReadError::Damaged(15))),
+    (15, 9, Ok(15)),
+];
+
+#[test]
+fn tells_damage_from_a_crash(rt: HostRuntime) -> Result<(), Fail> {
+    let alloc = rt.alloc();
+    for change in CHANGES {
+        let mut file = FILE.to_vec(alloc)?;
+        if let Some(byte) = file.get_mut(change.0) {
+            *byte = change.1;
+        }
+        let end = read_entries(alloc, &file).map(|found| found.1);
+        same(&end, &change.2, &change)?;
+    }
+    Ok(())
+}
+
+/// How many bytes are left of the file, and what is found.
+const CUTS: [(usize, Result<usize, ReadError>); 6] = [
+    (0, Ok(0)),
+    (1, Ok(0)),
+    (2, Err(ReadError::Damaged(0))),
+    (9, Err(ReadError::Damaged(9))),
+    (14, Err(ReadError::Damaged(9))),
+    (15, Err(ReadError::Damaged(15))),
+];
+
+#[test]
+fn tells_a_file_that_was_cut(rt: HostRuntime) -> Result<(), Fail> {
+    let alloc = rt.alloc();
+    for (len, found) in CUTS {
+        let end = read_entries(alloc, &FILE[..len]).map(|found| found.1);
+        same(&end, &found, &len)?;
+    }
+    Ok(())
+}
