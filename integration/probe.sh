@@ -1,12 +1,17 @@
 # The exit status of `healthd ask` is a supervisor's probe.
 . "$HERE/calls.sh"
+expecting() { # STATUS OPTION..: the exit status
+  "$HEALTHD" ask --host 127.0.0.1 --timeout 2 --expect "$@" >/dev/null 2>&1 && echo 0 || echo $?
+}
 probe() { # OPTION..: the exit status
-  "$HEALTHD" ask --host 127.0.0.1 --timeout 2 --expect SERVING "$@" >/dev/null 2>&1 && echo 0 || echo $?
+  expecting SERVING "$@"
 }
 
 same 'probe of a server that is up' 0 "$(probe --port "$PORT")"
 tell down -
 same 'probe of a server that is down' 3 "$(probe --port "$PORT")"
+same 'a server that is expected to be down, in small letters' 0 "$(expecting not_serving --port "$PORT")"
+same 'a server that is expected to be up, in small letters' 3 "$(expecting serving --port "$PORT")"
 same 'probe of a service that is up' 0 "$(probe --port "$PORT" --name web1)"
 same 'probe of a service that nobody has checked' 3 "$(probe --port "$PORT" --name job)"
 same 'probe of an unknown service' 3 "$(probe --port "$PORT" --name nobody)"

@@ -10,6 +10,7 @@ import time
 
 HERE, HEALTHD = (os.environ[name] for name in ("HERE", "HEALTHD"))
 CHECK = os.path.splitext(os.path.basename(sys.argv[0]))[0]
+LOGGED = re.compile(r"\d{4}-\d\d-\d\dT[\d:.]+Z ")
 SCRIPT = "catalogue a db -\nregister a manual\nregister db threshold 2\nregister - depends a db\n"
 
 # The messages of health.proto, each in a frame, as bytes of a request and of an answer.
@@ -45,14 +46,15 @@ def head(method):
 class Server:
     """A `healthd run`, with its places in a folder that others may enter."""
 
-    def __init__(self, *options, script=SCRIPT, before=(), socket_of=None, env=None, starts=True):
+    def __init__(self, *options, script=SCRIPT, before=(), socket_of=None, env=None, starts=True, err=None,
+                 out=None, control=True):
         self.folder = tempfile.mkdtemp(prefix="healthd-", dir="/tmp")
         os.chmod(self.folder, 0o755)
         self.control, self.report = f"{self.folder}/control", f"{self.folder}/report"
         with open(f"{self.folder}/script", "w") as file:
             file.write(script)
         self.err = open(f"{self.folder}/err", "w+")
-        command = [*before, HEALTHD, "run", "--listen", "127.0.0.1:0", "--control", self.control,
+        command = [*before, HEALTHD, "run", "--listen", "127.0.0.1:0", *(("--control", self.control) if control else ()),
                    "--script", f"{self.folder}/script", *options]
         pass_fds = ()
         if socket_of is not None:
@@ -61,23 +63,29 @@ class Server:
             dup = " ".join(f"{3 + place}<&{socket.fileno()}" for place, socket in enumerate(handed))
             command = ["/bin/bash", "-c", f'exec {dup}; export LISTEN_PID=$$ LISTEN_FDS={len(handed)}; exec "$@"', "sh", *command]
             pass_fds = tuple(socket.fileno() for socket in handed)
-        self.process = subprocess.Popen(command, stdin=subprocess.DEVNULL, stdout=subprocess.PIPE, stderr=self.err,
+        self.process = subprocess.Popen(command, stdin=subprocess.DEVNULL, stdout=out or subprocess.PIPE,
+                                        stderr=self.err if err is None else err,
                                         text=True, pass_fds=pass_fds, env={**os.environ, **(env or {})})
         self.lines = []
         if not starts:
             self.process.wait(20)
             return
-        places = 1 + sum(option == "--report" for option in options) + 1
-        for _ in range(places):
-            self.lines.append(self.process.stdout.readline().strip())
+        places = 1 + sum(option == "--report" for option in options) + control
+        if out is None:
+            self.lines = [self.process.stdout.readline().strip() for _ in range(places)]
+        else:
+            self.lines = lines_of(out.name, places)
         found = re.fullmatch(r"listening 127\.0\.0\.1:(\d+)", self.lines[0])
         holds("a server listens", found, f"it said {self.lines} and {self.said()}")
         self.port = int(found[1])
 
     def said(self):
-        self.err.flush()
+        """What it has written to standard error so far, without its log."""
+        return "".join(line for line in self.written() if not LOGGED.match(line))
+
+    def written(self):
         with open(f"{self.folder}/err") as file:
-            return file.read()
+            return file.readlines()
 
     def connect(self, timeout=10):
         return socket.create_connection(("127.0.0.1", self.port), timeout)
@@ -115,6 +123,12 @@ class Server:
         words = self.tell("stats")[0].split()
         return dict(zip(words[::2], map(int, words[1::2])))
 
+    def kill(self):
+        """Ends it where nobody can tell it to."""
+        self.process.kill()
+        self.process.wait(5)
+        shutil.rmtree(self.folder)
+
     def stop(self):
         """Tells it to stop, and waits until it has ended: its exit status."""
         said, _ = self.tell("stop")
@@ -122,6 +136,17 @@ class Server:
         status = self.process.wait(40)
         shutil.rmtree(self.folder)
         return status
+
+
+def lines_of(path, count):
+    """The first lines of a file that are not of the log, once there are so many."""
+    ends = time.monotonic() + 10
+    while True:
+        with open(path) as file:
+            lines = [line.strip() for line in file if line.endswith("\n") and not LOGGED.match(line)]
+        if len(lines) >= count or time.monotonic() > ends:
+            return lines
+        time.sleep(0.02)
 
 
 def read_all(client):

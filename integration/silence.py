@@ -126,7 +126,7 @@ holds("each is counted once", server.stats()["expired"] == 15, str(server.stats(
 server.stop()
 
 # What a script expects.
-server = Server(script=SCRIPT + "expect a 1\n")
+server = Server("--quiet", script=SCRIPT + "expect a 1\n")
 watch = Watch(server)
 holds("a script's expectation begins when the server serves", watch.told(SERVING, 0.5) is not None)
 expires("a script's expectation", watch, 0.5, 1 + 2 * LATE)

@@ -1,11 +1,13 @@
 use clap::error::ErrorKind;
-use commands::command::{bad_host, bad_place, bad_words, command};
+use commands::command::{
+    bad_history_place, bad_host, bad_place, bad_status_place, bad_words, command,
+};
 use std::alloc::Global;
 use std::test::Fail;
 use test_support::same;
 
 /// The words behind the program's name, and why they are refused, if they are. `--help` and `--version` refuse to run anything.
-static ROWS: [(&[&str], Option<ErrorKind>); 61] = [
+static ROWS: [(&[&str], Option<ErrorKind>); 74] = [
     (&["body", "0000000000"], None),
     (&["body"], Some(ErrorKind::MissingRequiredArgument)),
     (&["replay"], None),
@@ -139,8 +141,9 @@ static ROWS: [(&[&str], Option<ErrorKind>); 61] = [
         Some(ErrorKind::ValueValidation),
     ),
     (&["ask", "--port", "1", "--expect", "SERVICE_UNKNOWN"], None),
+    (&["ask", "--port", "1", "--expect", "serving"], None),
     (
-        &["ask", "--port", "1", "--expect", "serving"],
+        &["ask", "--port", "1", "--expect", "served"],
         Some(ErrorKind::InvalidValue),
     ),
     (
@@ -169,6 +172,46 @@ static ROWS: [(&[&str], Option<ErrorKind>); 61] = [
         Some(ErrorKind::ValueValidation),
     ),
     (&["tell", "--help"], Some(ErrorKind::DisplayHelp)),
+    (&["status", "--control", "/s"], None),
+    (
+        &["status", "--control", "/s", "--json", "--timeout", "2"],
+        None,
+    ),
+    (&["status"], Some(ErrorKind::MissingRequiredArgument)),
+    (
+        &["status", "--control", "/s", "db"],
+        Some(ErrorKind::UnknownArgument),
+    ),
+    (&["status", "--help"], Some(ErrorKind::DisplayHelp)),
+    (
+        &["history", "--control", "127.0.0.1:8081", "--follow"],
+        None,
+    ),
+    (
+        &[
+            "history",
+            "--control",
+            "/s",
+            "--json",
+            "--last",
+            "4294967295",
+        ],
+        None,
+    ),
+    (&["history"], Some(ErrorKind::MissingRequiredArgument)),
+    (
+        &["history", "--control", "/s", "--last"],
+        Some(ErrorKind::InvalidValue),
+    ),
+    (
+        &["history", "--control", "/s", "--last", "4294967296"],
+        Some(ErrorKind::ValueValidation),
+    ),
+    (
+        &["history", "--control", "/s", "--timeout", "0"],
+        Some(ErrorKind::ValueValidation),
+    ),
+    (&["history", "--help"], Some(ErrorKind::DisplayHelp)),
 ];
 
 fn expect_kind(alloc: Global, words: &[&str], expected: Option<ErrorKind>) -> Result<(), Fail> {
@@ -249,6 +292,27 @@ const TELL_HELP_PARTS: [&str; 9] = [
     "1 to 3600, e.g. 2",
 ];
 
+/// What the help of `status` has to say: where it asks, and how it prints.
+const STATUS_HELP_PARTS: [&str; 6] = [
+    "--control <PLACE>",
+    "e.g. 127.0.0.1:8081",
+    "--timeout <S>",
+    "--json",
+    "NO_COLOR",
+    "healthd status --control /run/healthd.sock",
+];
+
+/// What the help of `history` has to say: where it asks, what, and how it ends.
+const HISTORY_HELP_PARTS: [&str; 7] = [
+    "--control <PLACE>",
+    "--timeout <S>",
+    "--last <N>",
+    "0 to 4294967295, e.g. 20",
+    "--follow",
+    "exit status 0 where the server ends",
+    "healthd history --control /run/healthd.sock --last 20",
+];
+
 fn expect_help(alloc: Global, name: &str, parts: &[&str]) -> Result<(), Fail> {
     let words = ["healthd", name, "--help"];
     let Err(help) = command(alloc)?.try_get_matches_from(words.as_slice()) else {
@@ -265,7 +329,9 @@ fn expect_help(alloc: Global, name: &str, parts: &[&str]) -> Result<(), Fail> {
 fn tells_the_options_of_each_command(rt: HostRuntime) -> Result<(), Fail> {
     expect_help(rt.alloc(), "run", &RUN_HELP)?;
     expect_help(rt.alloc(), "ask", &ASK_HELP)?;
-    expect_help(rt.alloc(), "tell", &TELL_HELP_PARTS)
+    expect_help(rt.alloc(), "tell", &TELL_HELP_PARTS)?;
+    expect_help(rt.alloc(), "status", &STATUS_HELP_PARTS)?;
+    expect_help(rt.alloc(), "history", &HISTORY_HELP_PARTS)
 }
 
 fn expect_refusal(alloc: Global, error: &clap::Error, begin: &str) -> Result<(), Fail> {
@@ -287,6 +353,18 @@ fn refuses_values_in_the_words_of_clap(rt: HostRuntime) -> Result<(), Fail> {
         alloc,
         &place,
         "error: invalid value '192.0.2.7:80' for '--control <PLACE>'",
+    )?;
+    let status = bad_status_place(alloc, "nowhere")?;
+    expect_refusal(
+        alloc,
+        &status,
+        "error: invalid value 'nowhere' for '--control <PLACE>'",
+    )?;
+    let history = bad_history_place(alloc, "nowhere")?;
+    expect_refusal(
+        alloc,
+        &history,
+        "error: invalid value 'nowhere' for '--control <PLACE>'",
     )?;
     let words = bad_words(alloc)?;
     expect_refusal(

@@ -77,6 +77,7 @@ fn expect_read(alloc: Global, row: &Row<'_>) -> Result<(), Fail> {
             script,
             threads,
             bounds,
+            is_quiet: false,
         })),
         _ => None,
     };
@@ -88,6 +89,21 @@ fn expect_read(alloc: Global, row: &Row<'_>) -> Result<(), Fail> {
 fn reads_its_options(rt: HostRuntime) -> Result<(), Fail> {
     for row in &ROWS {
         expect_read(rt.alloc(), row)?;
+    }
+    Ok(())
+}
+
+#[test]
+fn reads_whether_there_is_a_log(rt: HostRuntime) -> Result<(), Fail> {
+    let alloc = rt.alloc();
+    let rows: [(&[&str], bool); 2] = [(&[], false), (&["--quiet"], true)];
+    for (options, is_quiet) in rows {
+        let words = words_of(alloc, options)?;
+        let matches = command(alloc)?.try_get_matches_from(words.as_slice())?;
+        let is_read = matches.subcommand().is_some_and(|named| {
+            RunOptions::read(named.1).is_ok_and(|read| read.is_quiet == is_quiet)
+        });
+        same(&is_read, &true, &options)?;
     }
     Ok(())
 }

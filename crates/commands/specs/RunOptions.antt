@@ -1,5 +1,5 @@
 -- Which option of the command line is read where.
-use Rattle.std.specs.Prelude.{◌≡◌, ◌<◌, ◌⊎◌, ℕ, List, Option, None, Some, Result, codes, unwrap_or, []}
+use Rattle.std.specs.Prelude.{◌≡◌, ◌<◌, ◌⊎◌, ℕ, Bool, true, false, List, Option, None, Some, Result, codes, unwrap_or, []}
 use Rattle.clap.specs.Words.{first_value, one_text, ReadsOne}
 use Rattle.clap.specs.declared.parser.matches.Found.{Found}
 use Rattle.control.specs.declared.place.Place.{Place}
@@ -29,6 +29,12 @@ pub record AreBoundsIn {E : Type 0} (gives : List ℕ → Result ℕ E → Type 
   pub watches_read : IsReadAs gives found (codes "watches") watches
   pub connections_are : bounds.connections ≡ unwrap_or connections 1
   pub watches_are : bounds.watches ≡ watches_of bounds.connections watches
+
+-- the flag is raised where its text says so, and not where it has none
+pub record IsFlagIn (text : Option (List ℕ)) (raised : Bool) : Type 0 where
+  pub none : text ≡ None → raised ≡ false
+  pub yes : text ≡ Some (codes "true") → raised ≡ true
+  pub no : text ≡ Some (codes "false") → raised ≡ false
 
 -- the place is what the option's text says, and there is none exactly where there is no such option
 abbrev pub IsPlaceIn : Option (List ℕ) → Option Place → Type 0

@@ -5,7 +5,7 @@ use crate::ask_failure::AskFailure;
 use crate::cause::Cause;
 use crate::command::port_in;
 use crate::deadline::{Deadline, TimedStream};
-use crate::expect::{exit_status, status_name};
+use crate::expect::{exit_status, status_name, status_spelled};
 use crate::fault::Fault;
 use clap::ArgMatches;
 use clap::parser::ValueSource;
@@ -55,8 +55,17 @@ where
         Some(timeout) => ask_within(rt, alloc, addr, timeout, method, name, most)?,
         None => ask_for_good(rt, alloc, addr, method, name, most)?,
     };
-    let expected = matches.get_str("expect");
+    let expected = expected_in(matches);
     Ok(print_told(alloc, &mut io::writer(rt), method, expected, &told)?)
+}
+
+/// The name of the status that is expected, if one is.
+fn expected_in<'a>(matches: &ArgMatches<'a>) -> Option<&'a str> {
+    let text = matches.get_str("expect")?;
+    match status_spelled(text) {
+        Some(name) => Some(name),
+        None => Some(text),
+    }
 }
 
 /// Prints what was told. It tells the exit status, where a status of this name may be expected.

@@ -55,6 +55,13 @@ impl Bounds {
         self.connections
     }
 
+    /// How many Watches are open at once, at most.
+    pub fn watches(self) -> u32
+        ensures { result ≡ self.watches }
+    {
+        self.watches
+    }
+
     /// The same bounds, as far as so many connections can be held: where they are fewer, Watches are nine tenths of them at most. None
     /// where no connection can be.
     pub fn within(self, connections: u32) -> Option<Bounds>

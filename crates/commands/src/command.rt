@@ -70,12 +70,31 @@ and 0 if there is no such answer.
 Where an answer takes longer than --timeout, tell ends with \
 timed out, the change may still be made, and exit status 1.";
 
+const STATUS_HELP: &str = "\
+The table tells since when each service has its status and why, how often it has to be reported, \
+and when it was reported last. Times are in UTC. On a terminal statuses have colours, unless the \
+environment variable NO_COLOR is set and not empty. For example
+
+  healthd status --control /run/healthd.sock
+  healthd status --control 127.0.0.1:8081 --json";
+
+const HISTORY_HELP: &str = "\
+Each entry is a line: its place, when it was made and by whom, the change, and what it came to. \
+For example
+
+  healthd history --control /run/healthd.sock --last 20
+  healthd history --control /run/healthd.sock --last 0 --follow --json
+
+With --follow, history ends with exit status 0 where the server ends.";
+
 /// The command line. A command that is not listed here is refused with clap's text.
 pub fn command<'a>(alloc: Global) -> Result<Command<'a>, AllocError> {
     with_scripts(alloc)?
         .subcommand(run(alloc)?)?
         .subcommand(ask(alloc)?)?
-        .subcommand(tell(alloc)?)
+        .subcommand(tell(alloc)?)?
+        .subcommand(status(alloc)?)?
+        .subcommand(history(alloc)?)
 }
 
 /// The program, with the commands that read all that they are told from their words and from standard input.
@@ -150,7 +169,8 @@ fn run<'a>(alloc: Global) -> Result<Command<'a>, AllocError> {
         .arg(script)?
         .arg(threads)?
         .arg(connections(alloc))?
-        .arg(watches(alloc))
+        .arg(watches(alloc))?
+        .arg(quiet(alloc))
 }
 
 fn listen<'a>(alloc: Global) -> Arg<'a> {
@@ -196,6 +216,13 @@ fn watches<'a>(alloc: Global) -> Arg<'a> {
             "How many of them may be open Watches, 0 to C, e.g. 400; without it nine tenths of C. One that is opened beyond them is told its status and ended",
         )
         .value_parser(value_parser!(u32).range(0..=MAX_CONNECTIONS))
+}
+
+fn quiet<'a>(alloc: Global) -> Arg<'a> {
+    Arg::new(alloc, "quiet")
+        .long("quiet")
+        .help("Write no log to standard error; without it there is a line for each status change")
+        .action(ArgAction::SetTrue)
 }
 
 /// The command line of a run that is refused, with the text that clap has for such.
@@ -263,6 +290,7 @@ fn expect<'a>(alloc: Global) -> Arg<'a> {
             "End with exit status 3 unless the last status is this one, e.g. SERVING, and a Check ended with grpc-status 0",
         )
         .value_parser(STATUS_NAMES.as_slice())
+        .ignore_case(true)
 }
 
 /// The command line of an `ask` whose host is refused, with the text that clap has for such.
@@ -305,6 +333,62 @@ fn answer_timeout<'a>(alloc: Global) -> Arg<'a> {
         .value_parser(value_parser!(u16).range(1..=3_600))
 }
 
+fn status<'a>(alloc: Global) -> Result<Command<'a>, AllocError> {
+    let json = json(alloc, "Print an array of JSON, an object for each service");
+    Command::new(alloc, "status")
+        .about("Print how each service of a server stands, since when, and why")
+        .after_help(STATUS_HELP)
+        .arg(asked_place(alloc))?
+        .arg(answer_timeout(alloc))?
+        .arg(json)
+}
+
+fn history<'a>(alloc: Global) -> Result<Command<'a>, AllocError> {
+    let json = json(alloc, "Print an object of JSON for each entry, one a line");
+    Command::new(alloc, "history")
+        .about("Print the changes that a server has made, the oldest first")
+        .after_help(HISTORY_HELP)
+        .arg(asked_place(alloc))?
+        .arg(answer_timeout(alloc))?
+        .arg(last(alloc))?
+        .arg(follow(alloc))?
+        .arg(json)
+}
+
+fn asked_place<'a>(alloc: Global) -> Arg<'a> {
+    Arg::new(alloc, "control")
+        .long("control")
+        .value_name("PLACE")
+        .help(
+            "Where the server takes changes or reports: a loopback address and a port, e.g. 127.0.0.1:8081, or the path of a Unix socket, e.g. /run/healthd",
+        )
+        .required(true)
+}
+
+fn json<'a>(alloc: Global, help: &'static str) -> Arg<'a> {
+    Arg::new(alloc, "json")
+        .long("json")
+        .help(help)
+        .action(ArgAction::SetTrue)
+}
+
+fn last<'a>(alloc: Global) -> Arg<'a> {
+    Arg::new(alloc, "last")
+        .long("last")
+        .value_name("N")
+        .help(
+            "How many of the newest entries are printed, 0 to 4294967295, e.g. 20; without it all that are kept",
+        )
+        .value_parser(value_parser!(u32))
+}
+
+fn follow<'a>(alloc: Global) -> Arg<'a> {
+    Arg::new(alloc, "follow")
+        .long("follow")
+        .help("Go on with the entries that come, until the server ends")
+        .action(ArgAction::SetTrue)
+}
+
 /// The command line of a `tell` that is refused for this reason, with the text that clap has for such.
 fn bad_tell(alloc: Global, message: &str) -> Result<clap::Error, AllocError> {
     tell(alloc)?
@@ -314,10 +398,29 @@ fn bad_tell(alloc: Global, message: &str) -> Result<clap::Error, AllocError> {
 
 /// The text is no place of a server that takes changes.
 pub fn bad_place(alloc: Global, text: &str) -> Result<clap::Error, AllocError> {
-    let message = format!(in alloc;
+    bad_tell(alloc, &no_place(alloc, text)?)
+}
+
+/// The same, where `status` is to ask there.
+pub fn bad_status_place(alloc: Global, text: &str) -> Result<clap::Error, AllocError> {
+    let message = no_place(alloc, text)?;
+    status(alloc)?
+        .bin_name("healthd status")?
+        .error(ErrorKind::ValueValidation, &message)
+}
+
+/// The same, where `history` is to ask there.
+pub fn bad_history_place(alloc: Global, text: &str) -> Result<clap::Error, AllocError> {
+    let message = no_place(alloc, text)?;
+    history(alloc)?
+        .bin_name("healthd history")?
+        .error(ErrorKind::ValueValidation, &message)
+}
+
+fn no_place(alloc: Global, text: &str) -> Result<String, AllocError> {
+    format!(in alloc;
         "invalid value '{text}' for '--control <PLACE>': not a loopback address and a port, nor the path of a socket"
-    )?;
-    bad_tell(alloc, &message)
+    )
 }
 
 /// The words are more than one line.

@@ -1,5 +1,6 @@
 ghost use Rattle.std.specs.Prelude.{◌≡◌, ◌↔◌, ◌⊎◌, IfNone, IfSome, IsTrue};
 ghost use Rattle.std.specs.Option.{option_map};
+ghost use Rattle.std.specs.Str.{str_eq_ignore_ascii_case};
 ghost use Rattle.commands.specs.Expect.{EndsIn, HasEndedWell, IsExpected, name_of};
 
 use client::{Ended, Told};
@@ -13,6 +14,18 @@ pub const UNMET: u8 = 3;
 
 /// The names that health.proto gives to statuses, by their numbers.
 pub static STATUS_NAMES: [&str; 4] = ["UNKNOWN", "SERVING", "NOT_SERVING", "SERVICE_UNKNOWN"];
+
+/// The name that health.proto gives to the status that is spelled so, in capitals or in small letters.
+pub fn status_spelled(text: &str) -> Option<&'static str>
+    ensures { IfSome result (λ name. IsTrue (str_eq_ignore_ascii_case name.now text.now)) }
+{
+    for name in STATUS_NAMES {
+        if name.eq_ignore_ascii_case(text) {
+            return Some(name);
+        }
+    }
+    None
+}
 
 /// The exit status of a call that was told this, where a status of this name may be expected.
 pub fn exit_status(method: Method, expected: Option<&str>, told: &Told) -> u8

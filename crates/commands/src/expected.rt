@@ -6,9 +6,12 @@ ghost use Rattle.script.specs.declared.script_fault.ScriptFault.TheVariants.{NoM
 ghost use Rattle.commands.specs.Expected.{IsExpectedBy, IsUnexpected};
 
 use crate::run_failure::{RunFailure, failure_by};
+use chronicle::{Who, wall_micros};
 use desk_core::KeepMany;
-use live_run::{RefusedLine, WatchdogLoop};
+use diary::{Diary, Setup};
+use live_run::{Gauges, RefusedLine, WatchdogLoop};
 use live_server::News;
+use log_lines::Outlet;
 use probe_core::Probe;
 use script::{Expected, Mode, RefusedExpectation, Script, ScriptFault, expected_of, read_script};
 use server::SetUpHall;
@@ -16,6 +19,7 @@ use std::alloc::{AllocError, Global};
 use std::io;
 use std::net::Net;
 use std::sync::Arc;
+use std::time::Clock;
 use watchdog::{Expectations, Watchdog, Wish};
 
 /// What a script expects behind its last line, or the first of its lines `expect` that does not stand. Bytes that are no script expect
@@ -92,6 +96,21 @@ pub struct Watching {
 impl Watching {
     ghost use Rattle.std.specs.Prelude.{◌≡◌, None, Some, IsFalse, IsTrue};
 
+    /// The same, with a diary of a server that these gauges are of, which writes to this outlet, if there is one.
+    pub(crate) fn telling(
+        self,
+        alloc: Global,
+        outlet: Option<Outlet>,
+        setup: Setup,
+        gauges: Gauges,
+    ) -> Result<Watching, AllocError> {
+        let diary = Diary::new(alloc, outlet, self.expectations.clone()?, setup)?;
+        Ok(Watching {
+            watchdog: self.watchdog.with_diary(diary, gauges),
+            expectations: self.expectations,
+        })
+    }
+
     /// The watchdog, where it is needed.
     pub(crate) fn needed(self, is_needed: bool) -> Option<WatchdogLoop>
         ensures unneeded { IsFalse is_needed → result ≡ None }
@@ -101,15 +120,22 @@ impl Watching {
     }
 }
 
+/// How many entries the setup made.
+pub(crate) fn entries_of<P: Probe>(made: &SetUpHall<P, KeepMany>) -> u32 {
+    u32::try_from(made.results().len()).unwrap_or(u32::MAX)
+}
+
 /// A watchdog over a hall that is set up, from whose last entry on this is expected.
-pub fn watch_over<'a, R: Net, P: Probe>(
+pub fn watch_over<'a, R: Net + Clock, P: Probe>(
     rt: &R,
     alloc: Global,
     made: &SetUpHall<P, KeepMany>,
     expected: &[Expected],
 ) -> Result<Watching, RunFailure<'a>> {
     let expectations = Arc::new(alloc, Expectations::new(alloc)?)?;
-    let behind = u32::try_from(made.results().len()).unwrap_or(u32::MAX);
+    let behind = entries_of(made);
+    let chronicle = expectations.chronicle();
+    chronicle.note_all(behind, wall_micros(rt), Who::Setup);
     for Expected { slot, seconds } in expected {
         let wish = Wish {
             seconds: *seconds,

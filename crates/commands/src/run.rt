@@ -15,17 +15,18 @@ ghost use Rattle.commands.specs.declared.run_failure.RunFailure.TheVariants.{Out
 ghost use Rattle.commands.specs.Run.{AreLoopsOf, AreMadeAlone, EndsSetUp, IsSetUpBy, IsWhollySetUp, limits_in};
 
 use crate::bounds::{Bounds, MAX_LOOPS};
-use crate::expected::{expected_in, first_failure, waking, watch_over};
+use crate::expected::{entries_of, expected_in, first_failure, waking, watch_over};
 use crate::files::{bounds_within, reserved};
 use crate::input::read_script_bytes;
 use crate::run_failure::{RunFailure, failure_by, script_failure};
 use crate::run_options::{RunOptions, Source};
 use crate::supervisor::Supervisor;
 use control::{Access, ControlListener, Place, Rights, Terms};
-use control_server::{ControlServer, SESSION_SEATS};
+use control_server::{ControlServer, MAX_SESSIONS, SESSION_SEATS};
 use desk_core::KeepMany;
+use diary::{Held, Setup};
 use handover::{HandedOver, Notifier};
-use live_run::{Ran, RefusedLine, RunFault, SessionPlaces, first_refused, run_live};
+use live_run::{Gauges, Ran, RefusedLine, RunFault, SessionPlaces, first_refused, run_live};
 use live_server::{Acceptor, EventServer, Limits, News, Places, Tally};
 use open_files::open_files;
 use probe_core::{Maker, Probe};
@@ -136,15 +137,17 @@ where
     ensures reported { IfOk result (λ begun. IsSome begun.places.report ↔ IsSome
         options.entry.report) }
     ensures terms { IfOk result (λ begun. HaveTerms made.now.hall.most begun.places) }
-    // where nothing can be expected, no watchdog makes changes
-    ensures unwatched { options.entry.control ≡ None → expected.now ≡ [] → IfOk result (λ begun.
-        begun.places.watchdog ≡ None) }
+    // where there are no sessions and nothing is expected, no watchdog makes changes
+    ensures unwatched { options.entry.control ≡ None → options.entry.report ≡ None → expected.now ≡ []
+        → IfOk result (λ begun. begun.places.watchdog ≡ None) }
 {
     let Supervisor {
         mut sockets,
         notifier,
+        outlet,
     } = supervisor;
     let listener = listener_of(rt, made, options.listen, &mut sockets)?;
+    let address = address_of(&listener, options.listen)?;
     let control = sessions_at(rt, alloc, made, options.control, Access::Owner)?;
     let report = sessions_at(rt, alloc, made, options.report, Access::Group)?;
     // Each loop has the socket too, and closes it at the end, so that clients which come late are refused.
@@ -159,7 +162,12 @@ where
     let control = session_loop(rt, alloc, control, &servers, all, told)?;
     let reports = terms_with(Rights::Reports, most);
     let report = session_loop(rt, alloc, report, &servers, reports, told)?;
-    tell_listener(rt, alloc, &listener, options.listen)?;
+    let has_sessions = options.control.is_some() || options.report.is_some();
+    let gauges = gauges_of(alloc, &servers, &control, &report)?;
+    let setup = setup_of(made, address, options.bounds);
+    let outlet = if options.is_quiet { None } else { outlet };
+    let watching = watching.telling(alloc, outlet, setup, gauges)?;
+    print_line(rt, &listening_line(alloc, address)?)?;
     tell_place(rt, control_line)?;
     tell_place(rt, report_line)?;
     let _ = notifier.ready();
@@ -167,7 +175,7 @@ where
         servers,
         news,
         places: SessionPlaces {
-            watchdog: watching.needed(options.control.is_some() || !expected.is_empty()),
+            watchdog: watching.needed(has_sessions || !expected.is_empty()),
             control: notifying(control, notifier),
             report,
         },
@@ -326,17 +334,46 @@ pub fn sessions_at<'a, R: Files + Net, P: Probe>(
     }
 }
 
-/// Prints where the socket listens, which tells the port that the system picked for port 0.
-fn tell_listener<'a, R: Print>(
-    rt: &R,
-    alloc: Global,
-    listener: &TcpListener,
-    asked: SocketAddr,
-) -> Result<(), RunFailure<'a>> {
+/// Where the socket listens, which tells the port that the system picked for port 0.
+fn address_of<'a>(listener: &TcpListener, asked: SocketAddr) -> Result<SocketAddr, RunFailure<'a>> {
     match listener.local_addr() {
-        Ok(addr) => print_line(rt, &listening_line(alloc, addr)?),
+        Ok(address) => Ok(address),
         Err(error) => Err(bind_failure(error, Place::Address(asked))),
     }
+}
+
+/// What a diary is told of a hall that is set up, and serves here within these bounds.
+fn setup_of<P: Probe>(made: &SetUpHall<P, KeepMany>, address: SocketAddr, bounds: Bounds) -> Setup {
+    Setup {
+        address,
+        entries: entries_of(made),
+        most: made.most(),
+        room: Held {
+            connections: bounds.connections(),
+            watches: bounds.watches(),
+            sessions: u32::from(MAX_SESSIONS),
+        },
+    }
+}
+
+/// What tells how much a server holds by these loops and these places for sessions.
+fn gauges_of(
+    alloc: Global,
+    servers: &[EventServer],
+    control: &Option<ControlServer>,
+    report: &Option<ControlServer>,
+) -> Result<Gauges, AllocError> {
+    let mut sessions = Vec::with_capacity(alloc, 2)?;
+    if let Some(server) = control {
+        sessions.push(server.tally()?)?;
+    }
+    if let Some(server) = report {
+        sessions.push(server.tally()?)?;
+    }
+    Ok(Gauges {
+        calls: tallies_of(alloc, servers)?,
+        sessions,
+    })
 }
 
 /// Prints the line of a place for sessions, if there is one.

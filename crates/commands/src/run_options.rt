@@ -1,6 +1,6 @@
 ghost use Rattle.std.specs.Prelude.{◌≡◌, Some, IfOk, IfErr, codes};
-ghost use Rattle.clap.specs.Words.{found_of, first_value};
-ghost use Rattle.commands.specs.RunOptions.{AreBoundsIn, IsBadBounds, IsBadControl, IsBadIn, IsBadReport, IsPlaceIn, IsReadAs, path_of};
+ghost use Rattle.clap.specs.Words.{found_of, first_value, one_text};
+ghost use Rattle.commands.specs.RunOptions.{AreBoundsIn, IsBadBounds, IsBadControl, IsBadIn, IsBadReport, IsFlagIn, IsPlaceIn, IsReadAs, path_of};
 
 use crate::bounds::{Bounds, bounds_of};
 use clap::ArgMatches;
@@ -37,6 +37,8 @@ pub struct RunOptions<'a> {
     /// How many event loops. Without it there are as many as processors.
     pub threads: Option<u16>,
     pub bounds: Bounds,
+    /// Whether there is no log on standard error.
+    pub is_quiet: bool,
 }
 
 /// Why the options of a run are refused, where each by itself is one.
@@ -93,6 +95,8 @@ impl<'a> RunOptions<'a> {
             (found_of matches.now) (codes "threads") options.threads) }
         ensures bounds { IfOk result (λ options. AreBoundsIn ⟦<u32 as FromStr>⟧.from_str_gives
             (found_of matches.now) options.bounds) }
+        ensures quiet { IfOk result (λ options. IsFlagIn (one_text (found_of matches.now)
+            (codes "quiet")) options.is_quiet) }
         ensures bad { IfErr result (IsBadIn ⟦<SocketAddr as FromStr>⟧.from_str_gives ⟦<u32 as FromStr>⟧.from_str_gives (found_of matches.now)) }
     {
         let Some(listen) = matches.get_one::<SocketAddr>("listen") else {
@@ -108,6 +112,7 @@ impl<'a> RunOptions<'a> {
             script: source_in(matches),
             threads: matches.get_one::<u16>("threads"),
             bounds,
+            is_quiet: matches.get_flag("quiet"),
         })
     }
 }

@@ -1,18 +1,23 @@
 use handover::{HandedOver, Notifier};
+use log_lines::Outlet;
 use std::rt::Env;
 
-/// What a supervisor such as systemd hands a run, and is told by it.
+/// What a supervisor such as systemd, or a shell, hands a run, and is told by it.
 #[derive(Drop)]
 pub struct Supervisor {
     /// The first of these sockets is the one that calls come to.
     pub sockets: HandedOver,
     pub notifier: Notifier,
+    /// Where its log is written, if anywhere.
+    pub outlet: Option<Outlet>,
 }
 
 impl Supervisor {
-    /// What the environment says to the process of this id. Where it names no socket to be told, nobody is told.
+    /// What the environment says to the process of this id, which has opened nothing yet. Where it names no socket to be told, nobody
+    /// is told.
     pub fn from_env<R: Env>(rt: &R, process_id: u32) -> Supervisor {
         Supervisor {
+            outlet: Outlet::standard_error(),
             sockets: HandedOver::from_env(rt, process_id),
             notifier: Notifier::from_env(rt).unwrap_or_else(|_| Notifier::nobody()),
         }
@@ -23,6 +28,7 @@ impl Supervisor {
         Supervisor {
             sockets: HandedOver::nothing(),
             notifier: Notifier::nobody(),
+            outlet: None,
         }
     }
 }

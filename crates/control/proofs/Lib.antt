@@ -1,4 +1,5 @@
 pub mod BesideLemmas
+pub mod EntryTextLemmas
 pub mod LineLemmas
 pub mod MeetingLemmas
 pub mod OneMeeting

@@ -6,7 +6,6 @@ use Rattle.std.proofs.lemmas.Bool.{eqb-true}
 use Rattle.std.proofs.lemmas.Str.{IsUtf8-encode, IsUtf8-nil}
 use Rattle.desk_core.specs.declared.call.Call.{Call}
 use Rattle.desk_core.specs.declared.entry.Entry.{Entry}
-use Rattle.desk_core.specs.declared.reason.Reason.{Reason}
 use Rattle.desk_core.specs.declared.refusal.Refusal.{Refusal}
 use Rattle.desk_core.specs.declared.reply.Reply.{Reply}
 use Rattle.script.specs.declared.expectation.Expectation.{Expectation}
@@ -20,6 +19,7 @@ use Rattle.control.specs.Meeting.{IsLineMet, IsMet, IsSaid}
 use Rattle.control.specs.Meeting.IsLineMet.{IsTooLong, IsSkipped, IsNoText, IsNoRequest, IsUnread, IsDenied, IsAsked}
 use Rattle.control.specs.Meeting.IsMet.{Starves}
 use Rattle.control.specs.declared.rights.Rights.{Rights}
+use Rattle.control.specs.Known.{Asked, Known}
 use Rattle.control.specs.Request.{IsRequest}
 use Rattle.control.specs.Rights.{IsAllowed, unknown_line}
 use Rattle.control.proofs.OneRequest.{one_request}
@@ -48,8 +48,8 @@ silent_text line none = ⊎_elim
     (λ (is : line ≡ 13 ∷ []). subst IsUtf8 (sym is) (IsUtf8-encode 13 refl))
     (silent line none)
 
-module _ {S : Type 0} (rights : S → Rights) (expects : List (List ℕ) → S → S → Expectation → Result Reply Refusal → Type 0) {seen : S → List Entry} {looks : S → S → Type 0} {changes : S → S → Option Call → Result Reply Refusal → Type 0} {tells : S → Stats → Type 0} {explains : S → ℕ → Reason → Type 0} {stops : S → S → Type 0} where
-  pub too_long : (names : List (List ℕ)) (old new : S) (line : List ℕ) (answer : Answer) → IsLineMet (rights old) names seen looks changes (expects names) tells explains stops old new line answer → 1024 < length line
+module _ {S : Type 0} (rights : S → Rights) (expects : List (List ℕ) → S → S → Expectation → Result Reply Refusal → Type 0) {seen : S → List Entry} {looks : S → S → Type 0} {changes : S → S → Option Call → Result Reply Refusal → Type 0} {tells : S → Stats → Type 0} {knows : S → Asked → Known → Type 0} {stops : S → S → Type 0} where
+  pub too_long : (names : List (List ℕ)) (old new : S) (line : List ℕ) (answer : Answer) → IsLineMet (rights old) names seen looks changes (expects names) tells knows stops old new line answer → 1024 < length line
       → (answer ≡ answers.TooLong) × (new ≡ old)
   too_long names old new line answer (IsTooLong long same) many = (refl, same)
   too_long names old new line _ (IsNoText short wrong answer told same) many = absurd (omega (arith, short, many))
@@ -59,7 +59,7 @@ module _ {S : Type 0} (rights : S → Rights) (expects : List (List ℕ) → S �
   too_long names old new line answer (IsDenied said request asks denied same) many = absurd (omega (arith, said.short, many))
   too_long names old new line answer (IsAsked said request _ asks allowed met) many = absurd (omega (arith, said.short, many))
 
-  pub no_text : (names : List (List ℕ)) (old new : S) (line : List ℕ) (answer : Answer) → IsLineMet (rights old) names seen looks changes (expects names) tells explains stops old new line answer → length line ≤ 1024
+  pub no_text : (names : List (List ℕ)) (old new : S) (line : List ℕ) (answer : Answer) → IsLineMet (rights old) names seen looks changes (expects names) tells knows stops old new line answer → length line ≤ 1024
       → ¬ IsUtf8 line → (answer ≡ unknown_line (rights old)) × (new ≡ old)
   no_text names old new line answer (IsTooLong long same) few bad = absurd (omega (arith, long, few))
   no_text names old new line _ (IsNoText short wrong answer told same) few bad = (told, same)
@@ -69,7 +69,7 @@ module _ {S : Type 0} (rights : S → Rights) (expects : List (List ℕ) → S �
   no_text names old new line answer (IsDenied said request asks denied same) few bad = absurd (bad said.text)
   no_text names old new line answer (IsAsked said request _ asks allowed met) few bad = absurd (bad said.text)
 
-  pub says_nothing : (names : List (List ℕ)) (old new : S) (line : List ℕ) (answer : Answer) → IsLineMet (rights old) names seen looks changes (expects names) tells explains stops old new line answer → without_cr line ≡ []
+  pub says_nothing : (names : List (List ℕ)) (old new : S) (line : List ℕ) (answer : Answer) → IsLineMet (rights old) names seen looks changes (expects names) tells knows stops old new line answer → without_cr line ≡ []
       → (answer ≡ answers.Skipped) × (new ≡ old)
   says_nothing names old new line answer (IsTooLong long same) blank = absurd (omega (arith, long, silent_short line blank))
   says_nothing names old new line _ (IsNoText short wrong answer told same) blank = absurd (wrong (silent_text line blank))
@@ -79,7 +79,7 @@ module _ {S : Type 0} (rights : S → Rights) (expects : List (List ℕ) → S �
   says_nothing names old new line answer (IsDenied said request asks denied same) blank = absurd (said.some blank)
   says_nothing names old new line answer (IsAsked said request _ asks allowed met) blank = absurd (said.some blank)
 
-  pub no_request : (names : List (List ℕ)) (old new : S) (line : List ℕ) (answer : Answer) → IsLineMet (rights old) names seen looks changes (expects names) tells explains stops old new line answer → IsSaid line
+  pub no_request : (names : List (List ℕ)) (old new : S) (line : List ℕ) (answer : Answer) → IsLineMet (rights old) names seen looks changes (expects names) tells knows stops old new line answer → IsSaid line
       → ((request : Request) → ¬ IsRequest names (without_cr line) request) → ((answer ≡ unknown_line (rights old)) ⊎ (answer ≡ answers.OutOfMemory)) × (new ≡ old)
   no_request names old new line answer (IsTooLong long same) is none_asked = absurd (omega (arith, long, is.short))
   no_request names old new line _ (IsNoText short wrong answer told same) is none_asked = absurd (wrong is.text)
@@ -89,8 +89,8 @@ module _ {S : Type 0} (rights : S → Rights) (expects : List (List ℕ) → S �
   no_request names old new line answer (IsDenied said request asks denied same) is none_asked = absurd (none_asked request asks)
   no_request names old new line answer (IsAsked said request _ asks allowed met) is none_asked = absurd (none_asked request asks)
 
-  pub as_request : (names : List (List ℕ)) (old new : S) (line : List ℕ) (answer : Answer) (request : Request) → IsLineMet (rights old) names seen looks changes (expects names) tells explains stops old new line answer
-      → IsSaid line → IsRequest names (without_cr line) request → IsAllowed (rights old) request → IsMet names seen looks changes (expects names) tells explains stops old new request answer
+  pub as_request : (names : List (List ℕ)) (old new : S) (line : List ℕ) (answer : Answer) (request : Request) → IsLineMet (rights old) names seen looks changes (expects names) tells knows stops old new line answer
+      → IsSaid line → IsRequest names (without_cr line) request → IsAllowed (rights old) request → IsMet names seen looks changes (expects names) tells knows stops old new request answer
   as_request names old new line answer request (IsTooLong long same) is asked may = absurd (omega (arith, long, is.short))
   as_request names old new line _ request (IsNoText short wrong answer told same) is asked may = absurd (wrong is.text)
   as_request names old new line answer request (IsSkipped short none same) is asked may = absurd (is.some none)
@@ -99,9 +99,9 @@ module _ {S : Type 0} (rights : S → Rights) (expects : List (List ℕ) → S �
   as_request names old new line answer request (IsDenied said other asks denied same) is asked may =
       absurd (denied (subst (λ r. IsAllowed (rights old) r) (one_request names (without_cr line) request other asked asks) may))
   as_request names old new line answer request (IsAsked said other _ asks allowed met) is asked may =
-      subst (λ r. IsMet names seen looks changes (expects names) tells explains stops old new r answer) (one_request names (without_cr line) other request asks asked) met
+      subst (λ r. IsMet names seen looks changes (expects names) tells knows stops old new r answer) (one_request names (without_cr line) other request asks asked) met
 
-  pub denied_line : (names : List (List ℕ)) (old new : S) (line : List ℕ) (answer : Answer) (request : Request) → IsLineMet (rights old) names seen looks changes (expects names) tells explains stops old new line answer
+  pub denied_line : (names : List (List ℕ)) (old new : S) (line : List ℕ) (answer : Answer) (request : Request) → IsLineMet (rights old) names seen looks changes (expects names) tells knows stops old new line answer
       → IsSaid line → IsRequest names (without_cr line) request → ¬ IsAllowed (rights old) request → ((answer ≡ answers.NotAllowed) ⊎ (answer ≡ answers.OutOfMemory)) × (new ≡ old)
   denied_line names old new line answer request (IsTooLong long same) is asked may_not = absurd (omega (arith, long, is.short))
   denied_line names old new line _ request (IsNoText short wrong answer told same) is asked may_not = absurd (wrong is.text)

@@ -4,6 +4,7 @@ use Rattle.std.specs.Prelude.{◌==◌, codes}
 use Rattle.std.specs.List.{slice_split}
 use Rattle.script.specs.declared.expectation.Expectation.{Expectation}
 use Rattle.script.specs.declared.line.Line.{Line}
+use Rattle.script.specs.declared.question.Question.{Question}
 use Rattle.script.specs.Expectation.{IsExpectation, IsExpectationText}
 use Rattle.script.specs.Question.{IsQuestion, IsQuestionText}
 use Rattle.script.specs.Line.{IsLine}
@@ -50,17 +51,17 @@ word_or_expectation text request expectation (ForStats _ same) found = word_or_e
 word_or_expectation text request expectation (ForStop _ same) found = word_or_expectation_by text (codes "stop") expectation refl same found
 
 -- nor is it a question
-no_question : (word : List ℕ) (name : List ℕ) → IsQuestion (word ∷ []) name → ⊥
-no_question word name is = elim is [ ]
+no_question : (word : List ℕ) (question : Question) → IsQuestion (word ∷ []) question → ⊥
+no_question word question is = elim is [ ]
 
-word_or_question_by : (text word name : List ℕ) → slice_split (λ c. c == 32) word ≡ word ∷ [] → text ≡ word → IsQuestionText text name → ⊥
-word_or_question_by text word name split same found =
-    no_question word name (subst (λ (all : List (List ℕ)). IsQuestion all name) (found.are.parted ∙ (ap (slice_split (λ c. c == 32)) same ∙ split)) found.is)
+word_or_question_by : (text word : List ℕ) (question : Question) → slice_split (λ c. c == 32) word ≡ word ∷ [] → text ≡ word → IsQuestionText text question → ⊥
+word_or_question_by text word question split same found =
+    no_question word question (subst (λ (all : List (List ℕ)). IsQuestion all question) (found.are.parted ∙ (ap (slice_split (λ c. c == 32)) same ∙ split)) found.is)
 
-word_or_question : (text : List ℕ) (request : Request) (name : List ℕ) → IsWord text request → IsQuestionText text name → ⊥
-word_or_question text request name (ForList _ same) found = word_or_question_by text (codes "list") name refl same found
-word_or_question text request name (ForStats _ same) found = word_or_question_by text (codes "stats") name refl same found
-word_or_question text request name (ForStop _ same) found = word_or_question_by text (codes "stop") name refl same found
+word_or_question : (text : List ℕ) (request : Request) (question : Question) → IsWord text request → IsQuestionText text question → ⊥
+word_or_question text request question (ForList _ same) found = word_or_question_by text (codes "list") question refl same found
+word_or_question text request question (ForStats _ same) found = word_or_question_by text (codes "stats") question refl same found
+word_or_question text request question (ForStop _ same) found = word_or_question_by text (codes "stop") question refl same found
 
 -- the three words differ in their third byte
 list_stats : (text : List ℕ) → text ≡ codes "list" → text ≡ codes "stats" → ⊥
@@ -94,7 +95,7 @@ one_request names text first second (OfLine _ line is) (OfQuestion _ name also) 
 one_request names text first second (OfExpectation _ expectation is) (OfQuestion _ name also) = absurd (expectation_or_question text expectation name is also)
 one_request names text first second (OfQuestion _ name is) (OfLine _ line also) = absurd (line_or_question names text line name also.is is)
 one_request names text first second (OfQuestion _ name is) (OfExpectation _ expectation also) = absurd (expectation_or_question text expectation name also is)
-one_request names text first second (OfQuestion _ name is) (OfQuestion _ other also) = ap requests.Why (one_question_text text name other is also)
+one_request names text first second (OfQuestion _ name is) (OfQuestion _ other also) = ap requests.Ask (one_question_text text name other is also)
 one_request names text first second (OfQuestion _ name is) (OfWord _ request also) = absurd (word_or_question text request name also is)
 one_request names text first second (OfWord _ request is) (OfQuestion _ name also) = absurd (word_or_question text request name is also)
 one_request names text first second (OfWord _ request is) (OfExpectation _ expectation also) = absurd (word_or_expectation text request expectation is also)

@@ -5,6 +5,7 @@ use Rattle.std.proofs.lemmas.Slice.Eq.{bytes_eq-Decides}
 use Rattle.std.specs.Prelude.{◌↔◌, Bool, true, false, IsTrue, codes}
 use Rattle.script.specs.declared.expectation.Expectation.{Expectation}
 use Rattle.script.specs.declared.line.Line.{Line}
+use Rattle.script.specs.declared.question.Question.{Question}
 use Rattle.script.specs.Expectation.{IsExpectationText}
 use Rattle.script.specs.Line.{IsLineText}
 use Rattle.script.specs.Question.{IsQuestionText}
@@ -16,11 +17,11 @@ use Rattle.control.specs.Request.IsWord.{ForList, ForStats, ForStop}
 
 -- a text that is none of the words, no expectation, no question, and no line that is offered
 pub no_request : (names : List (List ℕ)) (text : List ℕ) → ((request : Request) → ¬ IsWord text request)
-    → ((expectation : Expectation) → ¬ IsExpectationText text expectation) → ((name : List ℕ) → ¬ IsQuestionText text name) → ((line : Line) → ¬ IsOfferedText names text line)
+    → ((expectation : Expectation) → ¬ IsExpectationText text expectation) → ((question : Question) → ¬ IsQuestionText text question) → ((line : Line) → ¬ IsOfferedText names text line)
     → (request : Request) → ¬ IsRequest names text request
 no_request names text word expectation question line request (OfLine _ found is) = line found is
 no_request names text word expectation question line request (OfExpectation _ found is) = expectation found is
-no_request names text word expectation question line request (OfQuestion _ name is) = question name is
+no_request names text word expectation question line request (OfQuestion _ found is) = question found is
 no_request names text word expectation question line request (OfWord _ _ is) = word request is
 
 -- a text that is none of the words

@@ -2,13 +2,11 @@
 use Rattle.std.specs.Prelude.{ℕ, ◌≡◌, ◌≢◌, ◌-◌, List, length, Option, Result, Ok, Err, IfSome, IfNone}
 use Rattle.desk_core.specs.declared.call.Call.{Call}
 use Rattle.desk_core.specs.declared.entry.Entry.{Entry}
-use Rattle.desk_core.specs.declared.reason.Reason.{Reason}
 use Rattle.desk_core.specs.declared.refusal.Refusal.{Refusal}
 use Rattle.desk_core.specs.declared.reply.Reply.{Reply}
 use Rattle.desk_core.specs.declared.reply.Reply.TheVariants.{Done}
 use Rattle.desk_core.specs.Catalogue.{slot_of}
 use Rattle.desk_core.specs.Changes.{Shows}
-use Rattle.desk_core.specs.Reason.{reason_at}
 use Rattle.script.specs.declared.expectation.Expectation.{Expectation}
 use Rattle.tail.specs.Tail.{forgotten}
 use Rattle.control.specs.declared.answer.Answer.{Answer}
@@ -17,6 +15,7 @@ use Rattle.control.specs.declared.request.Request.{Request}
 use Rattle.control.specs.declared.terms.Terms.{Terms}
 use Rattle.control.specs.declared.stats.Counts.{Counts}
 use Rattle.control.specs.declared.stats.Stats.{Stats}
+use Rattle.control.specs.Known.{Asked, Known, known_of}
 use Rattle.control.specs.Meeting.{IsMet, IsLineMet, expected_reply}
 
 -- a change with this result, after which this history was seen, changed what is shown of a service
@@ -67,9 +66,9 @@ pub record TellsBeside {C V : Type 0} (seen : C → List Entry) (kept : Option �
   pub counts : counted held.1 stats.counts
   pub left : stats.left ≡ (terms held.1).most - stats.entries
 
--- the reason for a slot's status is that of the history that the console has seen
-abbrev pub ExplainsBeside : {C V : Type 0} → (C → List Entry) → Option ℕ → C × V → ℕ → Reason → Type 0
-ExplainsBeside seen kept held slot reason = reason ≡ reason_at kept (seen held.0) slot
+-- what is known is known by the history that the console has seen, of which so many entries are kept
+abbrev pub KnowsBeside : {C V : Type 0} → (C → List Entry) → Option ℕ → C × V → Asked → Known → Type 0
+KnowsBeside seen kept held asked known = known ≡ known_of kept (seen held.0) asked
 
 -- the server is told to end, and the console stays
 pub record StopsBeside {C V : Type 0} (terms : V → Terms) (stopped : V → V → Type 0) (old new : C × V) : Type 0 where
@@ -81,10 +80,10 @@ pub record StopsBeside {C V : Type 0} (terms : V → Terms) (stopped : V → V �
 abbrev pub IsMetBeside : {C V : Type 0} → (C → List Entry) → Option ℕ → (C → C → Type 0) → (C → C → Option Call → Result Reply Refusal → Type 0)
     → (V → Terms) → (V → Counts → Type 0) → (V → V → Type 0) → (V → V → Expected → Type 0) → (V → V → Type 0) → List (List ℕ) → C × V → C × V → Request → Answer → Type 0
 IsMetBeside seen kept looks answers terms counted woken expected stopped names old new request answer =
-    IsMet names (seen_beside seen) (LooksBeside looks) (ChangesBeside seen answers terms woken) (ExpectsBeside names seen looks terms expected) (TellsBeside seen kept terms counted) (ExplainsBeside seen kept) (StopsBeside terms stopped) old new request answer
+    IsMet names (seen_beside seen) (LooksBeside looks) (ChangesBeside seen answers terms woken) (ExpectsBeside names seen looks terms expected) (TellsBeside seen kept terms counted) (KnowsBeside seen kept) (StopsBeside terms stopped) old new request answer
 
 -- how a line is met over both, in a session with the rights of the server's terms
 abbrev pub IsLineMetBeside : {C V : Type 0} → (C → List Entry) → Option ℕ → (C → C → Type 0) → (C → C → Option Call → Result Reply Refusal → Type 0)
     → (V → Terms) → (V → Counts → Type 0) → (V → V → Type 0) → (V → V → Expected → Type 0) → (V → V → Type 0) → List (List ℕ) → C × V → C × V → List ℕ → Answer → Type 0
 IsLineMetBeside seen kept looks answers terms counted woken expected stopped names old new line answer =
-    IsLineMet (terms old.1).rights names (seen_beside seen) (LooksBeside looks) (ChangesBeside seen answers terms woken) (ExpectsBeside names seen looks terms expected) (TellsBeside seen kept terms counted) (ExplainsBeside seen kept) (StopsBeside terms stopped) old new line answer
+    IsLineMet (terms old.1).rights names (seen_beside seen) (LooksBeside looks) (ChangesBeside seen answers terms woken) (ExpectsBeside names seen looks terms expected) (TellsBeside seen kept terms counted) (KnowsBeside seen kept) (StopsBeside terms stopped) old new line answer

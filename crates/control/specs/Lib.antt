@@ -2,6 +2,9 @@ pub mod Answer
 pub mod Line
 pub mod Listener
 pub mod Beside
+pub mod EntryText
+pub mod NameText
+pub mod Known
 pub mod Meeting
 pub mod Place
 pub mod Request

@@ -32,7 +32,7 @@ abbrev pub IsAllowed : Rights → Request → Type 0
 IsAllowed All request = Unit {0}
 IsAllowed Reports (requests.Line line) = IsReport line
 IsAllowed Reports (requests.Expect expectation) = ⊥
-IsAllowed Reports (requests.Why name) = Unit {0}
+IsAllowed Reports (requests.Ask question) = Unit {0}
 IsAllowed Reports requests.List = Unit {0}
 IsAllowed Reports requests.Stats = Unit {0}
 IsAllowed Reports requests.Stop = ⊥

@@ -1,5 +1,5 @@
 -- The texts of answers.
-use Rattle.std.specs.Prelude.{ℕ, ◌≡◌, ◌≢◌, Bool, true, false, ◌+◌, List, [], ◌∷◌, ◌++◌, codes, decimal, Option, None, Some, unwrap_or, if◌then◌else◌}
+use Rattle.std.specs.Prelude.{ℕ, ◌≡◌, ◌≢◌, Bool, true, false, ◌+◌, List, [], ◌∷◌, ◌++◌, codes, decimal, Option, None, Some, if◌then◌else◌}
 use Rattle.std.specs.List.{join_by}
 use Rattle.health_wire.specs.declared.serving.Serving.{Serving}
 use Rattle.health_wire.specs.declared.serving.Serving.TheVariants.{Unknown, NotServing, ServiceUnknown, Serving as IsServing}
@@ -7,14 +7,16 @@ use Rattle.desk_core.specs.declared.reason.Cause.{Cause}
 use Rattle.desk_core.specs.declared.reason.Reason.{Reason}
 use Rattle.desk_core.specs.declared.reason.Reason.TheVariants as reasons
 use Rattle.desk_core.specs.Board.{status_in}
-use Rattle.desk_core.specs.Catalogue.{name_at}
 use Rattle.script.specs.RunText.{changed_text, checked_text}
 use Rattle.control.specs.declared.answer.Answer.{Answer}
-use Rattle.control.specs.declared.answer.Answer.TheVariants.{Changed, Expected, Checked, Board, Listed, Told, Explained, NotFound, Stopping, BadLine, TooLong, NotAllowed, OutOfMemory, Skipped}
+use Rattle.control.specs.declared.answer.Answer.TheVariants.{Changed, Expected, Checked, Board, Listed, Told, Explained, Described, Recalled, NotFound, Stopping, BadLine, TooLong, NotAllowed, OutOfMemory, Skipped}
+use Rattle.control.specs.declared.description.Description.{Description}
 use Rattle.control.specs.declared.stats.Counts.{Counts}
 use Rattle.control.specs.declared.stats.Ended.{Ended}
 use Rattle.control.specs.declared.stats.OpenNow.{OpenNow}
 use Rattle.control.specs.declared.stats.Stats.{Stats}
+use Rattle.control.specs.EntryText.{entry_text}
+use Rattle.control.specs.NameText.{slot_word, word_of}
 
 -- a status, or that there is none
 abbrev pub status_word : Option Serving → List ℕ
@@ -23,11 +25,6 @@ status_word (Some NotServing) = codes "not_serving"
 status_word (Some Unknown) = codes "unknown"
 status_word (Some ServiceUnknown) = codes "absent"
 status_word None = codes "absent"
-
--- a name as lines have it: the empty one is `-`
-abbrev pub word_of : List ℕ → List ℕ
-word_of [] = codes "-"
-word_of (c ∷ name) = c ∷ name
 
 -- a name with its status
 abbrev pub listed : List ℕ → Option Serving → List ℕ
@@ -62,10 +59,6 @@ stats_text stats = codes "entries " ++ decimal stats.entries ++ codes " kept " +
 abbrev pub cause_text : Cause → List ℕ
 cause_text cause = if cause.is_kept then codes "entry " ++ decimal cause.place else codes "an older entry"
 
--- the word for the name of a slot
-abbrev pub slot_word : List (List ℕ) → ℕ → List ℕ
-slot_word names slot = word_of (unwrap_or (name_at names slot) [])
-
 -- so many failures in a row, and so many of the passes that were wanted since
 abbrev pub row_text : ℕ → Cause → ℕ → ℕ → List ℕ
 row_text fails cause passes rise =
@@ -82,6 +75,27 @@ reason_text names (reasons.Unheard cause) = codes "unknown: nothing heard since 
 reason_text names (reasons.Retired cause) = codes "absent: retired by " ++ cause_text cause
 reason_text names reasons.NeverRegistered = codes "absent: never registered"
 
+-- the place of an entry or a number of seconds, if there is one
+abbrev pub number_text : Option ℕ → List ℕ
+number_text None = codes "-"
+number_text (Some number) = decimal number
+
+-- when an entry was made, where that is known
+abbrev pub time_text : Option (List ℕ) → List ℕ
+time_text None = codes "-"
+time_text (Some time) = time
+
+-- since which entry a service has its status, and which is its newest report
+abbrev pub entries_text : Description → List ℕ
+entries_text description =
+    codes "since " ++ number_text description.standing.since ++ codes " " ++ time_text description.since
+    ++ codes " reported " ++ number_text description.standing.reported ++ codes " " ++ time_text description.reported
+
+-- how a service stands
+abbrev pub description_text : List (List ℕ) → Description → List ℕ
+description_text names description =
+    entries_text description ++ codes " expected " ++ number_text description.seconds ++ codes " " ++ reason_text names description.standing.reason
+
 -- the text of an answer that has one of a few
 abbrev pub short_text : Answer → Option (List ℕ)
 short_text (Changed result) = Some (changed_text result)
@@ -91,6 +105,8 @@ short_text (Board word) = None
 short_text (Listed word) = None
 short_text (Told stats) = None
 short_text (Explained reason) = None
+short_text (Described description) = None
+short_text (Recalled recollection) = None
 short_text NotFound = Some (codes "not found")
 short_text Stopping = Some (codes "stopping")
 short_text BadLine = Some (codes "bad line")
@@ -108,6 +124,8 @@ long_text names (Board word) = decimal word
 long_text names (Listed word) = list_text (status_in word) names
 long_text names (Told stats) = stats_text stats
 long_text names (Explained reason) = reason_text names reason
+long_text names (Described description) = description_text names description
+long_text names (Recalled recollection) = entry_text names recollection.place recollection.note recollection.recall
 long_text names NotFound = []
 long_text names Stopping = []
 long_text names BadLine = []
@@ -125,6 +143,8 @@ answer_text names (Board word) = decimal word ++ codes "\n"
 answer_text names (Listed word) = list_text (status_in word) names ++ codes "\n"
 answer_text names (Told stats) = stats_text stats ++ codes "\n"
 answer_text names (Explained reason) = reason_text names reason ++ codes "\n"
+answer_text names (Described description) = description_text names description ++ codes "\n"
+answer_text names (Recalled recollection) = entry_text names recollection.place recollection.note recollection.recall ++ codes "\n"
 answer_text names NotFound = codes "not found\n"
 answer_text names Stopping = codes "stopping\n"
 answer_text names BadLine = codes "bad line\n"
@@ -142,6 +162,8 @@ ends_session (Board word) = false
 ends_session (Listed word) = false
 ends_session (Told stats) = false
 ends_session (Explained reason) = false
+ends_session (Described description) = false
+ends_session (Recalled recollection) = false
 ends_session NotFound = false
 ends_session Stopping = true
 ends_session BadLine = false

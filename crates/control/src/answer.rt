@@ -1,3 +1,5 @@
+use crate::description::Description;
+use crate::recollection::Recollection;
 use crate::stats::Stats;
 use desk_core::{Reason, Refusal, Reply};
 use health_wire::Serving;
@@ -17,6 +19,10 @@ pub enum Answer {
     Told(Stats),
     /// Why a service has its status.
     Explained(Reason),
+    /// How a service stands.
+    Described(Description),
+    /// What is known of an entry.
+    Recalled(Recollection),
     /// The name that was asked about is not listed.
     NotFound,
     /// The server is to end.
@@ -56,6 +62,8 @@ impl Answer {
             | Answer::Listed(_)
             | Answer::Told(_)
             | Answer::Explained(_)
+            | Answer::Described(_)
+            | Answer::Recalled(_)
             | Answer::Skipped => None,
         }
     }

@@ -70,6 +70,9 @@
 
 mod answer;
 mod client;
+mod description;
+mod description_text;
+mod entry_text;
 mod expected;
 mod laws;
 mod line;
@@ -80,6 +83,7 @@ pub mod one_thread;
 mod place;
 mod reading;
 mod reasons;
+mod recollection;
 mod refusals;
 mod request;
 mod rights;
@@ -97,6 +101,8 @@ mod writing;
 
 pub use answer::Answer;
 pub use client::{ControlClient, connect, connect_within};
+pub use description::Description;
+pub use entry_text::call_text;
 pub use expected::Expected;
 pub use laws::{one_meeting, one_request};
 pub use line::{LINE_ROOM, MAX_LINE_LEN, is_one_line, is_silent};
@@ -104,6 +110,7 @@ pub use line_end::LineEnd;
 pub use listener::ControlListener;
 pub use place::Place;
 pub use reading::read_line;
+pub use recollection::Recollection;
 pub use refusals::{is_refused, is_turned_away};
 pub use request::Request;
 pub use rights::Rights;

@@ -1,6 +1,5 @@
 ghost use Rattle.std.specs.Prelude.{◌≡◌, ◌⊎◌, ℕ, None, Some, IsSome, IfSome, IfNone};
 ghost use Rattle.desk_core.specs.Catalogue.{slot_of};
-ghost use Rattle.desk_core.specs.Reason.{reason_at};
 ghost use Rattle.script.specs.Change.{line_change};
 ghost use Rattle.control.specs.Beside.{ChangesBeside, ExpectsBeside, IsLineMetBeside};
 ghost use Rattle.control.specs.Beside.{IsMetBeside, TellsBeside};
@@ -9,13 +8,16 @@ ghost use Rattle.control.specs.Request.{IsOfferedRequest};
 ghost use Rattle.control.specs.Rights.{IsAllowed};
 
 use crate::answer::Answer;
+use crate::description::Description;
 use crate::expected::Expected;
+use crate::recollection::Recollection;
 use crate::request::{Request, read_request};
 use crate::server::Server;
 use crate::stats::Stats;
-use desk_core::{Console, Effect, Extent, Name, Refusal, Reply, Ruled};
+use chronicle::TimeText;
+use desk_core::{Console, Effect, Extent, Name, Recall, Refusal, Reply, Ruled, Slot, Standing};
 use probe_core::{Maker, Probe, Rule};
-use script::{Expectation, Line, probe_for, without_cr};
+use script::{Expectation, Line, Question, probe_for, without_cr};
 use std::alloc::Global;
 
 /// Does what a request asks for.
@@ -34,7 +36,7 @@ pub(crate) fn meet<P: Probe, C: Console<P>, V: Server, M: Maker<P>>(
     match request {
         Request::Line(line) => meet_line(console, server, maker, line),
         Request::Expect(expectation) => Answer::Expected(expect(console, server, expectation)),
-        Request::Why(name) => why(console, name),
+        Request::Ask(question) => ask(console, server, question),
         Request::List => Answer::Listed(console.board()),
         Request::Stats => Answer::Told(stats(console, server)),
         Request::Stop => {
@@ -59,18 +61,69 @@ fn stats<P: Probe, C: Console<P>, V: Server>(console: &mut C, server: &V) -> Sta
     }
 }
 
-/// Looks for the reason of a service's status, if the name is listed.
-fn why<P: Probe, C: Console<P>>(console: &mut C, name: &Name) -> Answer
+/// Answers a question about the history.
+fn ask<P: Probe, C: Console<P>, V: Server>(
+    console: &mut C,
+    server: &V,
+    question: &Question,
+) -> Answer
     ensures names { C.names console.new ≡ C.names console.old }
-    ensures listed { (slot : ℕ) → slot_of (C.names console.old) name.now ≡ Some slot
-        → C.looks console.old console.new
-        × (result ≡ Answer.Explained (reason_at C.kept (C.seen console.new) slot)) }
-    ensures unlisted { slot_of (C.names console.old) name.now ≡ None
-        → (console.new ≡ console.old) × (result ≡ Answer.NotFound) }
+    ensures met { IsMetBeside C.seen C.kept C.looks C.answers V.terms V.counted V.woken
+        V.expected V.stopped (C.names console.old) (console.old, server.now)
+        (console.new, server.now) (Request.Ask question.now) result }
 {
-    match console.catalogue().slot(name.as_str()) {
-        Some(slot) => Answer::Explained(console.why(slot)),
-        None => Answer::NotFound,
+    match question {
+        Question::Why(name) => match slot_named(console, name) {
+            Some(slot) => Answer::Explained(console.standing(slot).reason),
+            None => Answer::NotFound,
+        },
+        Question::Status(name) => match slot_named(console, name) {
+            Some(slot) => {
+                let standing = console.standing(slot);
+                Answer::Described(describe(server, slot, standing))
+            }
+            None => Answer::NotFound,
+        },
+        Question::Entry(place) => {
+            let recall = console.recall(*place);
+            Answer::Recalled(recollect(server, *place, recall))
+        }
+    }
+}
+
+/// The slot of a name, if it is listed.
+fn slot_named<P: Probe, C: Console<P>>(console: &C, name: &Name) -> Option<Slot>
+    ensures { result ≡ slot_of (C.names console.now) name.now }
+{
+    console.catalogue().slot(name.as_str())
+}
+
+/// How a service stands, with what the server knows of it.
+fn describe<V: Server>(server: &V, slot: Slot, standing: Standing) -> Description
+    ensures { result.standing ≡ standing }
+{
+    Description {
+        standing,
+        since: time_of(server, standing.since),
+        reported: time_of(server, standing.reported),
+        seconds: server.seconds(slot),
+    }
+}
+
+/// When an entry was made, where the server knows.
+fn time_of<V: Server>(server: &V, place: Option<u32>) -> Option<TimeText> {
+    Some(server.noted(place?)?.time)
+}
+
+/// What is known of the entry at a place, with what the server knows of it.
+fn recollect<V: Server>(server: &V, place: u32, recall: Recall) -> Recollection
+    ensures place { result.place ≡ place }
+    ensures recall { result.recall ≡ recall }
+{
+    Recollection {
+        place,
+        note: server.noted(place),
+        recall,
     }
 }
 
@@ -115,11 +168,22 @@ fn change<P: Probe, C: Console<P>, V: Server, M: Maker<P>>(
     let Ok(probe) = probe_for(maker, line) else {
         return None;
     };
-    let Effect { result, shows } = console.change(call, probe);
+    let Effect { result, shows, at } = console.change(call, probe);
+    take_down(server, result, at);
     if shows {
         server.wake();
     }
     Some(result)
+}
+
+/// Tells the server what came of a change: the place of its entry, or why it was refused.
+fn take_down<V: Server>(server: &V, outcome: Result<Reply, Refusal>, at: Option<u32>) {
+    if let Some(place) = at {
+        server.note(place);
+    }
+    if let Err(refusal) = outcome {
+        server.refused(refusal);
+    }
 }
 
 /// Looks for the rule of a service, and tells the server what is expected of it where the rule

@@ -2,9 +2,10 @@
 //! little: the tests look at what they answer.
 
 use crate::{Counts, Ended, Expected, OpenNow, Rights, Server, Terms};
+use chronicle::{Note, Who, time_text};
 use desk_core::{
-    Call, Catalogue, Console, Desk, Effect, Extent, Reason, Refusal, Registrar, Ruled, Slot,
-    board_entries,
+    Call, Catalogue, Console, Desk, Effect, Extent, Recall, Refusal, Registrar, Ruled, Slot,
+    Standing, board_entries,
 };
 use health_wire::Serving;
 use probe_core::{Maker, Manual, Probe, Rule};
@@ -45,7 +46,7 @@ impl<P: Probe> OneThread<P> {
 }
 
 impl<P: Probe> Registrar<P> for OneThread<P> {
-    ghost use Rattle.std.specs.Prelude.{◌≡◌, ◌↔◌, ℕ, List, Option, Result, IfSome, IfOk, IsErr, IsTrue, IsFalse};
+    ghost use Rattle.std.specs.Prelude.{◌≡◌, ◌-◌, ◌↔◌, ℕ, List, Option, Result, Some, IfSome, IfOk, IsErr, IsTrue, IsFalse, length};
     ghost use Rattle.std.specs.Option.{option_map};
     ghost use Rattle.desk_core.specs.Changes.{Shows};
     ghost use Rattle.desk_core.specs.Past.{past};
@@ -67,6 +68,8 @@ impl<P: Probe> Registrar<P> for OneThread<P> {
         ensures shows { IfOk result.result (λ reply.
             IsTrue result.shows ↔ Shows (past self.new.desk.journal)) }
         ensures refused { IsErr result.result → IsFalse result.shows }
+        ensures placed { IfOk result.result (λ reply.
+            result.at ≡ Some (length (past self.new.desk.journal) - 1)) }
     {
         let Some(call) = call else {
             return Effect::of_refusal(Refusal::NotListed);
@@ -100,8 +103,12 @@ impl<P: Probe> Console<P> for OneThread<P> {
         }
     }
 
-    fn why(&mut self, slot: Slot) -> Reason {
-        self.desk.why(slot)
+    fn standing(&mut self, slot: Slot) -> Standing {
+        self.desk.standing(slot)
+    }
+
+    fn recall(&mut self, place: u32) -> Recall {
+        self.desk.recall(place)
     }
 
     fn extent(&mut self) -> Extent {
@@ -112,7 +119,7 @@ impl<P: Probe> Console<P> for OneThread<P> {
     }
 }
 
-/// A server that counts what it is told.
+/// A server that counts what it is told. It knows of three entries who made them, at the start of 1970, and expects one service.
 #[derive(Clone, Copy, Debug, PartialEq, Eq)]
 pub struct Told {
     /// What its sessions may ask for.
@@ -185,6 +192,27 @@ impl Server for Told {
 
     fn expect(&mut self, what: Expected) {
         self.expected = Some((what.slot.number(), what.seconds, what.behind));
+    }
+
+    fn note(&self, _place: u32) {}
+
+    fn noted(&self, place: u32) -> Option<Note> {
+        let who = match place {
+            0 => Who::Setup,
+            1 => Who::Session(7),
+            2 => Who::Expiry,
+            _ => return None,
+        };
+        Some(Note {
+            time: time_text(u64::from(place)),
+            who,
+        })
+    }
+
+    fn refused(&self, _refusal: Refusal) {}
+
+    fn seconds(&self, slot: Slot) -> Option<u32> {
+        if slot.number() == 0 { Some(30) } else { None }
     }
 
     fn stop(&mut self) {

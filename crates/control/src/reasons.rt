@@ -3,7 +3,7 @@
 ghost use Rattle.std.specs.Prelude.{◌≡◌, IfOk, string_bytes};
 ghost use Rattle.control.specs.Text.{reason_text};
 
-use crate::words::word_of;
+use crate::words::slot_word;
 use desk_core::{Catalogue, Cause, Reason};
 use std::alloc::{AllocError, Global};
 use std::fmt;
@@ -74,7 +74,7 @@ pub(crate) fn reason_text(
             format!(in alloc; "not_serving: shut down by {named}")
         }
         Reason::DependsOn(slot) => {
-            let word = word_of(catalogue.name(slot).unwrap_or(""));
+            let word = slot_word(catalogue, slot);
             format!(in alloc; "not_serving: depends on {word}")
         }
         Reason::Failed {

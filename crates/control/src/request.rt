@@ -2,8 +2,8 @@ ghost use Rattle.std.specs.Prelude.{IfOk, ◌↔◌, IsTrue};
 ghost use Rattle.script.specs.Reading.{IsReading};
 ghost use Rattle.control.specs.Request.{IsOffered, IsOfferedText, IsRequest, IsWord};
 
-use desk_core::{Catalogue, Name};
-use script::{Expectation, Line, read_expectation, read_line, read_question};
+use desk_core::Catalogue;
+use script::{Expectation, Line, Question, read_expectation, read_line, read_question};
 use std::alloc::{AllocError, Global};
 
 /// What a line of a session asks for.
@@ -13,8 +13,8 @@ pub enum Request {
     Line(Line),
     /// How often a service has to be reported.
     Expect(Expectation),
-    /// Why a service has its status.
-    Why(Name),
+    /// What somebody wants to know of the history.
+    Ask(Question),
     /// The status of each name.
     List,
     /// How many entries, connections and calls there are and were.
@@ -38,8 +38,8 @@ pub(crate) fn read_request(
     if let Some(expectation) = read_expectation(alloc, text)? {
         return Ok(Some(Request::Expect(expectation)));
     }
-    if let Some(name) = read_question(alloc, text)? {
-        return Ok(Some(Request::Why(name)));
+    if let Some(question) = read_question(alloc, text)? {
+        return Ok(Some(Request::Ask(question)));
     }
     match read_offered(alloc, catalogue, text)? {
         Some(line) => Ok(Some(Request::Line(line))),

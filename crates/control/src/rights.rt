@@ -24,7 +24,7 @@ impl Rights {
             Rights::All => true,
             Rights::Reports => match request {
                 Request::Line(line) => is_report(line),
-                Request::Why(_) | Request::List | Request::Stats => true,
+                Request::Ask(_) | Request::List | Request::Stats => true,
                 Request::Expect(_) => false,
                 Request::Stop => false,
             },

@@ -1,6 +1,8 @@
 use crate::expected::Expected;
 use crate::stats::Counts;
 use crate::terms::Terms;
+use chronicle::Note;
+use desk_core::{Refusal, Slot};
 
 /// The server that runs over a registry, as a session sees it.
 ///
@@ -40,6 +42,18 @@ pub trait Server {
     fn expect(&mut self, what: Expected)
         ensures expected { expected self.old self.new what }
         ensures terms { terms self.new ≡ terms self.old };
+
+    /// Tells it that the session that it serves now made the entry at this place. Nothing depends on it but what is told of the entry.
+    fn note(&self, place: u32);
+
+    /// What it was told of the entry at this place, where it still knows.
+    fn noted(&self, place: u32) -> Option<Note>;
+
+    /// Tells it that a change was refused to the session that it serves now.
+    fn refused(&self, refusal: Refusal);
+
+    /// How often a service is to be reported, in seconds, if it is expected to be.
+    fn seconds(&self, slot: Slot) -> Option<u32>;
 
     /// Tells it to end.
     fn stop(&mut self)

@@ -26,6 +26,8 @@ pub struct Session {
     waiting: Vec<u8>,
     is_over: bool,
     has_ended: bool,
+    /// By which a server tells it from others.
+    number: u32,
 }
 
 impl Model for Session {
@@ -55,7 +57,20 @@ impl Session {
             waiting: Vec::with_capacity(alloc, LEAST_ROOM)?,
             is_over: false,
             has_ended: false,
+            number: 0,
         })
+    }
+
+    /// The same with a number by which a server tells it from others; that of a new one is 0.
+    pub fn with_number(mut self, number: u32) -> Session
+        ensures { result ≡ self }
+    {
+        self.number = number;
+        self
+    }
+
+    pub fn number(&self) -> u32 {
+        self.number
     }
 
     /// How many bytes it takes now.

@@ -1,6 +1,7 @@
 ghost use Rattle.std.specs.Prelude.{◌≡◌, string_bytes, map, IfOk};
 ghost use Rattle.desk_core.specs.Board.{status_in};
-ghost use Rattle.control.specs.Text.{list_text, listed, listed_from, status_word, word_of};
+ghost use Rattle.control.specs.NameText.{slot_word, word_of};
+ghost use Rattle.control.specs.Text.{list_text, listed, listed_from, status_word};
 
 use desk_core::{Catalogue, Slot, board_status};
 use health_wire::Serving;
@@ -23,6 +24,13 @@ pub(crate) fn word_of(name: &str) -> &str
     ensures { result.now ≡ word_of name.now }
 {
     if name.is_empty() { "-" } else { name }
+}
+
+/// The word for the name of a slot.
+pub(crate) fn slot_word(catalogue: &Catalogue, slot: Slot) -> &str
+    ensures { result.now ≡ slot_word catalogue.now slot }
+{
+    word_of(catalogue.name(slot).unwrap_or(""))
 }
 
 fn listed(alloc: Global, name: &str, status: Option<Serving>) -> Result<String, AllocError>

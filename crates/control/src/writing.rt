@@ -4,6 +4,8 @@ ghost use Rattle.std.specs.Prelude.{◌≡◌, ◌≢◌, None, ◌+◌, ◌≤�
 ghost use Rattle.control.specs.Text.{answer_text, long_text, short_text};
 
 use crate::answer::Answer;
+use crate::description_text::description_text;
+use crate::entry_text::entry_text;
 use crate::reasons::reason_text;
 use crate::words::list_text;
 use desk_core::Catalogue;
@@ -43,6 +45,8 @@ fn long_text(alloc: Global, catalogue: &Catalogue, answer: &Answer) -> Result<St
         Answer::Listed(board) => list_text(alloc, catalogue, *board),
         Answer::Told(stats) => format!(in alloc; "{stats}"),
         Answer::Explained(reason) => reason_text(alloc, catalogue, *reason),
+        Answer::Described(description) => description_text(alloc, catalogue, description),
+        Answer::Recalled(recollection) => entry_text(alloc, catalogue, recollection),
         _ => Ok(String::new(alloc)),
     }
 }

@@ -17,15 +17,15 @@ use Rattle.control.specs.Beside.{IsLineMetBeside, IsMetBeside, LooksBeside}
 use Rattle.control.specs.Request.{IsRequest}
 use Rattle.control.specs.Rights.{IsAllowed}
 use Rattle.control.specs.Meeting.{IsSaid}
-use Rattle.control.specs.Meeting.IsMet.{Changes, Expects, Checks, Packs, Lists, Tells, Explains, ExplainsNone, Stops, Starves, StarvesTold}
+use Rattle.control.specs.Meeting.IsMet.{Changes, Expects, Checks, Packs, Lists, Tells, Answers, AnswersNone, Stops, Starves, StarvesTold}
 use Rattle.control.specs.Meeting.IsLineMet.{IsTooLong, IsSkipped, IsNoText, IsNoRequest, IsUnread, IsDenied, IsAsked}
 use Rattle.control.specs.Talk.{AreMet, nobody}
 use Rattle.control.specs.Talk.AreMet.{Ends, Then, Moves}
 use Rattle.control_server.specs.SeatLines.{HasMet, IsMetBySeat}
 
 -- one line that is met
-met_one : (terms : Terms) (names : List (List ℕ)) (old new : SeatState) (line : List ℕ) (answer : Answer) → IsMetBySeat terms names old new line answer → HasMet terms names old new (line ∷ []) (answer ∷ [])
-met_one terms names old new line answer met = Then old new new line answer [] [] met (Ends new)
+met_one : (kept : Option ℕ) (terms : Terms) (names : List (List ℕ)) (old new : SeatState) (line : List ℕ) (answer : Answer) → IsMetBySeat kept terms names old new line answer → HasMet kept terms names old new (line ∷ []) (answer ∷ [])
+met_one kept terms names old new line answer met = Then old new new line answer [] [] met (Ends new)
 
 module _ {R P K V : Type 0} where
   abbrev pub seat_of : HallDoor R P K × V → SeatState
@@ -74,69 +74,71 @@ seen_by door = (door_seat door).seen
 module _ {R P K V : Type 0} (kept : Option ℕ) (terms : V → Terms) (counted : V → Counts → Type 0) (woken : V → V → Type 0) (expected : V → V → Expected → Type 0) (stopped : V → V → Type 0) where
   -- a line whose request is met over the door is met by its seat
   request_met : (names : List (List ℕ)) (old new : HallDoor R P K × V) (line : List ℕ) (request : Request) (answer : Answer) → IsSaid line → IsRequest names (without_cr line) request → IsAllowed (terms old.1).rights request
-      → IsMetBeside seen_by kept StaysAt CarriesOut terms counted woken expected stopped names old new request answer → IsSame terms old new × HasMet (terms old.1) names (seat_of old) (seat_of new) (line ∷ []) (answer ∷ [])
+      → IsMetBeside seen_by kept StaysAt CarriesOut terms counted woken expected stopped names old new request answer → IsSame terms old new × HasMet kept (terms old.1) names (seat_of old) (seat_of new) (line ∷ []) (answer ∷ [])
   request_met names old new line _ _ said is may (Changes asked call result change changes) = (
     record { reference = changes.answered.reference; hall = changes.answered.hall; by_terms = changes.terms_stay },
-    met_one (terms old.1) names (seat_of old) (seat_of new) line _ (IsAsked said _ _ is may (Changes asked call result change changes.answered.carried)),
+    met_one kept (terms old.1) names (seat_of old) (seat_of new) line _ (IsAsked said _ _ is may (Changes asked call result change changes.answered.carried)),
   )
   request_met names old new line _ _ said is may (Expects expectation result expects) =
       let stays = stays_by (slot_of names expectation.name) old.0 new.0 expects.looked expects.unlisted in (
         record { reference = stays.reference; hall = stays.hall; by_terms = expects.terms_stay },
-        met_one (terms old.1) names (seat_of old) (seat_of new) line _
+        met_one kept (terms old.1) names (seat_of old) (seat_of new) line _
             (IsAsked said _ _ is may (Expects expectation result (record { looked = stays.looked; answered = expects.answered }))),
       )
   request_met names old new line _ _ said is may (Checks name looks) =
-      (same_looks terms old new looks, met_one (terms old.1) names (seat_of old) (seat_of new) line _ (IsAsked said _ _ is may (Checks name looks.looked.looked)))
+      (same_looks terms old new looks, met_one kept (terms old.1) names (seat_of old) (seat_of new) line _ (IsAsked said _ _ is may (Checks name looks.looked.looked)))
   request_met names old new line _ _ said is may (Packs looks) =
-      (same_looks terms old new looks, met_one (terms old.1) names (seat_of old) (seat_of new) line _ (IsAsked said _ _ is may (Packs looks.looked.looked)))
+      (same_looks terms old new looks, met_one kept (terms old.1) names (seat_of old) (seat_of new) line _ (IsAsked said _ _ is may (Packs looks.looked.looked)))
   request_met names old new line _ _ said is may (Lists looks) =
-      (same_looks terms old new looks, met_one (terms old.1) names (seat_of old) (seat_of new) line _ (IsAsked said _ _ is may (Lists looks.looked.looked)))
+      (same_looks terms old new looks, met_one kept (terms old.1) names (seat_of old) (seat_of new) line _ (IsAsked said _ _ is may (Lists looks.looked.looked)))
   request_met names old new line _ _ said is may (Tells stats looks counts) = (
     same_looks terms old new looks,
-    met_one (terms old.1) names (seat_of old) (seat_of new) line _ (IsAsked said _ _ is may (Tells stats looks.looked.looked (
-      counts.entries,
-      counts.left
-          ∙ (ap (λ (v : V). (terms v).most - stats.entries) looks.server ∙ ap (λ (n : ℕ). (terms old.1).most - n) counts.entries),
-    ))),
+    met_one kept (terms old.1) names (seat_of old) (seat_of new) line _ (IsAsked said _ _ is may (Tells stats looks.looked.looked (record {
+      entries = counts.entries;
+      in_memory = counts.in_memory;
+      left = counts.left
+          ∙ (ap (λ (v : V). (terms v).most - stats.entries) looks.server ∙ ap (λ (n : ℕ). (terms old.1).most - n) counts.entries);
+    }))),
   )
-  request_met names old new line _ _ said is may (Explains name slot reason at looks told) = (
+  request_met names old new line _ _ said is may (Answers question answer looks told) = (
     same_looks terms old new looks,
-    met_one (terms old.1) names (seat_of old) (seat_of new) line _ (IsAsked said _ _ is may (Explains name slot reason at looks.looked.looked (kept, told))),
+    met_one kept (terms old.1) names (seat_of old) (seat_of new) line _
+        (IsAsked said _ _ is may (Answers question answer looks.looked.looked told)),
   )
-  request_met names old new line _ _ said is may (ExplainsNone name at same) =
-      (same_whole terms old new same, met_one (terms old.1) names (seat_of old) (seat_of new) line _ (IsAsked said _ _ is may (ExplainsNone name at (same_seat old new (first_of old new same)))))
+  request_met names old new line _ _ said is may (AnswersNone question none same) =
+      (same_whole terms old new same, met_one kept (terms old.1) names (seat_of old) (seat_of new) line _ (IsAsked said _ _ is may (AnswersNone question none (same_seat old new (first_of old new same)))))
   request_met names old new line _ _ said is may (Stops stops) =
-      (same_still terms old new stops.console stops.terms_stay, met_one (terms old.1) names (seat_of old) (seat_of new) line _ (IsAsked said _ _ is may (Stops (same_seat old new stops.console))))
+      (same_still terms old new stops.console stops.terms_stay, met_one kept (terms old.1) names (seat_of old) (seat_of new) line _ (IsAsked said _ _ is may (Stops (same_seat old new stops.console))))
   request_met names old new line _ _ said is may (Starves request same) =
-      (same_whole terms old new same, met_one (terms old.1) names (seat_of old) (seat_of new) line _ (IsAsked said _ _ is may (Starves request (same_seat old new (first_of old new same)))))
+      (same_whole terms old new same, met_one kept (terms old.1) names (seat_of old) (seat_of new) line _ (IsAsked said _ _ is may (Starves request (same_seat old new (first_of old new same)))))
   request_met names old new line _ _ said is may (StarvesTold request looks) =
-      (same_looks terms old new looks, met_one (terms old.1) names (seat_of old) (seat_of new) line _ (IsAsked said _ _ is may (StarvesTold request looks.looked.looked)))
+      (same_looks terms old new looks, met_one kept (terms old.1) names (seat_of old) (seat_of new) line _ (IsAsked said _ _ is may (StarvesTold request looks.looked.looked)))
 
   -- so is any line
   line_met : (names : List (List ℕ)) (old new : HallDoor R P K × V) (line : List ℕ) (answer : Answer) → IsLineMetBeside seen_by kept StaysAt CarriesOut terms counted woken expected stopped names old new line answer
-      → IsSame terms old new × HasMet (terms old.1) names (seat_of old) (seat_of new) (line ∷ []) (answer ∷ [])
+      → IsSame terms old new × HasMet kept (terms old.1) names (seat_of old) (seat_of new) (line ∷ []) (answer ∷ [])
   line_met names old new line _ (IsTooLong long same) =
-      (same_whole terms old new same, met_one (terms old.1) names (seat_of old) (seat_of new) line _ (IsTooLong long (same_seat old new (first_of old new same))))
+      (same_whole terms old new same, met_one kept (terms old.1) names (seat_of old) (seat_of new) line _ (IsTooLong long (same_seat old new (first_of old new same))))
   line_met names old new line _ (IsSkipped short empty same) =
-      (same_whole terms old new same, met_one (terms old.1) names (seat_of old) (seat_of new) line _ (IsSkipped short empty (same_seat old new (first_of old new same))))
+      (same_whole terms old new same, met_one kept (terms old.1) names (seat_of old) (seat_of new) line _ (IsSkipped short empty (same_seat old new (first_of old new same))))
   line_met names old new line _ (IsNoText short not_text answer told same) =
-      (same_whole terms old new same, met_one (terms old.1) names (seat_of old) (seat_of new) line _ (IsNoText short not_text answer told (same_seat old new (first_of old new same))))
+      (same_whole terms old new same, met_one kept (terms old.1) names (seat_of old) (seat_of new) line _ (IsNoText short not_text answer told (same_seat old new (first_of old new same))))
   line_met names old new line _ (IsNoRequest said not_request answer told same) =
-      (same_whole terms old new same, met_one (terms old.1) names (seat_of old) (seat_of new) line _ (IsNoRequest said not_request answer told (same_seat old new (first_of old new same))))
+      (same_whole terms old new same, met_one kept (terms old.1) names (seat_of old) (seat_of new) line _ (IsNoRequest said not_request answer told (same_seat old new (first_of old new same))))
   line_met names old new line _ (IsUnread said same) =
-      (same_whole terms old new same, met_one (terms old.1) names (seat_of old) (seat_of new) line _ (IsUnread said (same_seat old new (first_of old new same))))
+      (same_whole terms old new same, met_one kept (terms old.1) names (seat_of old) (seat_of new) line _ (IsUnread said (same_seat old new (first_of old new same))))
   line_met names old new line _ (IsDenied said request is may_not same) =
-      (same_whole terms old new same, met_one (terms old.1) names (seat_of old) (seat_of new) line _ (IsDenied said request is may_not (same_seat old new (first_of old new same))))
+      (same_whole terms old new same, met_one kept (terms old.1) names (seat_of old) (seat_of new) line _ (IsDenied said request is may_not (same_seat old new (first_of old new same))))
   line_met names old new line _ (IsAsked said request answer is may met) = request_met names old new line request answer said is may met
 
   -- and so are lines, one after the other
   pub lines_met : (names : List (List ℕ)) (old new : HallDoor R P K × V) (lines : List (List ℕ)) (answers : List Answer)
-      → AreMet nobody (IsLineMetBeside seen_by kept StaysAt CarriesOut terms counted woken expected stopped names) old new lines answers → IsSame terms old new × HasMet (terms old.1) names (seat_of old) (seat_of new) lines answers
+      → AreMet nobody (IsLineMetBeside seen_by kept StaysAt CarriesOut terms counted woken expected stopped names) old new lines answers → IsSame terms old new × HasMet kept (terms old.1) names (seat_of old) (seat_of new) lines answers
   lines_met names _ _ _ _ (Ends held) = (same_self terms held, Ends (seat_of held))
   lines_met names _ _ _ _ (Then old between new line answer lines answers met are) =
       let first = line_met names old between line answer met in
       let later = lines_met names between new lines answers are in (
         same_on terms old between new first.0 later.0,
-        met_then first.1 (subst (λ (held : Terms). HasMet held names (seat_of between) (seat_of new) lines answers) first.0.by_terms later.1),
+        met_then first.1 (subst (λ (held : Terms). HasMet kept held names (seat_of between) (seat_of new) lines answers) first.0.by_terms later.1),
       )
   lines_met names _ _ _ _ (Moves old between new lines answers moves are) = absurd moves

@@ -31,11 +31,12 @@ use Rattle.control.specs.Rights.{IsAllowed, IsReport, unknown_line}
 use Rattle.control.specs.declared.request.Request.{Request}
 use Rattle.control.specs.declared.terms.Terms.{Terms}
 use Rattle.control.specs.Meeting.{IsMet}
-use Rattle.control.specs.Meeting.IsMet.{Changes, Expects, Checks, Packs, Lists, Tells, Explains, ExplainsNone, Stops, Starves, StarvesTold}
+use Rattle.control.specs.Known.IsToldOf.{TellsWhy, TellsStatus, TellsEntry}
+use Rattle.control.specs.Meeting.IsMet.{Changes, Expects, Checks, Packs, Lists, Tells, Answers, AnswersNone, Stops, Starves, StarvesTold}
 use Rattle.control.specs.Meeting.IsLineMet.{IsTooLong, IsSkipped, IsNoText, IsNoRequest, IsUnread, IsDenied, IsAsked}
 use Rattle.control.specs.Request.{IsRequest}
 use Rattle.control.specs.Talk.AreMet.{Ends, Then, Moves}
-use Rattle.control_server.specs.SeatLines.{AreAskedBy, AreFindings, CountsSeen, ExplainsSeen, HasMade, HasMet, IsExpectedBySeat, IsFindingAsked, IsMetBySeat, results_of}
+use Rattle.control_server.specs.SeatLines.{AreAskedBy, AreFindings, CountsSeen, KnowsSeen, HasMade, HasMet, IsExpectedBySeat, IsFindingAsked, IsMetBySeat, results_of}
 use Rattle.control_server.specs.SeatLines.AreAskedBy.{NoLines, Change, NoChange}
 
 -- the first change's entry stands before those of the others
@@ -128,24 +129,26 @@ seen_in seat = seat.seen
 abbrev stays_so : SeatState → SeatState → Type 0
 stays_so before after = after ≡ before
 
-request_first : (terms : Terms) (names : List (List ℕ)) (a b c : SeatState) (line : List ℕ) (request : Request) (answer : Answer) (lines : List (List ℕ)) (answers : List Answer)
-    → IsRequest names (without_cr line) request → IsAllowed terms.rights request → IsMet names seen_in HasLooked IsCarriedOut (IsExpectedBySeat names) (CountsSeen terms) ExplainsSeen stays_so a b request answer → Makes terms names b c lines answers → Makes terms names a c (line ∷ lines) (answer ∷ answers)
-request_first terms names a b c line _ _ lines answers is may (Changes asked call result change carried) makes = record {
+request_first : (kept : Option ℕ) (terms : Terms) (names : List (List ℕ)) (a b c : SeatState) (line : List ℕ) (request : Request) (answer : Answer) (lines : List (List ℕ)) (answers : List Answer)
+    → IsRequest names (without_cr line) request → IsAllowed terms.rights request → IsMet names seen_in HasLooked IsCarriedOut (IsExpectedBySeat names) (CountsSeen kept terms) (KnowsSeen kept) stays_so a b request answer → Makes terms names b c lines answers → Makes terms names a c (line ∷ lines) (answer ∷ answers)
+request_first kept terms names a b c line _ _ lines answers is may (Changes asked call result change carried) makes = record {
   calls = call ∷ makes.calls;
   asked = Change line call result lines answers makes.calls (record { request = asked; is = is; change = change }) makes.asked;
   made = changes_first a b c call result makes.calls (results_of answers) carried makes.made;
   findings = λ reports. (found terms.rights names asked call reports may change, makes.findings reports);
 }
-request_first terms names a b c line _ answer lines answers is may (Expects expectation result expects) makes = quiet_first terms names a b c line _ lines answers refl refl expects.looked makes
-request_first terms names a b c line _ answer lines answers is may (Checks name looked) makes = quiet_first terms names a b c line _ lines answers refl refl looked makes
-request_first terms names a b c line _ answer lines answers is may (Packs looked) makes = quiet_first terms names a b c line _ lines answers refl refl looked makes
-request_first terms names a b c line _ answer lines answers is may (Lists looked) makes = quiet_first terms names a b c line _ lines answers refl refl looked makes
-request_first terms names a b c line _ answer lines answers is may (Tells stats looked entries) makes = quiet_first terms names a b c line _ lines answers refl refl looked makes
-request_first terms names a b c line _ answer lines answers is may (Explains name slot reason at looked told) makes = quiet_first terms names a b c line _ lines answers refl refl looked makes
-request_first terms names a b c line _ answer lines answers is may (ExplainsNone name at same) makes = quiet_first terms names a b c line _ lines answers refl refl (stays a b same) makes
-request_first terms names a b c line _ answer lines answers is may (Stops same) makes = quiet_first terms names a b c line _ lines answers refl refl (stays a b same) makes
-request_first terms names a b c line _ answer lines answers is may (Starves request same) makes = quiet_first terms names a b c line _ lines answers refl refl (stays a b same) makes
-request_first terms names a b c line _ answer lines answers is may (StarvesTold request looked) makes = quiet_first terms names a b c line _ lines answers refl refl looked makes
+request_first kept terms names a b c line _ answer lines answers is may (Expects expectation result expects) makes = quiet_first terms names a b c line _ lines answers refl refl expects.looked makes
+request_first kept terms names a b c line _ answer lines answers is may (Checks name looked) makes = quiet_first terms names a b c line _ lines answers refl refl looked makes
+request_first kept terms names a b c line _ answer lines answers is may (Packs looked) makes = quiet_first terms names a b c line _ lines answers refl refl looked makes
+request_first kept terms names a b c line _ answer lines answers is may (Lists looked) makes = quiet_first terms names a b c line _ lines answers refl refl looked makes
+request_first kept terms names a b c line _ answer lines answers is may (Tells stats looked entries) makes = quiet_first terms names a b c line _ lines answers refl refl looked makes
+request_first kept terms names a b c line _ _ lines answers is may (Answers question _ looked (TellsWhy name slot standing at known)) makes = quiet_first terms names a b c line _ lines answers refl refl looked makes
+request_first kept terms names a b c line _ _ lines answers is may (Answers question _ looked (TellsStatus name slot description at known)) makes = quiet_first terms names a b c line _ lines answers refl refl looked makes
+request_first kept terms names a b c line _ _ lines answers is may (Answers question _ looked (TellsEntry recollection known)) makes = quiet_first terms names a b c line _ lines answers refl refl looked makes
+request_first kept terms names a b c line _ answer lines answers is may (AnswersNone question none same) makes = quiet_first terms names a b c line _ lines answers refl refl (stays a b same) makes
+request_first kept terms names a b c line _ answer lines answers is may (Stops same) makes = quiet_first terms names a b c line _ lines answers refl refl (stays a b same) makes
+request_first kept terms names a b c line _ answer lines answers is may (Starves request same) makes = quiet_first terms names a b c line _ lines answers refl refl (stays a b same) makes
+request_first kept terms names a b c line _ answer lines answers is may (StarvesTold request looked) makes = quiet_first terms names a b c line _ lines answers refl refl looked makes
 
 -- a line that is no request is answered by no change
 unknown_result : (rights : Rights) (answer : Answer) (answers : List Answer) → answer ≡ unknown_line rights → (results_of (answer ∷ []) ≡ []) × (results_of (answer ∷ answers) ≡ results_of answers)
@@ -157,37 +160,37 @@ unknown_first : (terms : Terms) (names : List (List ℕ)) (a b c : SeatState) (l
 unknown_first terms names a b c line answer lines answers told same makes =
     let quiet = unknown_result terms.rights answer answers told in quiet_first terms names a b c line answer lines answers quiet.0 quiet.1 (stays a b same) makes
 
-line_first : (terms : Terms) (names : List (List ℕ)) (a b c : SeatState) (line : List ℕ) (answer : Answer) (lines : List (List ℕ)) (answers : List Answer)
-    → IsMetBySeat terms names a b line answer → Makes terms names b c lines answers → Makes terms names a c (line ∷ lines) (answer ∷ answers)
-line_first terms names a b c line _ lines answers (IsTooLong long same) makes = quiet_first terms names a b c line _ lines answers refl refl (stays a b same) makes
-line_first terms names a b c line _ lines answers (IsSkipped short empty same) makes = quiet_first terms names a b c line _ lines answers refl refl (stays a b same) makes
-line_first terms names a b c line _ lines answers (IsNoText short not_text answer told same) makes = unknown_first terms names a b c line answer lines answers told same makes
-line_first terms names a b c line _ lines answers (IsNoRequest said not_request answer told same) makes = unknown_first terms names a b c line answer lines answers told same makes
-line_first terms names a b c line _ lines answers (IsUnread said same) makes = quiet_first terms names a b c line _ lines answers refl refl (stays a b same) makes
-line_first terms names a b c line _ lines answers (IsDenied said request is may_not same) makes = quiet_first terms names a b c line _ lines answers refl refl (stays a b same) makes
-line_first terms names a b c line _ lines answers (IsAsked said request answer is may met) makes = request_first terms names a b c line request answer lines answers is may met makes
+line_first : (kept : Option ℕ) (terms : Terms) (names : List (List ℕ)) (a b c : SeatState) (line : List ℕ) (answer : Answer) (lines : List (List ℕ)) (answers : List Answer)
+    → IsMetBySeat kept terms names a b line answer → Makes terms names b c lines answers → Makes terms names a c (line ∷ lines) (answer ∷ answers)
+line_first kept terms names a b c line _ lines answers (IsTooLong long same) makes = quiet_first terms names a b c line _ lines answers refl refl (stays a b same) makes
+line_first kept terms names a b c line _ lines answers (IsSkipped short empty same) makes = quiet_first terms names a b c line _ lines answers refl refl (stays a b same) makes
+line_first kept terms names a b c line _ lines answers (IsNoText short not_text answer told same) makes = unknown_first terms names a b c line answer lines answers told same makes
+line_first kept terms names a b c line _ lines answers (IsNoRequest said not_request answer told same) makes = unknown_first terms names a b c line answer lines answers told same makes
+line_first kept terms names a b c line _ lines answers (IsUnread said same) makes = quiet_first terms names a b c line _ lines answers refl refl (stays a b same) makes
+line_first kept terms names a b c line _ lines answers (IsDenied said request is may_not same) makes = quiet_first terms names a b c line _ lines answers refl refl (stays a b same) makes
+line_first kept terms names a b c line _ lines answers (IsAsked said request answer is may met) makes = request_first kept terms names a b c line request answer lines answers is may met makes
 
-makes_all : (terms : Terms) (names : List (List ℕ)) (old new : SeatState) (lines : List (List ℕ)) (answers : List Answer) → HasMet terms names old new lines answers → Makes terms names old new lines answers
-makes_all terms names _ _ _ _ (Ends seat) = record { calls = []; asked = NoLines; made = made_none seat; findings = λ reports. tt }
-makes_all terms names _ _ _ _ (Then old between new line answer lines answers met are) =
-    line_first terms names old between new line answer lines answers met (makes_all terms names between new lines answers are)
-makes_all terms names _ _ _ _ (Moves old between new lines answers looked are) =
-    let makes = makes_all terms names between new lines answers are in
+makes_all : (kept : Option ℕ) (terms : Terms) (names : List (List ℕ)) (old new : SeatState) (lines : List (List ℕ)) (answers : List Answer) → HasMet kept terms names old new lines answers → Makes terms names old new lines answers
+makes_all kept terms names _ _ _ _ (Ends seat) = record { calls = []; asked = NoLines; made = made_none seat; findings = λ reports. tt }
+makes_all kept terms names _ _ _ _ (Then old between new line answer lines answers met are) =
+    line_first kept terms names old between new line answer lines answers met (makes_all kept terms names between new lines answers are)
+makes_all kept terms names _ _ _ _ (Moves old between new lines answers looked are) =
+    let makes = makes_all kept terms names between new lines answers are in
     record { calls = makes.calls; asked = makes.asked; made = looks_first old between new makes.calls (results_of answers) looked makes.made; findings = makes.findings }
 
 -- a seat has made the changes that its lines asked for
-pub lines_make : (terms : Terms) (names : List (List ℕ)) (old new : SeatState) (lines : List (List ℕ)) (answers : List Answer) → HasMet terms names old new lines answers
+pub lines_make : (kept : Option ℕ) (terms : Terms) (names : List (List ℕ)) (old new : SeatState) (lines : List (List ℕ)) (answers : List Answer) → HasMet kept terms names old new lines answers
     → (calls : List (Option Call)) × AreAskedBy names lines answers calls × HasMade old new calls (results_of answers)
-lines_make terms names old new lines answers met = let makes = makes_all terms names old new lines answers met in (makes.calls, makes.asked, makes.made)
+lines_make kept terms names old new lines answers met = let makes = makes_all kept terms names old new lines answers met in (makes.calls, makes.asked, makes.made)
 
 -- by a report place these are findings alone
-pub reports_find : (terms : Terms) (names : List (List ℕ)) (old new : SeatState) (lines : List (List ℕ)) (answers : List Answer) → terms.rights ≡ Reports → HasMet terms names old new lines answers
+pub reports_find : (kept : Option ℕ) (terms : Terms) (names : List (List ℕ)) (old new : SeatState) (lines : List (List ℕ)) (answers : List Answer) → terms.rights ≡ Reports → HasMet kept terms names old new lines answers
     → (calls : List (Option Call)) × AreAskedBy names lines answers calls × HasMade old new calls (results_of answers) × AreFindings calls
-reports_find terms names old new lines answers reports met =
-    let makes = makes_all terms names old new lines answers met in (makes.calls, makes.asked, makes.made, makes.findings reports)
+reports_find kept terms names old new lines answers reports met =
+    let makes = makes_all kept terms names old new lines answers met in (makes.calls, makes.asked, makes.made, makes.findings reports)
 
 -- and stays the hall's
-pub met_ours : (terms : Terms) (names : List (List ℕ)) (hall : HallState) (old new : SeatState) (lines : List (List ℕ)) (answers : List Answer) → HasMet terms names old new lines answers → IsOf hall old → IsOf hall new
-met_ours terms names hall old new lines answers met ours =
-    let same = (makes_all terms names old new lines answers met).made.same in
+pub met_ours : (kept : Option ℕ) (terms : Terms) (names : List (List ℕ)) (hall : HallState) (old new : SeatState) (lines : List (List ℕ)) (answers : List Answer) → HasMet kept terms names old new lines answers → IsOf hall old → IsOf hall new
+met_ours kept terms names hall old new lines answers met ours =
+    let same = (makes_all kept terms names old new lines answers met).made.same in
     record { table = ap (λ (seat : SeatState). seat.table) same ∙ ours.table; most = ap (λ (seat : SeatState). seat.most) same ∙ ours.most }

@@ -25,7 +25,7 @@ module _ {R P K V : Type 0} (kept : Option ℕ) (terms : V → Terms) (counted :
   -- what was said over a door was said by its seat
   pub said_by_seat : (names : List (List ℕ)) (old new : HallDoor R P K × V) {session session_now : SessionState} {moved : Moved}
       → HasSaid nobody (IsLineMetBeside seen_by kept StaysAt CarriesOut terms counted woken expected stopped names) names old new session session_now moved
-      → IsSame terms old new × SpeaksBy (terms old.1) names (seat_of old) (seat_of new) session session_now moved
+      → IsSame terms old new × SpeaksBy kept (terms old.1) names (seat_of old) (seat_of new) session session_now moved
   said_by_seat names old new said =
       let met = lines_met kept terms counted woken expected stopped names old new said.lines said.answers said.are_met in (
         met.0,
@@ -36,7 +36,7 @@ module _ {R P K V : Type 0} (kept : Option ℕ) (terms : V → Terms) (counted :
   pub speaks_by_turn : (names : List (List ℕ)) (old new : HallDoor R P K × V) (session session_now : SessionState) (draining : Bool)
       → (draining ≡ false → (moved : Moved)
       × HasSaid nobody (IsLineMetBeside seen_by kept StaysAt CarriesOut terms counted woken expected stopped names) names old new session session_now moved)
-      → (draining ≡ true → (new ≡ old) × (session_now ≡ session)) → IsSame terms old new × ((moved : Moved) × SpeaksBy (terms old.1) names (seat_of old) (seat_of new) session session_now moved)
+      → (draining ≡ true → (new ≡ old) × (session_now ≡ session)) → IsSame terms old new × ((moved : Moved) × SpeaksBy kept (terms old.1) names (seat_of old) (seat_of new) session session_now moved)
   speaks_by_turn names old new session session_now false goes stays =
       let said = goes refl in
       let by_seat = said_by_seat names old new said.1 in
@@ -46,17 +46,17 @@ module _ {R P K V : Type 0} (kept : Option ℕ) (terms : V → Terms) (counted :
         same_whole terms old new same.0,
         (
           nothing_moved,
-          subst (λ (s : SessionState). SpeaksBy (terms old.1) names (seat_of old) (seat_of new) session s nothing_moved) (sym same.1)
-              (subst (λ (seat : SeatState). SpeaksBy (terms old.1) names (seat_of old) seat session session nothing_moved) (sym (ap (λ (held : HallDoor R P K × V). seat_of held) same.0))
+          subst (λ (s : SessionState). SpeaksBy kept (terms old.1) names (seat_of old) (seat_of new) session s nothing_moved) (sym same.1)
+              (subst (λ (seat : SeatState). SpeaksBy kept (terms old.1) names (seat_of old) seat session session nothing_moved) (sym (ap (λ (held : HallDoor R P K × V). seat_of held) same.0))
               (said_nothing (seat_of old) session)),
         ),
       )
 
 -- a session that began in these turns and is done
-pub said_to_its_end : (terms : Terms) {names : List (List ℕ)} {first now : SeatState} {session_now : SessionState} {moved : Moved} (said : SpeaksBy terms names first now begun session_now moved)
+pub said_to_its_end : (kept : Option ℕ) (terms : Terms) {names : List (List ℕ)} {first now : SeatState} {session_now : SessionState} {moved : Moved} (said : SpeaksBy kept terms names first now begun session_now moved)
     → IsDone session_now → session_now.waiting ≡ []
     → (moved.sent ≡ answer_texts names said.answers) × ((session_now.is_over ≡ true) ⊎ AreLines (moved.read ++ said.closing) said.lines [])
-said_to_its_end terms {session_now = session_now} {moved = moved} said done all_sent = (
+said_to_its_end kept terms {session_now = session_now} {moved = moved} said done all_sent = (
   sym (said.talked.texts ∙ (ap (λ l. moved.sent ++ l) all_sent ∙ append-nil moved.sent)),
   done_by_end session_now.is_over (moved.read ++ said.closing) session_now.unread said.lines session_now.is_over session_now.has_ended refl said.talked.are_lines
       (λ open_ has. done.no_line (open_, inl has)) (said.talked.whole (λ ends. absurd (true≢false (sym ends)))) done.ends,

@@ -2,11 +2,9 @@
 use Rattle.std.specs.Prelude.{ℕ, ◌≡◌, ◌-◌, Option, Some, None, List, [], ◌∷◌, ◌++◌, length, Result}
 use Rattle.desk_core.specs.declared.call.Call.{Call}
 use Rattle.desk_core.specs.declared.call.Call.TheVariants as calls
-use Rattle.desk_core.specs.declared.reason.Reason.{Reason}
 use Rattle.desk_core.specs.declared.refusal.Refusal.{Refusal}
 use Rattle.desk_core.specs.declared.reply.Reply.{Reply}
 use Rattle.desk_core.specs.Past.{past}
-use Rattle.desk_core.specs.Reason.{reason_at}
 use Rattle.desk_core.specs.Watch.{IsOlder}
 use Rattle.hall.specs.Seats.{SeatState, IsCarriedOut, own_calls, with_seen}
 use Rattle.hall.specs.CarriedOut.{replied}
@@ -16,21 +14,26 @@ use Rattle.script.specs.declared.line.Line.{Line}
 use Rattle.script.specs.Change.{line_change}
 use Rattle.script.specs.TextLines.{without_cr}
 use Rattle.control.specs.declared.answer.Answer.{Answer}
-use Rattle.control.specs.declared.answer.Answer.TheVariants.{Changed, Expected, Checked, Board, Listed, Told, Explained, NotFound, Stopping, BadLine, TooLong, NotAllowed, OutOfMemory, Skipped}
+use Rattle.control.specs.declared.answer.Answer.TheVariants.{Changed, Expected, Checked, Board, Listed, Told, Explained, Described, Recalled, NotFound, Stopping, BadLine, TooLong, NotAllowed, OutOfMemory, Skipped}
 use Rattle.control.specs.declared.request.Request.TheVariants as requests
 use Rattle.control.specs.declared.stats.Stats.{Stats}
 use Rattle.control.specs.declared.terms.Terms.{Terms}
+use Rattle.control.specs.Known.{Asked, Known, known_of}
 use Rattle.control.specs.Request.{IsRequest}
 use Rattle.control.specs.Meeting.{IsLineMet, expected_reply}
 use Rattle.control.specs.Talk.{AreMet}
+use Rattle.tail.specs.Tail.{forgotten}
 
--- the numbers of entries, those that were made and those that may still be made, are those of what the seat has seen
-abbrev pub CountsSeen : Terms → SeatState → Stats → Type 0
-CountsSeen terms seat stats = (stats.entries ≡ length seat.seen) × (stats.left ≡ terms.most - length seat.seen)
+-- the numbers of entries, those that were made, those that are kept and those that may still be made, are those of what the seat has seen,
+-- of which so many entries are kept
+pub record CountsSeen (kept : Option ℕ) (terms : Terms) (seat : SeatState) (stats : Stats) : Type 0 where
+  pub entries : stats.entries ≡ length seat.seen
+  pub in_memory : stats.kept ≡ length seat.seen - forgotten kept (length seat.seen)
+  pub left : stats.left ≡ terms.most - length seat.seen
 
--- the reason for a slot's status is that of what the seat has seen, of which some entries are kept
-abbrev pub ExplainsSeen : SeatState → ℕ → Reason → Type 0
-ExplainsSeen seat slot reason = (kept : Option ℕ) × (reason ≡ reason_at kept seat.seen slot)
+-- what is known is known by what the seat has seen, of which so many entries are kept
+abbrev pub KnowsSeen : Option ℕ → SeatState → Asked → Known → Type 0
+KnowsSeen kept seat asked known = known ≡ known_of kept seat.seen asked
 
 -- the seat has at most looked, and an expectation is answered by what it has seen by then
 pub record IsExpectedBySeat (names : List (List ℕ)) (old new : SeatState)
@@ -38,14 +41,15 @@ pub record IsExpectedBySeat (names : List (List ℕ)) (old new : SeatState)
   pub looked : HasLooked old new
   pub answered : result ≡ expected_reply names new.seen expectation
 
--- The line is met by the seat with this answer, by these terms: a change by a change of the seat, anything else by what the seat has seen
-abbrev pub IsMetBySeat : Terms → List (List ℕ) → SeatState → SeatState → List ℕ → Answer → Type 0
-IsMetBySeat terms names old new line answer =
-    IsLineMet terms.rights names (λ seat. seat.seen) HasLooked IsCarriedOut (IsExpectedBySeat names) (CountsSeen terms) ExplainsSeen (λ before after. after ≡ before) old new line answer
+-- The line is met by the seat with this answer, by these terms: a change by a change of the seat, anything else by what the seat has seen,
+-- of which so many entries are kept
+abbrev pub IsMetBySeat : Option ℕ → Terms → List (List ℕ) → SeatState → SeatState → List ℕ → Answer → Type 0
+IsMetBySeat kept terms names old new line answer =
+    IsLineMet terms.rights names (λ seat. seat.seen) HasLooked IsCarriedOut (IsExpectedBySeat names) (CountsSeen kept terms) (KnowsSeen kept) (λ before after. after ≡ before) old new line answer
 
 -- By this seat these lines were met, one after the other, each with its answer at its point of the history. In between it has at most looked
-abbrev pub HasMet : Terms → List (List ℕ) → SeatState → SeatState → List (List ℕ) → List Answer → Type 0
-HasMet terms names old new lines answers = AreMet HasLooked (IsMetBySeat terms names) old new lines answers
+abbrev pub HasMet : Option ℕ → Terms → List (List ℕ) → SeatState → SeatState → List (List ℕ) → List Answer → Type 0
+HasMet kept terms names old new lines answers = AreMet HasLooked (IsMetBySeat kept terms names) old new lines answers
 
 -- the results of the changes among answers
 abbrev pub results_of : List Answer → List (Result Reply Refusal)
@@ -57,6 +61,8 @@ results_of (Board word ∷ answers) = results_of answers
 results_of (Listed word ∷ answers) = results_of answers
 results_of (Told stats ∷ answers) = results_of answers
 results_of (Explained reason ∷ answers) = results_of answers
+results_of (Described description ∷ answers) = results_of answers
+results_of (Recalled recollection ∷ answers) = results_of answers
 results_of (NotFound ∷ answers) = results_of answers
 results_of (Stopping ∷ answers) = results_of answers
 results_of (BadLine ∷ answers) = results_of answers

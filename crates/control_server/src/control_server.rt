@@ -13,7 +13,7 @@ use hall::Seat;
 use handover::Notifier;
 use live_server::{EventLoop, Limits, Places, Tally, connections_stand};
 use probe_core::{Maker, Probe};
-use std::alloc::Global;
+use std::alloc::{AllocError, Global};
 use std::io;
 use std::net::Net;
 use std::rt::Files;
@@ -98,6 +98,12 @@ impl ControlServer {
         }
     }
 
+    /// What its loop counts, for others to read while it holds sessions: those that are over and wait for their last answer to be
+    /// taken are among its connections.
+    pub fn tally(&self) -> Result<Arc<Tally>, AllocError> {
+        self.sessions.tally()
+    }
+
     /// Takes the file of a Unix socket away, once it accepts no more, where it is still this one's.
     pub fn remove_file<R: Files>(&self, rt: &R) -> io::Result<()> {
         self.sessions.acceptor().remove_file(rt)
@@ -112,8 +118,8 @@ impl ControlServer {
     where
         R: Wait + Clock,
         requires ours { All (IsOf context.now.hall.now) seats.old }
-        ensures met { SeatsHaveMet (terms_of self.old) context.now.hall.now.names seats.old
-            seats.new }
+        ensures met { SeatsHaveMet K.kept (terms_of self.old) context.now.hall.now.names
+            seats.old seats.new }
         ensures ours { All (IsOf context.now.hall.now) seats.new }
         ensures account { KeepsAccount (sessions_of self.old) (sessions_of self.new) }
         ensures all { held_count (sessions_of self.new) ≡ 0 }

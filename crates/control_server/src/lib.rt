@@ -28,7 +28,7 @@
 //! where
 //!     R: Wait + Clock + Files,
 //!     requires ours { All (IsOf context.now.hall.now) seats.old }
-//!     ensures met { SeatsHaveMet (terms_of server.old) context.now.hall.now.names seats.old seats.new }
+//!     ensures met { SeatsHaveMet K.kept (terms_of server.old) context.now.hall.now.names seats.old seats.new }
 //!     ensures ours { All (IsOf context.now.hall.now) seats.new }
 //! {
 //!     server.run(context, seats);

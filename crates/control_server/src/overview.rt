@@ -1,4 +1,6 @@
+use chronicle::{Note, Who};
 use control::{Counts, Ended, Expected, OpenNow, Server, Terms};
+use desk_core::{Refusal, Slot};
 use live_server::{News, Tally};
 use std::sync::Arc;
 use std::sync::atomic::{AtomicU64, Ordering};
@@ -11,8 +13,12 @@ pub struct Overview<'a> {
     pub news: &'a News,
     /// What the loops count.
     pub tallies: &'a [Arc<Tally>],
-    /// What sessions expect of services.
+    /// What sessions expect of services, and the chronicle of their entries.
     pub expectations: &'a Expectations,
+    /// The number of the session that is served now.
+    pub session: u32,
+    /// The wall clock's time, in microseconds since 1970.
+    pub micros: u64,
     /// How many sessions there are.
     pub sessions: u64,
     /// What holds for them.
@@ -60,6 +66,24 @@ impl<'a> Server for Overview<'a> {
         } = what;
         self.expectations.expect(slot, Wish { seconds, behind });
         self.news.wake();
+    }
+
+    fn note(&self, place: u32) {
+        let who = Who::Session(self.session);
+        self.expectations.chronicle().note(place, self.micros, who);
+    }
+
+    fn noted(&self, place: u32) -> Option<Note> {
+        self.expectations.chronicle().noted(place)
+    }
+
+    fn refused(&self, refusal: Refusal) {
+        let chronicle = self.expectations.chronicle();
+        chronicle.refuse(self.micros, Who::Session(self.session), refusal as u8);
+    }
+
+    fn seconds(&self, slot: Slot) -> Option<u32> {
+        self.expectations.seconds(slot)
     }
 
     fn stop(&mut self) {

@@ -12,6 +12,7 @@ ghost use Rattle.crew.specs.HallDoor.{door_hall, door_seat};
 
 use crate::context::Context;
 use crate::overview::Overview;
+use chronicle::wall_micros;
 use control::{ControlStream, Session, Terms};
 use crew::HallDoor;
 use desk_core::Keep;
@@ -25,7 +26,7 @@ use std::io::Write;
 use std::marker::PhantomData;
 use std::sync::atomic::{AtomicU64, Ordering};
 use std::sync::{Arc, Wait};
-use std::time::Instant;
+use std::time::{Clock, Instant};
 use watchdog::Expectations;
 use web_call::{Turn, Why};
 
@@ -57,13 +58,18 @@ pub(crate) struct Sessions<'s, 'a, 'b, R, P: Probe, K: Keep, M> {
     pub(crate) notifier: &'a Notifier,
 }
 
-/// A session that begins now.
-fn begin(alloc: Global, stream: ControlStream, now: Instant) -> Option<SessionConnection>
+/// A session of this number that begins now.
+fn begin(
+    alloc: Global,
+    stream: ControlStream,
+    now: Instant,
+    number: u32,
+) -> Option<SessionConnection>
     ensures { IfSome result (λ connection. (session_of connection ≡ begun) × IsQuiet connection) }
 {
     // An answer is a line by itself, and waits for no other.
     let _ = stream.set_nodelay(true);
-    let session = Session::new(alloc).ok()?;
+    let session = Session::new(alloc).ok()?.with_number(number);
     Some(Connection::new(stream, session, now))
 }
 
@@ -73,7 +79,7 @@ fn turn_away(alloc: Global, stream: ControlStream, now: Instant) -> Option<Sessi
     ensures over { IfSome result (λ connection. (state_of connection).is_draining ≡ true) }
 {
     let _ = (&stream).write(TOO_MANY);
-    let mut connection = begin(alloc, stream, now)?;
+    let mut connection = begin(alloc, stream, now, 0)?;
     if connection.close(now) {
         Some(connection)
     } else {
@@ -93,8 +99,8 @@ fn turn_by<R: Wait, P: Probe, K: Keep, M: Maker<P>>(
 ) -> Left
     requires seat { IsOf context.now.hall.now seat.old }
     requires room { 0 < length buffer.old }
-    ensures { (moved : Moved) × SpeaksBy overview.entry.terms context.now.hall.now.names seat.old
-        seat.new
+    ensures { (moved : Moved) × SpeaksBy K.kept overview.entry.terms context.now.hall.now.names
+        seat.old seat.new
         (session_of connection.old) (session_of connection.new) moved }
 {
     let mut door = HallDoor::new(context.rt, context.hall, seat);
@@ -121,7 +127,7 @@ fn turn_over<R: Wait, P: Probe, K: Keep, M: Maker<P>>(
 ) -> Left
     requires room { 0 < length buffer.old }
     ensures reference { door.new.seat.ghost_name ≡ door.old.seat.ghost_name }
-    ensures spoken { (moved : Moved) × SpeaksBy server.entry.terms (door_hall door.old).names
+    ensures spoken { (moved : Moved) × SpeaksBy K.kept server.entry.terms (door_hall door.old).names
         (door_seat door.old)
         (door_seat door.new) (session_of connection.old) (session_of connection.new) moved }
 {
@@ -146,7 +152,7 @@ fn turn_at<R: Wait, P: Probe, K: Keep, M: Maker<P>>(
     ensures reference { attendant.new.console.ghost_name ≡ attendant.old.console.ghost_name }
     ensures seat { attendant.new.console.now.seat.ghost_name
         ≡ attendant.old.console.now.seat.ghost_name }
-    ensures spoken { (moved : Moved) × SpeaksBy attendant.old.server.terms
+    ensures spoken { (moved : Moved) × SpeaksBy K.kept attendant.old.server.terms
         (door_hall attendant.old.console.now).names
         (door_seat attendant.old.console.now) (door_seat attendant.new.console.now)
         (session_of connection.old) (session_of connection.new) moved }
@@ -166,11 +172,12 @@ fn turn_by_key<R: Wait, P: Probe, K: Keep, M: Maker<P>>(
 ) -> Left
     requires ours { All (IsOf context.now.hall.now) seats.old }
     requires room { 0 < length buffer.old }
-    ensures met { SeatsHaveMet overview.entry.terms context.now.hall.now.names seats.old seats.new }
+    ensures met { SeatsHaveMet K.kept overview.entry.terms context.now.hall.now.names
+        seats.old seats.new }
     ensures ours { All (IsOf context.now.hall.now) seats.new }
     ensures own { IsByKey visit.key seats.old seats.new }
-    ensures spoken { (moved : Moved) × SpeaksAt overview.entry.terms context.now.hall.now.names
-        visit.key seats.old seats.new
+    ensures spoken { (moved : Moved) × SpeaksAt K.kept overview.entry.terms
+        context.now.hall.now.names visit.key seats.old seats.new
         (session_of connection.old) (session_of connection.new) moved }
 {
     let key = visit.key;
@@ -188,7 +195,7 @@ fn turn_by_key<R: Wait, P: Probe, K: Keep, M: Maker<P>>(
     )
 }
 
-impl<R: Wait, P: Probe, K: Keep, M: Maker<P>> Handler<ControlStream, Session>
+impl<R: Wait + Clock, P: Probe, K: Keep, M: Maker<P>> Handler<ControlStream, Session>
     for Sessions<'_, '_, '_, R, P, K, M> {
     ghost use Rattle.std.specs.List.{All};
     ghost use Rattle.hall.specs.Seats.{IsOf};
@@ -196,7 +203,7 @@ impl<R: Wait, P: Probe, K: Keep, M: Maker<P>> Handler<ControlStream, Session>
 
     ghost is_ready = { λ s. All (IsOf s.context.now.hall.now) s.seats.now };
 
-    ghost stays = { HaveMet };
+    ghost stays = { HaveMet K.kept };
 
     fn open(
         &mut self,
@@ -208,7 +215,8 @@ impl<R: Wait, P: Probe, K: Keep, M: Maker<P>> Handler<ControlStream, Session>
         if self.is_full(talking) {
             return turn_away(alloc, stream, now);
         }
-        begin(alloc, stream, now)
+        let number = self.expectations.chronicle().next_session();
+        begin(alloc, stream, now, number)
     }
 
     fn is_full(&self, talking: usize) -> bool {
@@ -231,6 +239,8 @@ impl<R: Wait, P: Probe, K: Keep, M: Maker<P>> Handler<ControlStream, Session>
             news: self.context.news,
             tallies: self.tallies,
             expectations: self.expectations,
+            session: connection.machine().number(),
+            micros: wall_micros(self.context.rt),
             sessions: visit.talking as u64,
             stops: self.stops,
             terms: self.terms,
@@ -252,7 +262,7 @@ impl<R: Wait, P: Probe, K: Keep, M: Maker<P>> Handler<ControlStream, Session>
         left
     }
 
-    ghost stays_self = { met_none };
+    ghost stays_self = { met_none K.kept };
 
-    ghost stays_on = { met_further };
+    ghost stays_on = { met_further K.kept };
 }

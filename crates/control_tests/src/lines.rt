@@ -6,19 +6,45 @@ use std::test::Fail;
 use test_support::same;
 
 /// Lines one after the other, and what is answered.
-const LINES: [(&[u8], &[u8]); 36] = [
+const LINES: [(&[u8], &[u8]); 55] = [
     (b"list\n", b"a=absent -=absent\n"),
     (b"check a\n", b"not found\n"),
     (b"why a\n", b"absent: never registered\n"),
     (b"why -\n", b"absent: never registered\n"),
     (b"why b\n", b"not found\n"),
+    (
+        b"status a\n",
+        b"since - - reported - - expected 30 absent: never registered\n",
+    ),
+    (
+        b"status -\n",
+        b"since - - reported - - expected - absent: never registered\n",
+    ),
+    (b"status b\n", b"not found\n"),
+    (b"entry 0\n", b"none yet\n"),
     (b"register a manual\n", b"done\n"),
     (b"check a\r\n", b"serving\n"),
     (b"why a\r\n", b"serving\n"),
+    (
+        b"status a\n",
+        b"since 0 1970-01-01T00:00:00.000000Z reported - - expected 30 serving\n",
+    ),
+    (
+        b"entry 0\n",
+        b"0 1970-01-01T00:00:00.000000Z setup register a manual: done\n",
+    ),
     (b"register - threshold 3\n", b"refused no memory\n"),
     (b"down a\n", b"done\n"),
     (b"list\n", b"a=not_serving -=absent\n"),
     (b"why a\n", b"not_serving: set down by entry 1\n"),
+    (
+        b"status a\n",
+        b"since 1 1970-01-01T00:00:00.000001Z reported - - expected 30 not_serving: set down by entry 1\n",
+    ),
+    (
+        b"entry 1\n",
+        b"1 1970-01-01T00:00:00.000001Z session 7 down a: done\n",
+    ),
     (b"board\n", b"8589934594\n"),
     (b"up b\n", b"refused not listed\n"),
     (b"expect a 5\n", b"wrong kind\n"),
@@ -27,6 +53,17 @@ const LINES: [(&[u8], &[u8]); 36] = [
     (b"retire a\n", b"done\n"),
     (b"retire a\n", b"refused full\n"),
     (b"why a\n", b"absent: retired by entry 3\n"),
+    (
+        b"status a\n",
+        b"since 3 - reported - - expected 30 absent: retired by entry 3\n",
+    ),
+    (
+        b"entry 2\n",
+        b"2 1970-01-01T00:00:00.000002Z expiry up -: missing\n",
+    ),
+    (b"entry 3\n", b"3 - - retire a: done\n"),
+    (b"entry 4\n", b"none yet\n"),
+    (b"entry 4294967295\n", b"none yet\n"),
     (
         b"stats\n",
         b"entries 4 kept 4 connections 3 watches 4 sessions 5 calls 6 given_up 7 behind 8 gone 9 expired 10 left 0\n",
@@ -43,6 +80,12 @@ const LINES: [(&[u8], &[u8]); 36] = [
     (b"expect a 5 6\n", b"bad line\n"),
     (b"why\n", b"bad line\n"),
     (b"why a b\n", b"bad line\n"),
+    (b"status\n", b"bad line\n"),
+    (b"status a b\n", b"bad line\n"),
+    (b"entry\n", b"bad line\n"),
+    (b"entry x\n", b"bad line\n"),
+    (b"entry 4294967296\n", b"bad line\n"),
+    (b"entry 1 2\n", b"bad line\n"),
     (b"check \xff\n", b"bad line\n"),
     (b"stop\n", b"stopping\n"),
     (b"list\n", b""),

@@ -6,11 +6,13 @@ use std::test::Fail;
 use test_support::same;
 
 /// A request of each kind, and whether who reports may make it.
-const REQUESTS: [(&str, bool); 16] = [
+const REQUESTS: [(&str, bool); 18] = [
     ("pass a", true),
     ("fail a", true),
     ("check a", true),
     ("why a", true),
+    ("status a", true),
+    ("entry 0", true),
     ("list", true),
     ("board", true),
     ("stats", true),
@@ -30,8 +32,8 @@ fn request_of(alloc: Global, catalogue: &Catalogue, text: &str) -> Result<Reques
     if let Some(expectation) = read_expectation(alloc, text)? {
         return Ok(Request::Expect(expectation));
     }
-    if let Some(name) = read_question(alloc, text)? {
-        return Ok(Request::Why(name));
+    if let Some(question) = read_question(alloc, text)? {
+        return Ok(Request::Ask(question));
     }
     match text {
         "list" => Ok(Request::List),

@@ -14,13 +14,19 @@ mod histories;
 #[cfg(test)]
 mod keeping;
 #[cfg(test)]
+mod look_back;
+#[cfg(test)]
 mod makers;
 #[cfg(test)]
 mod memory;
 #[cfg(test)]
+mod numbers;
+#[cfg(test)]
 mod reasons;
 #[cfg(test)]
 mod rows;
+#[cfg(test)]
+mod scripts;
 #[cfg(test)]
 mod sixteen;
 #[cfg(test)]

@@ -1,28 +1,7 @@
+use crate::numbers::Numbers;
 use probe_core::{Event, Probe, Start, Threshold};
 use std::test::Fail;
 use test_support::same;
-
-/// Numbers that look random, and are the same in each run.
-#[derive(Drop)]
-struct Numbers {
-    state: u64,
-}
-
-impl Numbers {
-    ghost use Rattle.std.specs.Prelude.{◌<◌};
-
-    /// A number below this one.
-    fn next(&mut self, below: u64) -> u64
-        requires { 0 < below }
-        ensures { result < below }
-    {
-        self.state = self
-            .state
-            .wrapping_mul(6_364_136_223_846_793_005)
-            .wrapping_add(1);
-        (self.state >> 33) % below
-    }
-}
 
 /// Whether a service is up that heard these findings, the oldest first: there is no point before which the last `fall` failed, and
 /// after which no `rise` in a row passed. `true` is a failure.
@@ -65,14 +44,14 @@ fn first_wrong(fall: u32, rise: u32, start: Start, failures: &[bool]) -> Option<
 
 #[test]
 fn tells_what_a_look_back_over_all_events_tells() -> Result<(), Fail> {
-    let mut numbers = Numbers { state: 1 };
+    let mut numbers = Numbers::new(1);
     for round in 0..10_000u32 {
-        let (fall, rise) = (1 + numbers.next(5) as u32, 1 + numbers.next(5) as u32);
+        let (fall, rise) = (1 + numbers.below(5) as u32, 1 + numbers.below(5) as u32);
         let mut failures = [false; 24];
         for place in 0..24usize {
-            failures[place] = numbers.next(2) == 1;
+            failures[place] = numbers.below(2) == 1;
         }
-        let start = if numbers.next(2) == 1 {
+        let start = if numbers.below(2) == 1 {
             Start::Up
         } else {
             Start::Unknown

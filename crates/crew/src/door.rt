@@ -1,8 +1,8 @@
 ghost use Rattle.hall.specs.Seats.{IsOf};
 
 use desk_core::{
-    Behind, Call, Catalogue, Console, Effect, Extent, Keep, KeepAll, Reason, Registrar, Ruled,
-    Slot, Transcript, Watch,
+    Behind, Call, Catalogue, Console, Effect, Extent, Keep, KeepAll, Recall, Registrar, Ruled,
+    Slot, Standing, Transcript, Watch,
 };
 use hall::{Hall, Seat};
 use health_wire::Serving;
@@ -98,7 +98,7 @@ impl<'a, R: Wait, P: Probe, K: Keep> Door for HallDoor<'a, R, P, K> {
 }
 
 impl<'a, R: Wait, P: Probe, K: Keep> Registrar<P> for HallDoor<'a, R, P, K> {
-    ghost use Rattle.std.specs.Prelude.{◌≡◌, ◌↔◌, IfSome, IfOk, IsErr, IsTrue, IsFalse};
+    ghost use Rattle.std.specs.Prelude.{◌≡◌, ◌-◌, ◌↔◌, Some, IfSome, IfOk, IsErr, IsTrue, IsFalse, length};
     ghost use Rattle.std.specs.Option.{option_map};
     ghost use Rattle.desk_core.specs.Changes.{Shows};
     ghost use Rattle.desk_core.specs.Mutation.{rule_of};
@@ -123,6 +123,8 @@ impl<'a, R: Wait, P: Probe, K: Keep> Registrar<P> for HallDoor<'a, R, P, K> {
         ensures shows { IfOk result.result (λ reply.
             IsTrue result.shows ↔ Shows (door_seat self.new).seen) }
         ensures refused { IsErr result.result → IsFalse result.shows }
+        ensures placed { IfOk result.result (λ reply.
+            result.at ≡ Some (length (door_seat self.new).seen - 1)) }
     {
         match self.hall.change(self.rt, self.seat, call, probe) {
             Ok(made) => made.effect(),
@@ -151,8 +153,12 @@ impl<'a, R: Wait, P: Probe, K: Keep> Console<P> for HallDoor<'a, R, P, K> {
         self.hall.rule(self.rt, self.seat, slot)
     }
 
-    fn why(&mut self, slot: Slot) -> Reason {
-        self.hall.why(self.rt, self.seat, slot)
+    fn standing(&mut self, slot: Slot) -> Standing {
+        self.hall.standing(self.rt, self.seat, slot)
+    }
+
+    fn recall(&mut self, place: u32) -> Recall {
+        self.hall.recall(self.rt, self.seat, place)
     }
 
     fn extent(&mut self) -> Extent {

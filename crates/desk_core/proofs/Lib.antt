@@ -7,9 +7,11 @@ pub mod DeskLemmas
 pub mod HistoryLemmas
 pub mod KeptLemmas
 pub mod KeyLemmas
+pub mod LatestLemmas
 pub mod LawfulLemmas
 pub mod LawLemmas
 pub mod MarkLemmas
+pub mod NamedLemmas
 pub mod OnceLemmas
 pub mod OutcomeLemmas
 pub mod ReadingLemmas

@@ -5,6 +5,7 @@ pub mod Changes
 pub mod Desk
 pub mod Fault
 pub mod Heard
+pub mod Latest
 pub mod Legal
 pub mod Mutation
 pub mod Order
@@ -17,8 +18,11 @@ pub mod Seats
 pub mod Shut
 pub mod Silence
 pub mod Slots
+pub mod Standing
 pub mod Status
 pub mod Transcript
 pub mod Watch
 pub mod Marks
 pub mod Reason
+pub mod Recall
+pub mod Named

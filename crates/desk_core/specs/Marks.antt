@@ -15,6 +15,10 @@ use Rattle.desk_core.specs.Present.{rule_at}
 use Rattle.desk_core.specs.Silence.{is_done}
 use Rattle.desk_core.specs.Reason.{down_since, fails_in_row, forgets_all, newest, passes_in_row, retires, shuts}
 
+-- the mark of a slot that was never registered
+abbrev pub unmarked : Mark
+unmarked = record { retired = None; forgot = None; down = None; fails = 0; passes = 0 }
+
 -- a mark behind an entry that had its slot forget what it heard
 abbrev pub begun : ℕ → Mark → Mark
 begun at mark = record { retired = mark.retired; forgot = Some at; down = None; fails = 0; passes = 0 }

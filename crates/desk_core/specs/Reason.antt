@@ -95,7 +95,7 @@ abbrev pub absent_by : Option ℕ → List Entry → Option ℕ → Reason
 absent_by kept entries None = reasons.NeverRegistered
 absent_by kept entries (Some place) = reasons.Retired (named kept entries (Some place))
 
--- one that depends on others is not serving since one of these is not
+-- one that depends on others is not serving since one of these is not: there is one, as a law says
 abbrev pub depends_by : Option ℕ → Reason
 depends_by None = reasons.Serving
 depends_by (Some slot) = reasons.DependsOn slot

@@ -1,8 +1,9 @@
 use crate::extent::Extent;
-use crate::reason::Reason;
+use crate::recall::Recall;
 use crate::registrar::Registrar;
 use crate::ruled::Ruled;
 use crate::slot::Slot;
+use crate::standing::Standing;
 use health_wire::Serving;
 use probe_core::Probe;
 
@@ -13,8 +14,10 @@ use probe_core::Probe;
 pub trait Console<P: Probe>: Registrar<P> {
     ghost use Rattle.std.specs.Prelude.{◌≡◌, ◌-◌, ℕ, Option, length};
     ghost use Rattle.desk_core.specs.Board.{board_of};
+    ghost use Rattle.desk_core.specs.Past.{past};
     ghost use Rattle.desk_core.specs.Present.{rule_at};
-    ghost use Rattle.desk_core.specs.Reason.{reason_at};
+    ghost use Rattle.desk_core.specs.Recall.{recalled};
+    ghost use Rattle.desk_core.specs.Standing.{standing_at};
     ghost use Rattle.desk_core.specs.Status.{status_map};
     ghost use Rattle.tail.specs.Tail.{forgotten};
 
@@ -41,11 +44,17 @@ pub trait Console<P: Probe>: Registrar<P> {
         ensures rule { result.rule ≡ rule_at (Self.seen self.new) slot }
         ensures entries { result.entries ≡ length (Self.seen self.new) };
 
-    /// Why a slot has its status.
-    fn why(&mut self, slot: Slot) -> Reason
+    /// Why a slot has its status, since when, and when it was reported last.
+    fn standing(&mut self, slot: Slot) -> Standing
         ensures names { Self.names self.new ≡ Self.names self.old }
         ensures looks { looks self.old self.new }
-        ensures reason { result ≡ reason_at kept (Self.seen self.new) slot };
+        ensures standing { result ≡ standing_at kept (Self.seen self.new) slot };
+
+    /// What is still known of the entry at this place.
+    fn recall(&mut self, place: u32) -> Recall
+        ensures names { Self.names self.new ≡ Self.names self.old }
+        ensures looks { looks self.old self.new }
+        ensures recalled { result ≡ recalled kept (past (Self.seen self.new)) place };
 
     /// How many entries there are, and how many of them are in memory.
     fn extent(&mut self) -> Extent

@@ -8,15 +8,18 @@ use crate::change::{Change, shown};
 use crate::entry::Entry;
 use crate::history::History;
 use crate::keep::{Capacity, Keep, KeepAll};
+use crate::latest::LatestOfAll;
 use crate::lawful::is_lawful_call;
 use crate::made::Made;
 use crate::marks::{Mark, Marks};
 use crate::reason::{Cause, Reason};
+use crate::recall::Recall;
 use crate::refusal::Refusal;
 use crate::registration::{Handed, Registered};
 use crate::reply::{Reply, reply_to_event, reply_to_register, reply_to_retire};
 use crate::slot::Slot;
 use crate::slots::Slots;
+use crate::standing::Standing;
 use crate::status::first_down;
 use crate::status_word::StatusWord;
 use crate::transcript::Transcript;
@@ -34,6 +37,7 @@ pub struct Desk<P: Probe, K: Keep = KeepAll> {
     is_shut: bool,
     history: History,
     marks: Marks,
+    latest: LatestOfAll,
     max_entries: u32,
     keep: PhantomData<K>,
 }
@@ -41,6 +45,7 @@ pub struct Desk<P: Probe, K: Keep = KeepAll> {
 impl<P: Probe, K: Keep> Model for Desk<P, K> {
     ghost use Rattle.std.specs.Prelude.{◌≡◌, length};
     ghost use Rattle.desk_core.specs.Desk.{State, IsDesk};
+    ghost use Rattle.desk_core.specs.Latest.{AreLatest};
     ghost use Rattle.desk_core.specs.Marks.{HasMarks};
     ghost use Rattle.desk_core.specs.Past.{past};
 
@@ -61,12 +66,13 @@ impl<P: Probe, K: Keep> Model for Desk<P, K> {
         desk.history.changes.items desk.history.cache.statuses
         desk.history.cache.dependents desk.max_entries
         × (desk.history.journal.keep ≡ K.kept) × (desk.history.changes.keep ≡ K.kept)
-        × HasMarks (past desk.history.journal.items) desk.marks.shut desk.marks.slots };
+        × HasMarks (past desk.history.journal.items) desk.marks.shut desk.marks.slots
+        × AreLatest (past desk.history.journal.items) desk.latest.slots };
 }
 
 impl<P: Probe, K: Keep> Desk<P, K> {
     ghost use Rattle.desk_core.specs.declared.change.Change.{Change};
-    ghost use Rattle.std.specs.Prelude.{◌≡◌, ◌≢◌, ◌<◌, ◌≤◌, ◌↔◌, ◌-◌, ◌++◌, ℕ, List, length, take, drop, None, Some, Ok, Err, IfSome, IfNone, IfOk, IfErr, IsErr, IsTrue, IsFalse, OnOk, OnErr, MatchResult};
+    ghost use Rattle.std.specs.Prelude.{◌≡◌, ◌≢◌, ◌<◌, ◌≤◌, ◌↔◌, ◌+◌, ◌-◌, ◌++◌, ℕ, List, length, take, drop, None, Some, Ok, Err, IfSome, IfNone, IfOk, IfErr, IsErr, IsTrue, IsFalse, OnOk, OnErr, MatchResult};
     ghost use Rattle.std.specs.Option.{option_map};
     ghost use Rattle.desk_core.specs.Past.{past};
     ghost use Rattle.desk_core.specs.Mutation.{rule_of};
@@ -81,6 +87,8 @@ impl<P: Probe, K: Keep> Desk<P, K> {
     ghost use Rattle.desk_core.specs.Board.{board_of};
     ghost use Rattle.desk_core.specs.Silence.{is_to_fail};
     ghost use Rattle.desk_core.specs.Marks.{IsMark, IsRuleFor};
+    ghost use Rattle.desk_core.specs.Recall.{recalled};
+    ghost use Rattle.desk_core.specs.Standing.{standing_at};
     ghost use Rattle.desk_core.specs.Reason.{absent_by, down_by, named, not_serving_by, reason_at};
     ghost use Rattle.tail.specs.Tail.{forgotten};
     ghost use Rattle.std.specs.Vec.{vec_len, vec_capacity};
@@ -95,6 +103,7 @@ impl<P: Probe, K: Keep> Desk<P, K> {
             is_shut: false,
             history: History::new(alloc, K::kept()),
             marks: Marks::new(),
+            latest: LatestOfAll::new(),
             max_entries,
             keep: PhantomData,
         }
@@ -135,11 +144,12 @@ impl<P: Probe, K: Keep> Desk<P, K> {
             ≡ probe_of (past self.old.journal) call) }
         ensures shows { IfOk result (λ made.
             IsTrue made.shows ↔ Shows (past self.new.journal)) }
+        ensures placed { IfOk result (λ made. (16 ≤ self.new.places)
+            × (length self.new.journal ≡ made.at + 1)) }
         ensures handed_back { IfErr result (λ refused. refused.1 ≡ probe) }
         ensures full { IsAtLimit K.kept self.old
             → IfErr result (λ refused. refused.0 ≢ Refusal.NoMemory) }
         ensures holds { HoldsMemory self.old self.new }
-        ensures placed { IfOk result (λ made. 16 ≤ self.new.places) }
     {
         if let Some(refusal) = self.refusal_of(&call) {
             return Err((refusal, probe));
@@ -155,8 +165,17 @@ impl<P: Probe, K: Keep> Desk<P, K> {
         self.marks.note(&call, reply, rule, at);
         let old = self.slots.apply(&call, reply, probe);
         self.is_shut = shut_after(self.is_shut, &call);
+        let before = self.history.statuses();
         let shows = self.history.show(&self.slots, self.is_shut, &call, at);
-        Ok(Made { reply, old, shows })
+        let entry = Entry { seat, call, reply };
+        self.latest
+            .note(&entry, at, before, self.history.statuses());
+        Ok(Made {
+            reply,
+            old,
+            shows,
+            at,
+        })
     }
 
     /// Why the change is refused, other than out of memory.
@@ -326,6 +345,19 @@ impl<P: Probe, K: Keep> Desk<P, K> {
         }
     }
 
+    /// Why the slot has its status, since when, and when it was reported last.
+    pub fn standing(&self, slot: Slot) -> Standing
+        ensures standing { result ≡ standing_at K.kept (past self.now.journal) slot }
+        ensures legal { IsLegal (past self.now.journal) }
+    {
+        let latest = self.latest.of(slot);
+        Standing {
+            reason: self.why(slot),
+            since: latest.shown,
+            reported: latest.reported,
+        }
+    }
+
     fn why_absent(&self, mark: Mark) -> Reason
         ensures { result ≡ absent_by K.kept (past self.now.journal) mark.retired }
     {
@@ -457,6 +489,39 @@ impl<P: Probe, K: Keep> Desk<P, K> {
             .extend_from_slice(&found[..room.min(found.len())])
             .unwrap();
         true
+    }
+
+    /// The same of status changes, with places in the list of them.
+    pub fn copy_changes(&self, from: u64, changes: &mut Vec<Change>) -> bool
+        ensures copied { IsTrue result → changes.new.items ≡ changes.old.items
+            ++ take (vec_capacity changes.old - vec_len changes.old)
+            (drop from (changes_of (past self.now.journal))) }
+        ensures none { IsFalse result → changes.new ≡ changes.old }
+        ensures forgotten { IsFalse result
+            ↔ (from < forgotten K.kept (length (changes_of (past self.now.journal)))) }
+        ensures room { vec_capacity changes.old ≤ vec_capacity changes.new }
+        ensures legal { IsLegal (past self.now.journal) }
+    {
+        let Some(found) = self.history.changes().since(from) else {
+            return false;
+        };
+        let room = changes.capacity() - changes.len();
+        changes
+            .extend_from_slice(&found[..room.min(found.len())])
+            .unwrap();
+        true
+    }
+
+    /// What is still known of the entry at this place.
+    pub fn recall(&self, place: u32) -> Recall
+        ensures recalled { result ≡ recalled K.kept self.now.journal place }
+        ensures legal { IsLegal (past self.now.journal) }
+    {
+        match self.history.since(u64::from(place)) {
+            None => Recall::Forgotten,
+            Some([]) => Recall::NoneYet,
+            Some([entry, ..]) => Recall::Kept(*entry),
+        }
     }
 
     /// Whether a fail is to be made of the slot, of which this seat has heard nothing up to this place of the journal for as long as it

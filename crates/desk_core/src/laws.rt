@@ -1,9 +1,10 @@
-ghost use Rattle.std.specs.Prelude.{◌≡◌, ◌-◌, ◌<◌, ◌≤◌, ◌↔◌, ◌⊎◌, if◌then◌else◌, List, ℕ, Option, Result, Err, take, drop, Some, None, true, false, [], ◌∷◌, ◌++◌, length, All, Contains, IsSome};
+ghost use Rattle.std.specs.Prelude.{◌≡◌, ◌-◌, ◌<◌, ◌≤◌, ◌↔◌, ◌⊎◌, if◌then◌else◌, List, ℕ, Bool, Option, Result, Err, take, drop, Some, None, true, false, [], ◌∷◌, ◌++◌, length, All, Contains, IsSome};
 ghost use Rattle.std.specs.List.{last_or};
 ghost use Rattle.desk_core.specs.declared.call.Call.{Call};
 ghost use Rattle.desk_core.specs.declared.call.Call.TheVariants.{Shutdown, Resume};
 ghost use Rattle.desk_core.specs.declared.entry.Entry.{Entry};
 ghost use Rattle.desk_core.specs.declared.change.Change.{Change};
+ghost use Rattle.desk_core.specs.declared.reason.Cause.{Cause};
 ghost use Rattle.desk_core.specs.declared.refusal.Refusal.{Refusal};
 ghost use Rattle.desk_core.specs.declared.refusal.Refusal.TheVariants.{NoMemory};
 ghost use Rattle.desk_core.specs.declared.reply.Reply.{Reply};
@@ -14,6 +15,7 @@ ghost use Rattle.desk_core.specs.Status.{status_at, serving_if, shown, AllServe}
 ghost use Rattle.desk_core.specs.Present.{rule_at};
 ghost use Rattle.desk_core.specs.Mutation.{IsAnswered};
 ghost use Rattle.desk_core.specs.Reason.{reason_at, status_by_reason};
+ghost use Rattle.desk_core.specs.Named.{IsNamed, NamesEntries};
 ghost use Rattle.desk_core.specs.Reply.{reply_to};
 ghost use Rattle.tail.specs.Tail.{forgotten, kept_of};
 ghost use Rattle.desk_core.specs.Changes.{changes_of};
@@ -202,4 +204,18 @@ pub fn behind_for_good()
 pub fn reasons_tell_statuses()
     ensures { (kept : Option ℕ) (entries : List Entry) (i : ℕ) → i ≤ 16
         → status_by_reason (reason_at kept entries i) ≡ status_at entries i }
+{}
+
+/// No reason has a cause that names no entry: of a legal history each cause names one that did what the reason says, and that none undid
+/// since.
+pub fn reasons_name_entries()
+    ensures named { (kept : Option ℕ) (entries : List Entry) (i : ℕ) → IsLegal entries
+        → NamesEntries kept entries i (reason_at kept entries i) }
+
+    // It is told as an older entry exactly where it is older than those that are kept.
+    ensures told { (kept : Option ℕ) (entries : List Entry)
+        (kind : Entry → List Entry → Bool) (undoes : Entry → Bool) (cause : Cause)
+        → IsNamed kept entries kind undoes cause
+        → (cause.place < length entries)
+        × ((cause.is_kept ≡ false) ↔ (cause.place < forgotten kept (length entries))) }
 {}

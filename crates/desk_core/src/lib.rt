@@ -36,6 +36,7 @@ mod entry;
 mod extent;
 mod history;
 mod keep;
+mod latest;
 mod lawful;
 mod laws;
 mod made;
@@ -44,6 +45,7 @@ mod name;
 mod order;
 mod owned;
 mod reason;
+mod recall;
 mod refusal;
 mod registrar;
 mod registration;
@@ -51,6 +53,7 @@ mod reply;
 mod ruled;
 mod slot;
 mod slots;
+mod standing;
 mod status;
 mod status_word;
 mod transcript;
@@ -68,18 +71,20 @@ pub use keep::{Capacity, Keep, KeepAll, KeepMany};
 pub use laws::{
     behind_for_good, changes_grow, depends_on_all, events_decide, faultless_names,
     kept_changes_suffice, last_call_decides, last_change_is_shown, legal_fronts, legal_growth,
-    one_outcome, reasons_tell_statuses, slots_and_names, steps_leave_none_out, tells_changes_alone,
-    walks_tell_the_story, watchers_end_up_right,
+    one_outcome, reasons_name_entries, reasons_tell_statuses, slots_and_names,
+    steps_leave_none_out, tells_changes_alone, walks_tell_the_story, watchers_end_up_right,
 };
 pub use made::{Effect, Made};
 pub use name::Name;
 pub use order::Order;
 pub use reason::{Cause, Reason};
+pub use recall::Recall;
 pub use refusal::Refusal;
 pub use registrar::{Registrar, carry_out};
 pub use registration::{Handed, Registered};
 pub use reply::Reply;
 pub use ruled::Ruled;
 pub use slot::Slot;
+pub use standing::Standing;
 pub use transcript::Transcript;
 pub use watch::{Behind, Watch};

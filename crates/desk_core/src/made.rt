@@ -10,6 +10,8 @@ pub struct Made<P: Probe> {
     pub old: Option<P>,
     /// Whether it changed what is shown of a service.
     pub shows: bool,
+    /// The place of its entry in the journal.
+    pub at: u32,
 }
 
 /// What came of a change that a registrar was asked for.
@@ -18,32 +20,37 @@ pub struct Effect {
     pub result: Result<Reply, Refusal>,
     /// Whether it changed what is shown of a service.
     pub shows: bool,
+    /// The place of its entry in the journal, if it was made.
+    pub at: Option<u32>,
 }
 
 impl<P: Probe> Made<P> {
-    ghost use Rattle.std.specs.Prelude.{◌≡◌, Ok};
+    ghost use Rattle.std.specs.Prelude.{◌≡◌, Ok, Some};
 
     /// The same without the probe, which is dropped.
     pub fn effect(self) -> Effect
-        ensures { result ≡ record { result = Ok self.reply; shows = self.shows } }
+        ensures { result
+            ≡ record { result = Ok self.reply; shows = self.shows; at = Some self.at } }
     {
         Effect {
             result: Ok(self.reply),
             shows: self.shows,
+            at: Some(self.at),
         }
     }
 }
 
 impl Effect {
-    ghost use Rattle.std.specs.Prelude.{◌≡◌, Err, false};
+    ghost use Rattle.std.specs.Prelude.{◌≡◌, Err, None, false};
 
     /// A change that was refused, which shows nothing.
     pub fn of_refusal(refusal: Refusal) -> Effect
-        ensures { result ≡ record { result = Err refusal; shows = false } }
+        ensures { result ≡ record { result = Err refusal; shows = false; at = None } }
     {
         Effect {
             result: Err(refusal),
             shows: false,
+            at: None,
         }
     }
 }

@@ -9,7 +9,7 @@ use crate::slot::Slot;
 use probe_core::Rule;
 
 /// Of one slot, the places of entries, and how many events of one kind it heard last.
-#[derive(Clone, Copy, Debug, PartialEq, Eq)]
+#[derive(Clone, Copy)]
 pub(crate) struct Mark {
     /// The newest entry that retired it.
     pub(crate) retired: Option<u32>,
@@ -31,12 +31,12 @@ pub(crate) struct Marks {
 }
 
 impl Mark {
-    ghost use Rattle.std.specs.Prelude.{◌≡◌, Some, None};
-    ghost use Rattle.desk_core.specs.Marks.{begun, found, next_mark, set_to};
+    ghost use Rattle.std.specs.Prelude.{◌≡◌};
+    ghost use Rattle.desk_core.specs.Marks.{begun, found, next_mark, set_to, unmarked};
 
     /// The mark of a slot that was never registered.
     fn new() -> Mark
-        ensures { result ≡ record { retired = None; forgot = None; down = None; fails = 0; passes = 0 } }
+        ensures { result ≡ unmarked }
     {
         Mark {
             retired: None,

@@ -14,7 +14,7 @@ use probe_core::Probe;
 /// `names` are those of its catalogue, `seen` is the history that it has seen, the newest entry first, and `answers` says how it comes
 /// out of a change with a reply or a refusal.
 pub trait Registrar<P: Probe> {
-    ghost use Rattle.std.specs.Prelude.{◌≡◌, ◌↔◌, ℕ, List, Option, Result, IfSome, IfOk, IsErr, IsTrue, IsFalse};
+    ghost use Rattle.std.specs.Prelude.{◌≡◌, ◌-◌, ◌↔◌, ℕ, List, Option, Result, Some, IfSome, IfOk, IsErr, IsTrue, IsFalse, length};
     ghost use Rattle.std.specs.Option.{option_map};
     ghost use Rattle.desk_core.specs.declared.call.Call.{Call};
     ghost use Rattle.desk_core.specs.declared.entry.Entry.{Entry};
@@ -41,7 +41,9 @@ pub trait Registrar<P: Probe> {
         ensures answered { answers self.old self.new call result.result }
         ensures shows { IfOk result.result (λ reply.
             IsTrue result.shows ↔ Shows (seen self.new)) }
-        ensures refused { IsErr result.result → IsFalse result.shows };
+        ensures refused { IsErr result.result → IsFalse result.shows }
+        ensures placed { IfOk result.result (λ reply.
+            result.at ≡ Some (length (seen self.new) - 1)) };
 }
 
 /// Makes the change that an order asks for.

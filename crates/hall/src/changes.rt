@@ -10,7 +10,7 @@ use std::sync::Wait;
 
 /// The changes. Each waits for the seat's turn, but that of a name that is not listed.
 impl<P: Probe, K: Keep> Hall<P, K> {
-    ghost use Rattle.std.specs.Prelude.{◌≡◌, ◌↔◌, None, Some, Ok, Err, IfSome, IfOk, IfErr, IsTrue, MatchResult, drop};
+    ghost use Rattle.std.specs.Prelude.{◌≡◌, ◌+◌, ◌↔◌, None, Some, Ok, Err, IfSome, IfOk, IfErr, IsTrue, MatchResult, drop, length};
     ghost use Rattle.std.specs.Option.{option_map};
     ghost use Rattle.desk_core.specs.declared.call.Call.TheVariants as calls;
     ghost use Rattle.desk_core.specs.Catalogue.{slot_of};
@@ -36,6 +36,7 @@ impl<P: Probe, K: Keep> Hall<P, K> {
             (λ made. IsCarriedOut seat.old seat.new call (Ok made.reply))
             (λ refused. IsCarriedOut seat.old seat.new call (Err refused.0)) }
         ensures shows { IfOk result (λ made. IsTrue made.shows ↔ Shows seat.new.seen) }
+        ensures placed { IfOk result (λ made. length seat.new.seen ≡ made.at + 1) }
         ensures old { IfOk result (λ made. IfSome call (λ c.
             option_map (λ p. (P.rule p, P.memory p)) made.old
             ≡ probe_of (drop 1 seat.new.seen) c)) }

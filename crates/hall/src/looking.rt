@@ -10,7 +10,8 @@ use crate::note::Note;
 use crate::seat::Seat;
 use crate::steps::{Look, Meet, Tell};
 use desk_core::{
-    Behind, Extent, Keep, KeepAll, Reason, Slot, Transcript, Watch, board_entries, board_status,
+    Behind, Change, Extent, Keep, KeepAll, Recall, Slot, Standing, Transcript, Watch,
+    board_entries, board_status,
 };
 use health_wire::Serving;
 use probe_core::Probe;
@@ -19,12 +20,15 @@ use std::sync::Wait;
 
 /// The calls that change nothing.
 impl<P: Probe, K: Keep> Hall<P, K> {
-    ghost use Rattle.std.specs.Prelude.{◌≡◌, ◌-◌, ◌↔◌, List, length, IfOk, IsErr, OnOk, OnErr};
+    ghost use Rattle.std.specs.Prelude.{◌≡◌, ◌-◌, ◌<◌, ◌++◌, ◌↔◌, List, length, take, drop, IfOk, IsErr, IsTrue, IsFalse, OnOk, OnErr};
+    ghost use Rattle.std.specs.Vec.{vec_len, vec_capacity};
     ghost use Rattle.desk_core.specs.declared.change.Change.{Change};
     ghost use Rattle.desk_core.specs.Board.{board_of};
     ghost use Rattle.desk_core.specs.Catalogue.{slot_of};
     ghost use Rattle.desk_core.specs.Changes.{changes_of};
-    ghost use Rattle.desk_core.specs.Reason.{reason_at};
+    ghost use Rattle.desk_core.specs.Past.{past};
+    ghost use Rattle.desk_core.specs.Recall.{recalled};
+    ghost use Rattle.desk_core.specs.Standing.{standing_at};
     ghost use Rattle.desk_core.specs.Status.{shown, status_map};
     ghost use Rattle.desk_core.specs.Transcript.{IsCopy, IsCopyWithin};
     ghost use Rattle.desk_core.specs.Watch.{IsBehind, IsOlder, opened, stepped};
@@ -75,17 +79,55 @@ impl<P: Probe, K: Keep> Hall<P, K> {
         extent
     }
 
-    /// Why the slot has its status. It waits for the seat's turn.
-    pub fn why<R: Wait>(&self, rt: &R, seat: &mut Seat<P, K>, slot: Slot) -> Reason
+    /// Why the slot has its status, since when, and when it was reported last. It waits for the seat's turn.
+    pub fn standing<R: Wait>(&self, rt: &R, seat: &mut Seat<P, K>, slot: Slot) -> Standing
         requires { IsOf self.now seat.old }
         ensures goes_on { GoesOn seat.old seat.new }
         ensures kept { own_calls seat.new ≡ own_calls seat.old }
-        ensures reason { result ≡ reason_at K.kept seat.new.seen slot }
+        ensures standing { result ≡ standing_at K.kept seat.new.seen slot }
     {
         let desk = enter(rt, &self.table.shared, &mut seat.place);
-        let reason = desk.why(slot);
+        let standing = desk.standing(slot);
         leave(&self.table.shared, &mut seat.place, desk);
-        reason
+        standing
+    }
+
+    /// What is still known of the entry at this place of the journal. It waits for the seat's turn.
+    pub fn recall<R: Wait>(&self, rt: &R, seat: &mut Seat<P, K>, place: u32) -> Recall
+        requires { IsOf self.now seat.old }
+        ensures goes_on { GoesOn seat.old seat.new }
+        ensures kept { own_calls seat.new ≡ own_calls seat.old }
+        ensures recalled { result ≡ recalled K.kept (past seat.new.seen) place }
+    {
+        let desk = enter(rt, &self.table.shared, &mut seat.place);
+        let recall = desk.recall(place);
+        leave(&self.table.shared, &mut seat.place, desk);
+        recall
+    }
+
+    /// Copies status changes from this place of the list of them on, the oldest first, as many as there is room for. It copies none,
+    /// and says so, where one of them is forgotten. It waits for the seat's turn.
+    pub fn copy_changes<R: Wait>(
+        &self,
+        rt: &R,
+        seat: &mut Seat<P, K>,
+        from: u64,
+        changes: &mut Vec<Change>,
+    ) -> bool
+        requires { IsOf self.now seat.old }
+        ensures goes_on { GoesOn seat.old seat.new }
+        ensures kept { own_calls seat.new ≡ own_calls seat.old }
+        ensures copied { IsTrue result → changes.new.items ≡ changes.old.items
+            ++ take (vec_capacity changes.old - vec_len changes.old)
+            (drop from (changes_of seat.new.seen)) }
+        ensures none { IsFalse result → changes.new ≡ changes.old }
+        ensures forgotten { IsFalse result
+            ↔ (from < forgotten K.kept (length (changes_of seat.new.seen))) }
+    {
+        let desk = enter(rt, &self.table.shared, &mut seat.place);
+        let is_kept = desk.copy_changes(from, changes);
+        leave(&self.table.shared, &mut seat.place, desk);
+        is_kept
     }
 
     /// What is shown of the name now, and a watch of what changes from now on. It waits for the seat's turn.

@@ -83,6 +83,8 @@ impl<P: Probe, K: Keep> Hall<P, K> {
         ensures kept { IfNone result (own_calls seat.new ≡ own_calls seat.old) }
         ensures shows { IfSome result (λ effect. IfOk effect.result (λ reply.
             IsTrue effect.shows ↔ Shows seat.new.seen)) }
+        ensures placed { IfSome result (λ effect. IfOk effect.result (λ reply.
+            effect.at ≡ Some (length seat.new.seen - 1))) }
     {
         let number = seat.number;
         let shared = &self.table.shared;

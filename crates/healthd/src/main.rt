@@ -9,7 +9,7 @@ use commands::fault::Fault;
 use commands::run_options::{RunOptions, Source};
 use commands::supervisor::Supervisor;
 use commands::terminal::is_input_terminal;
-use commands::{ask, body, command, replay, run, serve, tell};
+use commands::{ask, body, command, history, replay, run, serve, status, tell};
 use control::is_one_line;
 use probe_core::{Depends, FnMaker, Maker, Manual, Probe, ProbeFn, Rule, Threshold};
 use std::alloc::AllocError;
@@ -77,6 +77,7 @@ where
     R: Input
         + Print
         + Eprint
+        + Env
         + Files
         + Clock
         + AllocGlobal
@@ -113,6 +114,7 @@ where
     R: Input
         + Print
         + Eprint
+        + Env
         + Files
         + Clock
         + AllocGlobal
@@ -130,6 +132,8 @@ where
         Some(("run", matches)) => return run_to_end(rt, &maker, supervisor, matches),
         Some(("ask", matches)) => return ask_server(rt, matches),
         Some(("tell", matches)) => return tell_server(rt, matches),
+        Some(("status", matches)) => return show_status(rt, matches),
+        Some(("history", matches)) => return show_history(rt, matches),
         _ => return Ok(ExitCode::from(REFUSED)),
     }
     Ok(ExitCode::SUCCESS)
@@ -205,6 +209,38 @@ where
     };
     match told {
         Ok(status) => Ok(ExitCode::from(status)),
+        Err(failure) => Ok(failed(rt, &failure)),
+    }
+}
+
+/// The command `status`, whose faults tell their cause.
+fn show_status<R>(rt: &R, matches: &ArgMatches<'_>) -> Result<ExitCode, Fault>
+where
+    R: Print + Eprint + Env + Clock + AllocGlobal + Net<Stream = TcpStream>,
+{
+    let Some(place) = tell::place_in(matches) else {
+        let text = matches.get_str("control").unwrap_or("");
+        return refuse(rt, &command::bad_status_place(rt.alloc(), text)?);
+    };
+    let form = status::form_in(rt, matches);
+    match status::run_status(rt, place, tell::timeout_in(matches), form) {
+        Ok(()) => Ok(ExitCode::SUCCESS),
+        Err(failure) => Ok(failed(rt, &failure)),
+    }
+}
+
+/// The command `history`, whose faults tell their cause.
+fn show_history<R>(rt: &R, matches: &ArgMatches<'_>) -> Result<ExitCode, Fault>
+where
+    R: Print + Eprint + Clock + AllocGlobal + Net<Stream = TcpStream>,
+{
+    let Some(place) = tell::place_in(matches) else {
+        let text = matches.get_str("control").unwrap_or("");
+        return refuse(rt, &command::bad_history_place(rt.alloc(), text)?);
+    };
+    let options = history::options_in(matches);
+    match history::run_history(rt, place, tell::timeout_in(matches), options) {
+        Ok(()) => Ok(ExitCode::SUCCESS),
         Err(failure) => Ok(failed(rt, &failure)),
     }
 }

@@ -86,14 +86,14 @@ one_stays (seat ∷ []) (now ∷ []) one same first = ap (λ (s : SeatState). s 
 one_stays (seat ∷ []) (now ∷ x ∷ xs) one same first = absurd (omega (arith, same))
 
 -- a seat of the first of two parts, and one of the second
-in_first : (terms : Terms) (names : List (List ℕ)) (control control' report report' : List SeatState) (k : ℕ) (other : SeatState) → SeatsHaveMet terms names control control' → k < length control
-    → MetLines terms names (get_or (control ++ report) k other) (get_or (control' ++ report') k other)
-in_first terms names control control' report report' k other met below =
+in_first : (kept : Option ℕ) (terms : Terms) (names : List (List ℕ)) (control control' report report' : List SeatState) (k : ℕ) (other : SeatState) → SeatsHaveMet kept terms names control control' → k < length control
+    → MetLines kept terms names (get_or (control ++ report) k other) (get_or (control' ++ report') k other)
+in_first kept terms names control control' report report' k other met below =
     rw (get_or_append_left control report other k below, get_or_append_left control' report' other k (omega (arith, below, met.count))) (met.each k other below)
 
-in_second : (terms mine : Terms) (names : List (List ℕ)) (control control' report report' : List SeatState) (k : ℕ) (other : SeatState) → SeatsHaveMet mine names control control'
-    → SeatsHaveMet terms names report report' → length control ≤ k → k < length control + length report → MetLines terms names (get_or (control ++ report) k other) (get_or (control' ++ report') k other)
-in_second terms mine names control control' report report' k other first met past below =
+in_second : (kept : Option ℕ) (terms mine : Terms) (names : List (List ℕ)) (control control' report report' : List SeatState) (k : ℕ) (other : SeatState) → SeatsHaveMet kept mine names control control'
+    → SeatsHaveMet kept terms names report report' → length control ≤ k → k < length control + length report → MetLines kept terms names (get_or (control ++ report) k other) (get_or (control' ++ report') k other)
+in_second kept terms mine names control control' report report' k other first met past below =
     rw (get_or-append_right control report (length control) k other refl past, get_or-append_right control' report' (length control) k other first.count past)
     (met.each (k - length control) other (omega (arith, past, below)))
 
@@ -102,7 +102,7 @@ pub seats_served : {P K : Type 0} (kept : Option ℕ) (watching watching_now : O
     (old new : List (SeatedLoop P K)) (loops controlled : ℕ) → length first ≡ 1 → length first' ≡ length first
     → ((other : SeatState) → IsWatchedBy kept watching watching_now (get_or first 0 other) (get_or first' 0 other))
     → length old ≡ loops → length new ≡ length old → length control ≡ controlled → HaveServed old new
-    → SeatsHaveMet (terms_by AllRights most) names control control' → SeatsHaveMet (terms_by Reports most) names report report'
+    → SeatsHaveMet kept (terms_by AllRights most) names control control' → SeatsHaveMet kept (terms_by Reports most) names report report'
     → SeatsHaveServed kept watching watching_now most names loops controlled (first ++ (map (λ seated. seated.seat) old ++ (control ++ report)))
     (first' ++ (map (λ seated. seated.seat) new ++ (control' ++ report')))
 seats_served {P} {K} kept watching watching_now most names first first' control control' report report' old new loops controlled one one' watched count same split served met reported =
@@ -125,11 +125,11 @@ seats_served {P} {K} kept watching watching_now most names first first' control 
           subst (λ (n : ℕ). HasLooked (get_or (first ++ (map seat old ++ rest)) n other) (get_or (first' ++ (map seat new ++ rest')) n other)) here
           (loops_looked first first' rest rest' old new one (one' ∙ one) same served (place - 1) other (omega (arith, least, most_of, count)));
       sessions = λ place other past within below.
-          rw (at place other past, at' place other past) (in_first (terms_by AllRights most) names control control' report report' (place - 1 - loops) other met (omega (arith, past, within, split)));
+          rw (at place other past, at' place other past) (in_first kept (terms_by AllRights most) names control control' report report' (place - 1 - loops) other met (omega (arith, past, within, split)));
       reports = λ place other past below.
           let behind_loops : loops < place = omega (arith, past) in
           rw (at place other behind_loops, at' place other behind_loops)
-          (in_second (terms_by Reports most) (terms_by AllRights most) names control control' report report' (place - 1 - loops) other met reported (omega (arith, past, split))
+          (in_second kept (terms_by Reports most) (terms_by AllRights most) names control control' report report' (place - 1 - loops) other met reported (omega (arith, past, split))
           (omega (arith, past, below, all, one, count, length-append control report)));
     }
 
@@ -204,8 +204,8 @@ ours_at kept watching watching_now most names hall loops controlled old new serv
 ours_at kept watching watching_now most names hall loops controlled old new served (suc place) other below was =
     ⊎_elim
     (λ past. ⊎_elim
-    (λ far. met_line_ours (terms_by Reports most) names hall (get_or old (suc place) other) (get_or new (suc place) other) (served.reports (suc place) other far below) was)
-    (λ near. met_line_ours (terms_by AllRights most) names hall (get_or old (suc place) other) (get_or new (suc place) other) (served.sessions (suc place) other past near below) was)
+    (λ far. met_line_ours kept (terms_by Reports most) names hall (get_or old (suc place) other) (get_or new (suc place) other) (served.reports (suc place) other far below) was)
+    (λ near. met_line_ours kept (terms_by AllRights most) names hall (get_or old (suc place) other) (get_or new (suc place) other) (served.sessions (suc place) other past near below) was)
     (cases_lt (loops + controlled) (suc place)))
     (λ most_of. looked_ours hall (get_or old (suc place) other) (get_or new (suc place) other) was (served.looked (suc place) other (omega arith) most_of))
     (cases_lt loops (suc place))

@@ -2,13 +2,14 @@
 use Rattle.std.proofs.Common.{◌≡◌, ℕ, List, get_or, sym, subst}
 use Rattle.std.specs.Prelude.{Bool, true, false, Option, None, Some}
 use Rattle.std.specs.declared.time.Instant.{Instant}
+use Rattle.hall.specs.Looking.{HasLooked}
 use Rattle.hall.specs.Seats.{HallState, SeatState, IsOf}
 use Rattle.hall.proofs.CarryingOut.{looked_ours}
 use Rattle.live_run.specs.Watched.{IsWatchedBy, guards_at, guards_in}
 use Rattle.live_run.specs.declared.watchdog_loop.WatchdogLoop.{WatchdogLoop}
 use Rattle.watchdog.specs.Falling.{HaveFailed, NoFail, OneMore, HasFallen, Down, WasRefused}
 use Rattle.watchdog.specs.Guard.{GuardState}
-use Rattle.watchdog.specs.Watching.{HasWatched, NoRound, OneRound, Misses, HaveStepped, NoStep, OneStep, IsStep, Stays, Follows, PassesBy, Skips, Waits, Expires, IsRefused}
+use Rattle.watchdog.specs.Watching.{HasWatched, HaveWished, NoWish, HasMissedRound, NoRound, OneRound, Misses, HaveStepped, NoStep, OneStep, IsStep, Stays, Follows, PassesBy, Skips, Waits, Expires, IsRefused}
 use Rattle.watchdog.proofs.FallLemmas.{carried_of}
 
 -- rounds behind rounds
@@ -19,6 +20,15 @@ watched_then kept first second third a b c early (OneRound guards between guards
     OneRound first between guards_now a before seat_now now (watched_then kept first second between a b before early late) round
 watched_then kept first second third a b c early (Misses guards between guards_now seat before seat_now late missed) =
     Misses first between guards_now a before seat_now (watched_then kept first second between a b before early late) missed
+
+-- a look is a round that had no clock to read, and in which nothing was expected anew
+pub watched_by_look : (kept : Option ℕ) (guards : List GuardState) (seat seat_now : SeatState) → HasLooked seat seat_now → HasWatched kept guards seat guards seat_now
+watched_by_look kept guards seat seat_now saw =
+    Misses guards guards guards seat seat seat_now (NoRound guards seat) (record { wished = NoWish guards; saw = saw })
+
+-- nothing was done
+pub unwatched : (kept : Option ℕ) (guards : List GuardState) (seat : SeatState) → HasWatched kept guards seat guards seat
+unwatched kept guards seat = NoRound guards seat
 
 -- the seat stays the hall's
 failed_ours : (kept : Option ℕ) (slot from : ℕ) (hall : HallState) (old new : SeatState) (made : Bool) → IsOf hall old

@@ -44,13 +44,13 @@ pub record SeatsHaveLooked (loops : ℕ) (old new : List SeatState) : Type 0 whe
 
 -- Loops have looked by so many seats behind the first. By each of the seats behind these, so many, lines of the control place's sessions
 -- were met, one after the other, and by each of those behind them lines of the report place's, over a catalogue of these names and a
--- history of at most so many entries. By the first seat a watchdog has kept watch, if there is one
+-- history of at most so many entries, of which so many are kept. By the first seat a watchdog has kept watch, if there is one
 pub record SeatsHaveServed (kept : Option ℕ) (watching watching_now : Option WatchdogLoop) (most : ℕ) (names : List (List ℕ)) (loops controlled : ℕ) (old new : List SeatState) : Type 0 where
   pub seats : length new ≡ length old
   pub first : (other : SeatState) → IsWatchedBy kept watching watching_now (slice_index_or old 0 other) (slice_index_or new 0 other)
   pub looked : (place : ℕ) (other : SeatState) → 1 ≤ place → place ≤ loops
       → HasLooked (slice_index_or old place other) (slice_index_or new place other)
   pub sessions : (place : ℕ) (other : SeatState) → loops < place → place ≤ loops + controlled → place < length old
-      → MetLines (terms_by All most) names (slice_index_or old place other) (slice_index_or new place other)
+      → MetLines kept (terms_by All most) names (slice_index_or old place other) (slice_index_or new place other)
   pub reports : (place : ℕ) (other : SeatState) → loops + controlled < place → place < length old
-      → MetLines (terms_by Reports most) names (slice_index_or old place other) (slice_index_or new place other)
+      → MetLines kept (terms_by Reports most) names (slice_index_or old place other) (slice_index_or new place other)

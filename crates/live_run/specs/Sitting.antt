@@ -17,9 +17,9 @@ pub record HasEnded (old new : Option ControlServer) : Type 0 where
   pub back : IsSome new ↔ IsSome old
   pub none_left : IfSome new (λ server. held_count (sessions_of server) ≡ 0)
 
--- By each of the seats lines were met, by these terms, one after the other; where there is nobody to hold sessions, nothing was done. Who
--- held sessions has come back
-pub record HasSat (terms : Terms) (names : List (List ℕ)) (server : Option ControlServer) (seats : List SeatState) (server_now : Option ControlServer) (seats_now : List SeatState) : Type 0 where
-  pub met : SeatsHaveMet terms names seats seats_now
+-- By each of the seats lines were met, by these terms, one after the other, so many entries being kept; where there is nobody to hold
+-- sessions, nothing was done. Who held sessions has come back
+pub record HasSat (kept : Option ℕ) (terms : Terms) (names : List (List ℕ)) (server : Option ControlServer) (seats : List SeatState) (server_now : Option ControlServer) (seats_now : List SeatState) : Type 0 where
+  pub met : SeatsHaveMet kept terms names seats seats_now
   pub still : IsNone server → seats_now ≡ seats
   pub ended : HasEnded server server_now

@@ -37,7 +37,7 @@ where
     requires terms { IfSome control.server (λ server. terms_of server ≡ terms_by Rights.All
         hall.now.most) }
     requires loops { All (λ seated. IsOf hall.now seated.seat) loops.items }
-    ensures sat { HasSat (terms_by Rights.All hall.now.most) hall.now.names control.server
+    ensures sat { HasSat K.kept (terms_by Rights.All hall.now.most) hall.now.names control.server
         control.seats.items
         result.0.server result.0.seats.items }
     ensures len { vec_len result.1 ≡ vec_len loops }
@@ -55,7 +55,7 @@ where
             requires seats { All (IsOf hall.now) control.seats.items }
             requires terms { IfSome control.server (λ server. terms_of server ≡ terms_by Rights.All
                 hall.now.most) }
-            ensures { HasSat (terms_by Rights.All hall.entry.now.most) hall.entry.now.names
+            ensures { HasSat K.kept (terms_by Rights.All hall.entry.now.most) hall.entry.now.names
                 control.server
                 control.seats.items result.server result.seats.items }
         { hold_sessions(rt, hall, maker, news, control, Rights::All) },

@@ -44,6 +44,7 @@
 #![tactic(auto)]
 
 mod beside;
+mod gauges;
 mod laws;
 mod ran;
 mod refused_line;
@@ -56,6 +57,7 @@ mod watchdog_loop;
 mod watched;
 mod whole_run;
 
+pub use gauges::Gauges;
 pub use laws::results_in_place;
 pub use ran::{Ran, SessionPlaces};
 pub use refused_line::{RefusedLine, first_refused};

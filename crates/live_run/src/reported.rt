@@ -38,10 +38,10 @@ where
     requires terms { IfSome control.server (λ server. terms_of server ≡ terms_by Rights.All
         hall.now.most) }
     requires loops { All (λ seated. IsOf hall.now seated.seat) loops.items }
-    ensures reported { HasSat (terms_by Rights.Reports hall.now.most) hall.now.names report.server
-        report.seats.items
+    ensures reported { HasSat K.kept (terms_by Rights.Reports hall.now.most) hall.now.names
+        report.server report.seats.items
         result.0.server result.0.seats.items }
-    ensures sat { HasSat (terms_by Rights.All hall.now.most) hall.now.names control.server
+    ensures sat { HasSat K.kept (terms_by Rights.All hall.now.most) hall.now.names control.server
         control.seats.items
         result.1.0.server result.1.0.seats.items }
     ensures len { vec_len result.1.1 ≡ vec_len loops }
@@ -61,8 +61,8 @@ where
             requires seats { All (IsOf hall.now) report.seats.items }
             requires terms { IfSome report.server (λ server. terms_of server ≡ terms_by
                 Rights.Reports hall.now.most) }
-            ensures { HasSat (terms_by Rights.Reports hall.entry.now.most) hall.entry.now.names
-                report.server
+            ensures { HasSat K.kept (terms_by Rights.Reports hall.entry.now.most)
+                hall.entry.now.names report.server
                 report.seats.items result.server result.seats.items }
         { hold_sessions(rt, hall, maker, news, report, Rights::Reports) },
         move || -> (Sitting<P, K>, Vec<SeatedLoop<P, K>>)
@@ -71,7 +71,7 @@ where
                 (λ server. terms_of server ≡ terms_by Rights.All controlled.hall.now.most) }
             requires loops { All (λ seated. IsOf controlled.hall.now seated.seat)
                 controlled.loops.items }
-            ensures sat { HasSat (terms_by Rights.All controlled.entry.hall.now.most)
+            ensures sat { HasSat K.kept (terms_by Rights.All controlled.entry.hall.now.most)
                 controlled.entry.hall.now.names
                 controlled.entry.control.server controlled.entry.control.seats.items result.0.server result.0.seats.items }
             ensures len { vec_len result.1 ≡ vec_len controlled.entry.loops }
@@ -108,7 +108,7 @@ where
         requires terms { IfSome self.control.server (λ server. terms_of server ≡ terms_by
             Rights.All self.hall.now.most) }
         requires loops { All (λ seated. IsOf self.hall.now seated.seat) self.loops.items }
-        ensures sat { HasSat (terms_by Rights.All self.entry.hall.now.most)
+        ensures sat { HasSat K.kept (terms_by Rights.All self.entry.hall.now.most)
             self.entry.hall.now.names
             self.entry.control.server self.entry.control.seats.items result.0.server result.0.seats.items }
         ensures len { vec_len result.1 ≡ vec_len self.entry.loops }

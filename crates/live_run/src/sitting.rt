@@ -34,7 +34,7 @@ where
     requires seats { All (IsOf hall.now) sitting.seats.items }
     requires terms { IfSome sitting.server (λ server. terms_of server ≡ terms_by rights
         hall.now.most) }
-    ensures { HasSat (terms_by rights hall.now.most) hall.now.names sitting.server
+    ensures { HasSat K.kept (terms_by rights hall.now.most) hall.now.names sitting.server
         sitting.seats.items
         result.server result.seats.items }
 {
@@ -60,7 +60,7 @@ fn hold_at<R, P: Probe, K: Keep, M: Maker<P>>(
 where
     R: Wait + Clock,
     requires seats { All (IsOf hall.now) seats.items }
-    ensures { HasSat (terms_of server) hall.now.names (Some server) seats.items result.server
+    ensures { HasSat K.kept (terms_of server) hall.now.names (Some server) seats.items result.server
         result.seats.items }
 {
     let context = Context {

@@ -1,6 +1,8 @@
 //! The thread of a watchdog.
 
+use crate::gauges::Gauges;
 use desk_core::Keep;
+use diary::Diary;
 use hall::{Hall, Seat};
 use live_server::News;
 use mio::{Events, Poll, Token, Waker};
@@ -18,10 +20,21 @@ const WAKER: Token = Token(0);
 /// How many milliseconds a round is put off where the system has no clock or no poll for it.
 const RETRY_MILLIS: u64 = 100;
 
-/// Lets a watchdog have its rounds until all is to end.
+/// How many milliseconds the next round may be away while a diary is kept, so that its lines come soon.
+const TELLING_MILLIS: u64 = 50;
+
+/// A diary, and what it is told of how much the server holds.
+#[derive(Drop)]
+struct Telling {
+    diary: Diary,
+    gauges: Gauges,
+}
+
+/// Lets a watchdog have its rounds until all is to end, and tells a diary, if there is one, what has come about.
 #[derive(Drop)]
 pub struct WatchdogLoop {
     watchdog: Watchdog,
+    telling: Option<Telling>,
     poll: Poll,
     events: Events,
 }
@@ -38,9 +51,20 @@ impl WatchdogLoop {
     {
         Ok(WatchdogLoop {
             watchdog,
+            telling: None,
             poll: Poll::new(rt)?,
             events: Events::with_capacity(alloc, 1)?,
         })
+    }
+
+    /// The same, with a diary that follows the registry by the watchdog's seat, and the server by its gauges.
+    pub fn with_diary(self, diary: Diary, gauges: Gauges) -> WatchdogLoop
+        ensures { guards_in result ≡ guards_in self }
+    {
+        WatchdogLoop {
+            telling: Some(Telling { diary, gauges }),
+            ..self
+        }
     }
 
     /// What wakes it while it waits: for an expectation that is set, and at the end.
@@ -48,8 +72,25 @@ impl WatchdogLoop {
         Waker::new(self.poll.registry(), WAKER)
     }
 
-    /// Has rounds until all is to end.
+    /// Has rounds until all is to end, and tells the diary that.
     pub(crate) fn run<R: Wait + Clock, P: Probe, K: Keep>(
+        &mut self,
+        rt: &R,
+        hall: &Hall<P, K>,
+        seat: &mut Seat<P, K>,
+        news: &News,
+    )
+        requires ours { IsOf hall.now seat.old }
+        ensures watched { HasWatched K.kept (guards_in self.old) seat.old (guards_in self.new)
+            seat.new }
+        ensures ours { IsOf hall.now seat.new }
+    {
+        self.rounds(rt, hall, seat, news);
+        self.tell_end(rt, hall, seat);
+    }
+
+    /// Has rounds until all is to end.
+    fn rounds<R: Wait + Clock, P: Probe, K: Keep>(
         &mut self,
         rt: &R,
         hall: &Hall<P, K>,
@@ -72,8 +113,25 @@ impl WatchdogLoop {
         }
     }
 
-    /// A round, and how long the next may be away. Loops are told where a status changed.
+    /// A round, and how long the next may be away. Loops are told where a status changed, and the diary what has come about.
     fn round<R: Wait + Clock, P: Probe, K: Keep>(
+        &mut self,
+        rt: &R,
+        hall: &Hall<P, K>,
+        seat: &mut Seat<P, K>,
+        news: &News,
+    ) -> Duration
+        requires ours { IsOf hall.now seat.old }
+        ensures watched { HasWatched K.kept (guards_in self.old) seat.old (guards_in self.new)
+            seat.new }
+        ensures ours { IsOf hall.now seat.new }
+    {
+        let patience = self.watch(rt, hall, seat, news);
+        patience.min(self.tell(rt, hall, seat))
+    }
+
+    /// A round of the watchdog, and how long its next may be away. Loops are told where a status changed.
+    fn watch<R: Wait + Clock, P: Probe, K: Keep>(
         &mut self,
         rt: &R,
         hall: &Hall<P, K>,
@@ -92,5 +150,59 @@ impl WatchdogLoop {
             news.change();
         }
         self.watchdog.patience(round.at)
+    }
+
+    /// Tells the diary, if there is one, what has come about, and how long it can be left alone then.
+    #[tactic(auto, using(crate::proofs::WatchLemmas::watched_by_look, crate::proofs::WatchLemmas::unwatched))]
+    fn tell<R: Wait + Clock, P: Probe, K: Keep>(
+        &mut self,
+        rt: &R,
+        hall: &Hall<P, K>,
+        seat: &mut Seat<P, K>,
+    ) -> Duration
+        requires ours { IsOf hall.now seat.old }
+        ensures watched { HasWatched K.kept (guards_in self.old) seat.old (guards_in self.new)
+            seat.new }
+        ensures ours { IsOf hall.now seat.new }
+    {
+        match &mut self.telling {
+            Some(telling) => {
+                let held = telling.gauges.held();
+                telling.diary.follow(rt, rt, hall, seat, held);
+                patience_of(&telling.diary)
+            }
+            None => Duration::MAX,
+        }
+    }
+
+    /// Tells the diary, if there is one, that all ended.
+    #[tactic(auto, using(crate::proofs::WatchLemmas::watched_by_look, crate::proofs::WatchLemmas::unwatched))]
+    fn tell_end<R: Wait + Clock, P: Probe, K: Keep>(
+        &mut self,
+        rt: &R,
+        hall: &Hall<P, K>,
+        seat: &mut Seat<P, K>,
+    )
+        requires ours { IsOf hall.now seat.old }
+        ensures watched { HasWatched K.kept (guards_in self.old) seat.old (guards_in self.new)
+            seat.new }
+        ensures ours { IsOf hall.now seat.new }
+    {
+        match &mut self.telling {
+            Some(telling) => {
+                let held = telling.gauges.held();
+                telling.diary.end(rt, rt, hall, seat, held);
+            }
+            None => {}
+        }
+    }
+}
+
+/// How long a diary can be left alone.
+fn patience_of(diary: &Diary) -> Duration {
+    if diary.has_more() {
+        Duration::from_millis(0)
+    } else {
+        Duration::from_millis(TELLING_MILLIS)
     }
 }

@@ -84,10 +84,10 @@ where
     requires loops { All (λ seated. IsOf hall.now seated.seat) loops.items }
     ensures watched { HasKeptWatch K.kept watch.watchdog watch.seats result.0.watchdog
         result.0.seats }
-    ensures reported { HasSat (terms_by Rights.Reports hall.now.most) hall.now.names report.server
-        report.seats.items
+    ensures reported { HasSat K.kept (terms_by Rights.Reports hall.now.most) hall.now.names
+        report.server report.seats.items
         result.1.0.server result.1.0.seats.items }
-    ensures sat { HasSat (terms_by Rights.All hall.now.most) hall.now.names control.server
+    ensures sat { HasSat K.kept (terms_by Rights.All hall.now.most) hall.now.names control.server
         control.seats.items
         result.1.1.0.server result.1.1.0.seats.items }
     ensures len { vec_len result.1.1.1 ≡ vec_len loops }
@@ -119,10 +119,10 @@ where
                 (λ server. terms_of server ≡ terms_by Rights.All reported.hall.now.most) }
             requires loops { All (λ seated. IsOf reported.hall.now seated.seat)
                 reported.loops.items }
-            ensures reported { HasSat (terms_by Rights.Reports reported.entry.hall.now.most)
+            ensures reported { HasSat K.kept (terms_by Rights.Reports reported.entry.hall.now.most)
                 reported.entry.hall.now.names
                 reported.entry.report.server reported.entry.report.seats.items result.0.server result.0.seats.items }
-            ensures sat { HasSat (terms_by Rights.All reported.entry.hall.now.most)
+            ensures sat { HasSat K.kept (terms_by Rights.All reported.entry.hall.now.most)
                 reported.entry.hall.now.names
                 reported.entry.control.server reported.entry.control.seats.items result.1.0.server result.1.0.seats.items }
             ensures len { vec_len result.1.1 ≡ vec_len reported.entry.loops }
@@ -163,10 +163,10 @@ where
         requires terms { IfSome self.control.server (λ server. terms_of server ≡ terms_by
             Rights.All self.hall.now.most) }
         requires loops { All (λ seated. IsOf self.hall.now seated.seat) self.loops.items }
-        ensures reported { HasSat (terms_by Rights.Reports self.entry.hall.now.most)
+        ensures reported { HasSat K.kept (terms_by Rights.Reports self.entry.hall.now.most)
             self.entry.hall.now.names
             self.entry.report.server self.entry.report.seats.items result.0.server result.0.seats.items }
-        ensures sat { HasSat (terms_by Rights.All self.entry.hall.now.most)
+        ensures sat { HasSat K.kept (terms_by Rights.All self.entry.hall.now.most)
             self.entry.hall.now.names
             self.entry.control.server self.entry.control.seats.items result.1.0.server result.1.0.seats.items }
         ensures len { vec_len result.1.1 ≡ vec_len self.entry.loops }

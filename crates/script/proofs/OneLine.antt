@@ -11,8 +11,10 @@ use Rattle.desk_core.specs.declared.order.Order.{Order as OrderOf}
 use Rattle.script.specs.declared.line.Line.{Line}
 use Rattle.script.specs.declared.line.Line.TheVariants.{Register, Order, Step}
 use Rattle.script.specs.declared.expectation.Expectation.{Expectation}
+use Rattle.script.specs.declared.question.Question.{Question}
+use Rattle.script.specs.declared.question.Question.TheVariants.{Entry}
 use Rattle.script.specs.Question.{IsQuestion, IsQuestionText}
-use Rattle.script.specs.Question.IsQuestion.{WhyLine}
+use Rattle.script.specs.Question.IsQuestion.{WhyLine, StatusLine, EntryLine}
 use Rattle.script.specs.Expectation.{IsExpectation, IsExpectationText, expects}
 use Rattle.script.specs.Expectation.IsExpectation.{ExpectLine}
 use Rattle.script.specs.Line.{IsMaskOf, IsThreshold, IsRule, IsOrder, IsLine, IsOrderText, IsLineText}
@@ -106,26 +108,32 @@ pub line_or_expectation : (names : List (List ℕ)) (text : List ℕ) (line : Li
 line_or_expectation names text line expectation is_line is =
     expects_no_line names is_line.words expectation line (subst (λ (words : List (List ℕ)). IsExpectation words expectation) (is.are.parted ∙ sym is_line.are.parted) is.is) is_line.is
 
--- words ask about one name
-one_question : (words : List (List ℕ)) (a b : List ℕ) → IsQuestion words a → IsQuestion words b → a ≡ b
+-- words ask one question
+one_question : (words : List (List ℕ)) (a b : Question) → IsQuestion words a → IsQuestion words b → a ≡ b
 one_question words a b (WhyLine word) (WhyLine same) = refl
+one_question words a b (StatusLine word) (StatusLine same) = refl
+one_question words a b (EntryLine word m is_m) (EntryLine same n is_n) = ap Entry (one_number word m n is_m is_n)
 
-pub one_question_text : (text a b : List ℕ) → IsQuestionText text a → IsQuestionText text b → a ≡ b
+pub one_question_text : (text : List ℕ) (a b : Question) → IsQuestionText text a → IsQuestionText text b → a ≡ b
 one_question_text text a b is_a is_b =
     one_question is_a.words a b is_a.is (subst (λ (words : List (List ℕ)). IsQuestion words b) (is_b.are.parted ∙ sym is_a.are.parted) is_b.is)
 
--- words that ask about a name give no line, and no expectation
-asks_no_line : (names words : List (List ℕ)) (name : List ℕ) (line : Line) → IsQuestion words name → ¬ IsLine names words line
-asks_no_line names words name line (WhyLine word) (OrderLine all order is_order) = elim is_order [ ]
+-- words that ask a question give no line, and no expectation
+asks_no_line : (names words : List (List ℕ)) (question : Question) (line : Line) → IsQuestion words question → ¬ IsLine names words line
+asks_no_line names words question line (WhyLine word) (OrderLine all order is_order) = elim is_order [ ]
+asks_no_line names words question line (StatusLine word) (OrderLine all order is_order) = elim is_order [ ]
+asks_no_line names words question line (EntryLine word place is) (OrderLine all order is_order) = elim is_order [ ]
 
-pub line_or_question : (names : List (List ℕ)) (text : List ℕ) (line : Line) (name : List ℕ) → IsLineText names text line → ¬ IsQuestionText text name
-line_or_question names text line name is_line is =
-    asks_no_line names is_line.words name line (subst (λ (words : List (List ℕ)). IsQuestion words name) (is.are.parted ∙ sym is_line.are.parted) is.is) is_line.is
+pub line_or_question : (names : List (List ℕ)) (text : List ℕ) (line : Line) (question : Question) → IsLineText names text line → ¬ IsQuestionText text question
+line_or_question names text line question is_line is =
+    asks_no_line names is_line.words question line (subst (λ (words : List (List ℕ)). IsQuestion words question) (is.are.parted ∙ sym is_line.are.parted) is.is) is_line.is
 
-asks_no_expectation : (words : List (List ℕ)) (name : List ℕ) (expectation : Expectation) → IsQuestion words name → ¬ IsExpectation words expectation
-asks_no_expectation words name expectation (WhyLine word) is = elim is [ ]
+asks_no_expectation : (words : List (List ℕ)) (question : Question) (expectation : Expectation) → IsQuestion words question → ¬ IsExpectation words expectation
+asks_no_expectation words question expectation (WhyLine word) is = elim is [ ]
+asks_no_expectation words question expectation (StatusLine word) is = elim is [ ]
+asks_no_expectation words question expectation (EntryLine word place is_place) is = elim is [ ]
 
-pub expectation_or_question : (text : List ℕ) (expectation : Expectation) (name : List ℕ) → IsExpectationText text expectation → ¬ IsQuestionText text name
-expectation_or_question text expectation name is_expectation is =
-    asks_no_expectation is_expectation.words name expectation
-    (subst (λ (words : List (List ℕ)). IsQuestion words name) (is.are.parted ∙ sym is_expectation.are.parted) is.is) is_expectation.is
+pub expectation_or_question : (text : List ℕ) (expectation : Expectation) (question : Question) → IsExpectationText text expectation → ¬ IsQuestionText text question
+expectation_or_question text expectation question is_expectation is =
+    asks_no_expectation is_expectation.words question expectation
+    (subst (λ (words : List (List ℕ)). IsQuestion words question) (is.are.parted ∙ sym is_expectation.are.parted) is.is) is_expectation.is

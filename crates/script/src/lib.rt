@@ -62,7 +62,7 @@ pub use explanation::explain;
 pub use laws::{changes_in_place, one_expectation, one_script};
 pub use line::{Line, read_line};
 pub use probes::{probe_for, probes_for};
-pub use question::read_question;
+pub use question::{Question, read_question};
 pub use reading::read_script;
 pub use replay::run_script;
 pub use script::{Mode, Script};

@@ -4,13 +4,25 @@ ghost use Rattle.script.specs.Reading.{IsReading};
 ghost use Rattle.script.specs.TextLines.{texts};
 
 use crate::name::read_name;
+use crate::number::number_of;
 use crate::words::words_of;
 use desk_core::Name;
 use std::alloc::{AllocError, Global};
 
-/// The name of the service that a text asks about by `why`.
-pub fn read_question(alloc: Global, text: &str) -> Result<Option<Name>, AllocError>
-    ensures { IfOk result (λ name. IsReading IsQuestionText text.now name) }
+/// What a line of a session asks about the history.
+#[derive(Debug, Drop)]
+pub enum Question {
+    /// Why a service has its status.
+    Why(Name),
+    /// The same, with since when and when it was reported last.
+    Status(Name),
+    /// What the entry at a place of the journal is.
+    Entry(u32),
+}
+
+/// The question that a text asks.
+pub fn read_question(alloc: Global, text: &str) -> Result<Option<Question>, AllocError>
+    ensures { IfOk result (λ question. IsReading IsQuestionText text.now question) }
 {
     match words_of(alloc, text)? {
         Some(words) => question_of(alloc, &words),
@@ -18,12 +30,17 @@ pub fn read_question(alloc: Global, text: &str) -> Result<Option<Name>, AllocErr
     }
 }
 
-/// The name that words ask about.
-fn question_of(alloc: Global, words: &[&str]) -> Result<Option<Name>, AllocError>
-    ensures { IfOk result (λ name. IsReading IsQuestion (texts words.now) name) }
+/// The question that words ask.
+fn question_of(alloc: Global, words: &[&str]) -> Result<Option<Question>, AllocError>
+    ensures { IfOk result (λ question. IsReading IsQuestion (texts words.now) question) }
 {
     match words {
-        ["why", name] => Ok(Some(read_name(alloc, name)?)),
+        ["why", name] => Ok(Some(Question::Why(read_name(alloc, name)?))),
+        ["status", name] => Ok(Some(Question::Status(read_name(alloc, name)?))),
+        ["entry", word] => match number_of(word) {
+            Some(place) => Ok(Some(Question::Entry(place))),
+            None => Ok(None),
+        },
         _ => Ok(None),
     }
 }

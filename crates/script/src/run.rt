@@ -97,7 +97,7 @@ impl<P: Probe> Run<P> {
 }
 
 impl<P: Probe> Registrar<P> for Run<P> {
-    ghost use Rattle.std.specs.Prelude.{◌≡◌, ◌↔◌, IfSome, IfOk, IsErr, IsTrue, IsFalse};
+    ghost use Rattle.std.specs.Prelude.{◌≡◌, ◌-◌, ◌↔◌, Some, IfSome, IfOk, IsErr, IsTrue, IsFalse, length};
     ghost use Rattle.std.specs.Option.{option_map};
     ghost use Rattle.desk_core.specs.Changes.{Shows};
     ghost use Rattle.desk_core.specs.Mutation.{rule_of};
@@ -120,6 +120,8 @@ impl<P: Probe> Registrar<P> for Run<P> {
         ensures shows { IfOk result.result (λ reply.
             IsTrue result.shows ↔ Shows self.new.entries) }
         ensures refused { IsErr result.result → IsFalse result.shows }
+        ensures placed { IfOk result.result (λ reply.
+            result.at ≡ Some (length self.new.entries - 1)) }
     {
         let Some(call) = call else {
             return Effect::of_refusal(Refusal::NotListed);

@@ -13,7 +13,7 @@ struct Registry<P: Probe> {
 }
 
 impl<P: Probe> Registrar<P> for Registry<P> {
-    ghost use Rattle.std.specs.Prelude.{◌≡◌, ◌↔◌, IfSome, IfOk, IsErr, IsTrue, IsFalse};
+    ghost use Rattle.std.specs.Prelude.{◌≡◌, ◌-◌, ◌↔◌, Some, IfSome, IfOk, IsErr, IsTrue, IsFalse, length};
     ghost use Rattle.std.specs.Option.{option_map};
     ghost use Rattle.desk_core.specs.Changes.{Shows};
     ghost use Rattle.desk_core.specs.Mutation.{rule_of};
@@ -35,6 +35,8 @@ impl<P: Probe> Registrar<P> for Registry<P> {
         ensures shows { IfOk result.result (λ reply.
             IsTrue result.shows ↔ Shows (past self.new.desk.journal)) }
         ensures refused { IsErr result.result → IsFalse result.shows }
+        ensures placed { IfOk result.result (λ reply.
+            result.at ≡ Some (length (past self.new.desk.journal) - 1)) }
     {
         let Some(call) = call else {
             return Effect::of_refusal(Refusal::NotListed);

@@ -75,9 +75,3 @@ pub looked_more : (now : Instant) (guards : List GuardState) (index : ℕ) (guar
     → All (WasLooked now) (take (index + 1) (set guards index guard))
 looked_more now guards index guard below before is =
     subst (All (WasLooked now)) (sym (take_more_set guards index guard below)) (All-append (WasLooked now) (take index guards) (guard ∷ []) before (All-cons (WasLooked now) guard [] is (λ k d below. absurd (omega (arith, below)))))
-
--- entries that were copied are the next so many of the journal
-pub next_so_many : {T : Type 0} (count : ℕ) (items : List T) → take count items ≡ take (length (take count items)) items
-next_so_many zero items = refl
-next_so_many (suc count) [] = refl
-next_so_many (suc count) (item ∷ items) = ap (λ l. item ∷ l) (next_so_many count items)

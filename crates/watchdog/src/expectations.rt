@@ -1,28 +1,58 @@
 use crate::wish::{MAX_SECONDS, Wish};
+use chronicle::Chronicle;
 use desk_core::Slot;
 use std::alloc::{AllocError, Global};
 use std::sync::atomic::{AtomicU64, Ordering};
 
-/// What is expected of services, which sessions say and the watchdog takes over, and how often it has brought one down.
+/// What is expected of services, which sessions say and the watchdog takes over, and how often it has brought one down; and the
+/// chronicle in which both take down when they make entries.
 ///
 /// Contracts see nothing of it: threads share it.
 #[derive(Drop)]
 pub struct Expectations {
     wishes: Vec<AtomicU64>,
+    /// For each slot how often it has to be heard, in seconds, by the watchdog's newest round; 0 where it is not expected.
+    periods: Vec<AtomicU64>,
     expired: AtomicU64,
+    chronicle: Chronicle,
 }
 
 impl Expectations {
     /// Nothing is expected yet.
     pub fn new(alloc: Global) -> Result<Expectations, AllocError> {
-        let mut wishes = Vec::with_capacity(alloc, usize::from(Slot::COUNT))?;
-        for _ in 0..Slot::COUNT {
-            wishes.push(AtomicU64::new(0))?;
-        }
         Ok(Expectations {
-            wishes,
+            wishes: zeros(alloc)?,
+            periods: zeros(alloc)?,
             expired: AtomicU64::new(0),
+            chronicle: Chronicle::new(alloc)?,
         })
+    }
+
+    /// Where it is taken down when entries are made, and by whom.
+    pub fn chronicle(&self) -> &Chronicle {
+        &self.chronicle
+    }
+
+    /// At least every how many seconds the service has to be heard, if it is expected to be: what was said of it since the watchdog's
+    /// newest round, or what that had.
+    pub fn seconds(&self, slot: Slot) -> Option<u32> {
+        let index = usize::from(slot.number());
+        let said = self.wishes.get(index)?.load(Ordering::SeqCst);
+        let seconds = match Wish::of_word(said) {
+            Some(wish) => wish.seconds,
+            None => {
+                let period = self.periods.get(index)?.load(Ordering::SeqCst);
+                u32::try_from(period).unwrap_or(u32::MAX)
+            }
+        };
+        if seconds == 0 { None } else { Some(seconds) }
+    }
+
+    /// The watchdog expects the service at least every so many seconds now, or no more.
+    pub(crate) fn follow(&self, slot: Slot, seconds: Option<u32>) {
+        if let Some(word) = self.periods.get(usize::from(slot.number())) {
+            word.store(u64::from(seconds.unwrap_or(0)), Ordering::SeqCst);
+        }
     }
 
     /// From now on this is expected of the service, instead of what was expected before.
@@ -49,4 +79,13 @@ impl Expectations {
     pub fn expired(&self) -> u64 {
         self.expired.load(Ordering::SeqCst)
     }
+}
+
+/// A zero for each slot.
+fn zeros(alloc: Global) -> Result<Vec<AtomicU64>, AllocError> {
+    let mut words = Vec::with_capacity(alloc, usize::from(Slot::COUNT))?;
+    for _ in 0..Slot::COUNT {
+        words.push(AtomicU64::new(0))?;
+    }
+    Ok(words)
 }

@@ -4,6 +4,7 @@ ghost use Rattle.std.specs.Prelude.{◌≡◌};
 ghost use Rattle.hall.specs.Seats.{IsOf};
 ghost use Rattle.watchdog.specs.Falling.{HasFallen};
 
+use crate::scribe::Scribe;
 use desk_core::{Keep, Slot};
 use hall::{Hall, Seat};
 use probe_core::Probe;
@@ -28,6 +29,7 @@ pub(crate) fn bring_down<R: Wait, P: Probe, K: Keep>(
     seat: &mut Seat<P, K>,
     slot: Slot,
     from: u64,
+    scribe: Scribe<'_>,
 ) -> Fall
     requires ours { IsOf hall.now seat.old }
     ensures fell { HasFallen K.kept slot from seat.old seat.new result.made result.is_refused }
@@ -43,9 +45,11 @@ pub(crate) fn bring_down<R: Wait, P: Probe, K: Keep>(
             return fall;
         };
         if effect.result.is_err() {
+            scribe.note_refusal(effect.result);
             fall.is_refused = true;
             return fall;
         }
+        scribe.note(effect.at);
         fall.made = true;
         fall.shows |= effect.shows;
     }

@@ -2,9 +2,7 @@
 
 ghost use Rattle.hall.specs.Looking.{HasLooked};
 ghost use Rattle.hall.specs.Seats.{IsOf};
-ghost use Rattle.std.specs.Prelude.{◌≡◌, ◌<◌, length, take, drop, IsTrue, IsFalse};
-ghost use Rattle.desk_core.specs.Past.{past};
-ghost use Rattle.tail.specs.Tail.{forgotten};
+ghost use Rattle.std.specs.Prelude.{◌≡◌, length};
 ghost use Rattle.watchdog.specs.Found.{IsFound};
 
 use crate::guard::Guard;
@@ -14,7 +12,7 @@ use probe_core::Probe;
 use std::sync::Wait;
 
 /// Where guards may go on to.
-#[derive(Clone, Copy, Debug, PartialEq, Eq)]
+#[derive(Clone, Copy)]
 pub enum Found {
     /// Nothing is expected: to the end of the journal.
     Asleep { end: u64 },

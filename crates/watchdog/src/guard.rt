@@ -4,6 +4,7 @@ ghost use Rattle.std.specs.Prelude.{◌≡◌};
 ghost use Rattle.watchdog.specs.Guard.{met_by, met_in};
 
 use crate::falling::{Fall, bring_down};
+use crate::scribe::Scribe;
 use crate::wish::Wish;
 use desk_core::{Entry, Keep, Slot};
 use hall::{Hall, Seat};
@@ -76,6 +77,11 @@ impl Guard {
         self.wish.is_some() || self.timer.period().is_some()
     }
 
+    /// At least every how many seconds the service has to be heard, if it is expected to be.
+    pub(crate) fn period(&self) -> Option<u32> {
+        self.timer.period()
+    }
+
     /// From which reading on a look may find the service overdue, if it may.
     pub(crate) fn due(&self) -> Option<Instant>
         ensures { option_map instant_nanos result ≡ due_at self.now.met }
@@ -137,6 +143,7 @@ impl Guard {
         hall: &Hall<P, K>,
         seat: &mut Seat<P, K>,
         now: Instant,
+        scribe: Scribe<'_>,
     ) -> Option<Fall>
         requires ours { IsOf hall.now seat.old }
         ensures early { IfNone result (is_overdue self.old.met (instant_nanos now) ≡ false) }
@@ -153,7 +160,7 @@ impl Guard {
         if !self.timer.look(now) {
             return None;
         }
-        let fall = bring_down(rt, hall, seat, self.slot, self.place);
+        let fall = bring_down(rt, hall, seat, self.slot, self.place, scribe);
         if fall.is_refused {
             self.timer.refuse(now);
         }

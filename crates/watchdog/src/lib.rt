@@ -40,6 +40,7 @@ mod falling;
 mod found;
 mod guard;
 mod laws;
+mod scribe;
 mod steps;
 mod watchdog;
 mod wish;

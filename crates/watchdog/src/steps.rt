@@ -10,6 +10,7 @@ ghost use Rattle.watchdog.specs.Watching.{HaveStepped, HaveWished, IsStep, WasLo
 use crate::expectations::Expectations;
 use crate::found::Found;
 use crate::guard::Guard;
+use crate::scribe::Scribe;
 use desk_core::{Entry, Keep};
 use hall::{Hall, Seat};
 use probe_core::Probe;
@@ -87,6 +88,7 @@ pub(crate) fn look_all<R: Wait, P: Probe, K: Keep>(
     guards: &mut Vec<Guard>,
     expectations: &Expectations,
     now: Instant,
+    micros: u64,
 ) -> bool
     requires ours { IsOf hall.now seat.old }
     ensures steps { HaveStepped K.kept now guards.old.items seat.old guards.new.items
@@ -96,7 +98,15 @@ pub(crate) fn look_all<R: Wait, P: Probe, K: Keep>(
 {
     let mut shows = false;
     for index in 0..guards.len() {
-        shows |= look_one(rt, hall, seat, &mut guards[index], expectations, now);
+        shows |= look_one(
+            rt,
+            hall,
+            seat,
+            &mut guards[index],
+            expectations,
+            now,
+            micros,
+        );
     }
     shows
 }
@@ -108,17 +118,29 @@ fn look_one<R: Wait, P: Probe, K: Keep>(
     guard: &mut Guard,
     expectations: &Expectations,
     now: Instant,
+    micros: u64,
 ) -> bool
     requires ours { IsOf hall.now seat.old }
     ensures step { IsStep K.kept now guard.old seat.old guard.new seat.new }
     ensures looked { WasLooked now guard.new }
     ensures ours { IsOf hall.now seat.new }
 {
-    let Some(fall) = guard.look(rt, hall, seat, now) else {
+    let scribe = Scribe {
+        chronicle: expectations.chronicle(),
+        micros,
+    };
+    let Some(fall) = guard.look(rt, hall, seat, now, scribe) else {
         return false;
     };
     if fall.made {
         expectations.count();
     }
     fall.shows
+}
+
+/// Tells those who ask how often services have to be heard.
+pub(crate) fn tell_periods(guards: &[Guard], expectations: &Expectations) {
+    for guard in guards {
+        expectations.follow(guard.slot(), guard.period());
+    }
 }

@@ -3,7 +3,8 @@
 use crate::expectations::Expectations;
 use crate::found::{Found, find, is_any_awake};
 use crate::guard::Guard;
-use crate::steps::{go_on_all, look_all, take_wishes};
+use crate::steps::{go_on_all, look_all, take_wishes, tell_periods};
+use chronicle::wall_micros;
 use desk_core::{Entry, Keep, Slot};
 use hall::{Hall, Seat};
 use probe_core::Probe;
@@ -113,7 +114,9 @@ impl Watchdog {
         *has_more = entries.len() >= BATCH || matches!(found, Found::Forgotten { .. });
         let at = Instant::now(clock)?;
         go_on_all(seat.number(), guards, found, entries, at);
-        let shows = look_all(rt, hall, seat, guards, expectations, at);
+        tell_periods(guards, expectations);
+        let micros = wall_micros(clock);
+        let shows = look_all(rt, hall, seat, guards, expectations, at, micros);
         Ok(Round { at, shows })
     }
 }

@@ -4,6 +4,8 @@ use probe_core::Start;
 /// What a test does with the service that is watched, or looks at.
 #[derive(Clone, Copy, Debug)]
 pub(crate) enum Step {
+    /// From here on, the service of this name.
+    Of(&'static str),
     Register(u32, u32, Start),
     Retire,
     Pass,
@@ -25,6 +27,10 @@ pub(crate) enum Step {
     /// How often it brought a service down.
     Expired(u64),
     Status(Option<Serving>),
+    /// At least every how many seconds the service has to be heard, if it is expected to be.
+    Seconds(Option<u32>),
+    /// Whether the entry at this place is taken down as an expiry.
+    IsExpiry(u32, bool),
     /// How many milliseconds the next round may be away from this reading.
     Patience(u64, u64),
 }
@@ -112,6 +118,58 @@ pub(crate) const MANY: &[Step] = &[
     Step::Patience(200, 50),
     Step::Round(1_199, false),
     Step::Round(1_200, true),
+];
+
+/// Two services that are expected at once, each in its own time.
+pub(crate) const TWO: &[Step] = &[
+    Step::Of("a"),
+    REGISTER,
+    Step::Expect(2),
+    Step::Of("o"),
+    REGISTER,
+    Step::Expect(1),
+    Step::Round(0, false),
+    Step::Patience(0, 50),
+    Step::Patience(990, 10),
+    Step::ExpectBehind(1, 1),
+    Step::Of("a"),
+    Step::Pass,
+    Step::Round(500, false),
+    Step::Round(1_499, false),
+    Step::Round(1_500, true),
+    UP,
+    Step::Of("o"),
+    DOWN,
+    Step::Round(2_499, false),
+    Step::Round(2_500, true),
+    Step::Of("a"),
+    DOWN,
+    Step::Fails(6),
+    Step::Expired(2),
+];
+
+/// What others may ask: how often the service has to be heard, and which entries were made since it was not.
+pub(crate) const TOLD: &[Step] = &[
+    REGISTER,
+    Step::Seconds(None),
+    Step::Expect(2),
+    Step::Seconds(Some(2)),
+    Step::Round(0, false),
+    Step::Seconds(Some(2)),
+    Step::Expect(1),
+    Step::Seconds(Some(1)),
+    Step::Round(100, false),
+    Step::Seconds(Some(1)),
+    Step::Round(1_100, true),
+    Step::IsExpiry(0, false),
+    Step::IsExpiry(1, true),
+    Step::IsExpiry(3, true),
+    Step::IsExpiry(4, false),
+    Step::Retire,
+    Step::Round(1_200, false),
+    Step::Seconds(None),
+    Step::Expect(0),
+    Step::Seconds(None),
 ];
 
 /// Over a history of at most a hundred entries.

@@ -5,6 +5,7 @@ ghost use Rattle.hall.specs.Seats.{IsOf};
 
 use crate::reading::{At, reading};
 use crate::rows::Step;
+use chronicle::Who;
 use desk_core::{Finding, Keep};
 use hall::{Hall, Seat};
 use probe_core::{Start, Threshold};
@@ -34,6 +35,10 @@ impl<R: Wait, K: Keep> Stage<'_, R, K> {
     /// Takes a step, and compares what it finds.
     pub(crate) fn take(&mut self, step: Step) -> Result<(), Fail> {
         match step {
+            Step::Of(name) => {
+                self.name = name;
+                Ok(())
+            }
             Step::Register(fall, rise, start) => self.register(fall, rise, start),
             Step::Retire => {
                 let _ = self.hall.retire(self.rt, self.others, self.name);
@@ -93,6 +98,19 @@ impl<R: Wait, K: Keep> Stage<'_, R, K> {
             Step::Status(status) => {
                 let found = self.hall.check(self.others, self.name).status;
                 same(&found, &status, &(self.row, step))
+            }
+            Step::Seconds(seconds) => {
+                let slot = self.hall.catalogue().slot(self.name).ok_or("no slot")?;
+                let found = self.expectations.seconds(slot);
+                same(&found, &seconds, &(self.row, step))
+            }
+            Step::IsExpiry(place, is_one) => {
+                let noted = self.expectations.chronicle().noted(place);
+                let is_found = match noted {
+                    Some(note) => note.who == Who::Expiry,
+                    None => false,
+                };
+                same(&is_found, &is_one, &(self.row, step))
             }
             Step::Patience(millis, most) => {
                 let patience = self.watchdog.patience(reading(millis)?);

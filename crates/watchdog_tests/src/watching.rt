@@ -4,7 +4,7 @@ ghost use Rattle.std.specs.Prelude.{◌≡◌};
 ghost use Rattle.hall.specs.Seats.{IsOf};
 
 use crate::rows::{
-    FAR_BEHIND, FORGETTING, FORGETTING_ASLEEP, FULL, HEARING_AGAIN, MANY, ROWS, Step,
+    FAR_BEHIND, FORGETTING, FORGETTING_ASLEEP, FULL, HEARING_AGAIN, MANY, ROWS, Step, TOLD, TWO,
 };
 use crate::stage::Stage;
 use desk_core::{Catalogue, Keep, KeepMany};
@@ -112,7 +112,8 @@ fn play_all<R: Wait>(rt: &R, alloc: Global, name: &str) -> Result<(), Fail> {
     play::<R, KeepSixteen>(rt, alloc, name, 103, 100, FORGETTING_ASLEEP)?;
     play::<R, KeepSixteen>(rt, alloc, name, 104, 100, HEARING_AGAIN)?;
     play::<R, KeepMany>(rt, alloc, name, 105, 10_000, FAR_BEHIND)?;
-    play::<R, KeepMany>(rt, alloc, name, 106, 10_000, MANY)
+    play::<R, KeepMany>(rt, alloc, name, 106, 10_000, MANY)?;
+    play::<R, KeepMany>(rt, alloc, name, 108, 100, TOLD)
 }
 
 #[test]
@@ -121,5 +122,5 @@ fn brings_down_what_is_not_heard_from(rt: HostRuntime) -> Result<(), Fail> {
     for name in ["", "a", "o"] {
         play_all(&rt, alloc, name)?;
     }
-    Ok(())
+    play::<HostRuntime, KeepMany>(&rt, alloc, "", 107, 100, TWO)
 }

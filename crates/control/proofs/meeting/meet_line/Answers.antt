@@ -1,5 +1,5 @@
 use Rattle.std.proofs.Common.{refl}
-use Rattle.control.specs.Beside.{ChangesBeside, ExpectsBeside, ExplainsBeside, LooksBeside, StopsBeside, TellsBeside, seen_beside}
+use Rattle.control.specs.Beside.{ChangesBeside, ExpectsBeside, KnowsBeside, LooksBeside, StopsBeside, TellsBeside, seen_beside}
 use Rattle.control.specs.Meeting.IsMet.{Starves}
 use Rattle.control.proofs.BesideLemmas.{same_beside}
 use Rattle.control.proofs.MeetingLemmas.{asks_change, checked, packed, changed}
@@ -9,7 +9,7 @@ pub returns-in-Check-clause-met : goal.returns-in-Check-clause-met
 returns-in-Check-clause-met g c =
     checked (g.C.Registrar.names c.args.console.now) (seen_beside g.C.Registrar.seen) (LooksBeside g.C.Console.looks) (ChangesBeside g.C.Registrar.seen g.C.Registrar.answers g.V.Server.terms g.V.Server.woken)
     (ExpectsBeside (g.C.Registrar.names c.args.console.now) g.C.Registrar.seen g.C.Console.looks g.V.Server.terms g.V.Server.expected)
-    (TellsBeside g.C.Registrar.seen g.C.Console.kept g.V.Server.terms g.V.Server.counted) (ExplainsBeside g.C.Registrar.seen g.C.Console.kept) (StopsBeside g.V.Server.terms g.V.Server.stopped) (c.args.console.now, c.args.server.now) (c.check.new.self, c.args.server.now) c.args.line.now
+    (TellsBeside g.C.Registrar.seen g.C.Console.kept g.V.Server.terms g.V.Server.counted) (KnowsBeside g.C.Registrar.seen g.C.Console.kept) (StopsBeside g.V.Server.terms g.V.Server.stopped) (c.args.console.now, c.args.server.now) (c.check.new.self, c.args.server.now) c.args.line.now
     c.in-Check.name c.check.result c.in-Check.is (record { looked = c.check.ensures.looks; server = refl }) (rw c.as_str.ensures at c.check.ensures.status)
 
 pub returns-in-Board-clause-met : goal.returns-in-Board-clause-met

@@ -8,7 +8,7 @@ pub returns-in-Some-2 : goal.returns-in-Some-2
 returns-in-Some-2 c = OfExpectation _ _ (rw c.in-Some-2.is at c.in_ok-expectation.ensures)
 
 pub returns-in-Some-3 : goal.returns-in-Some-3
-returns-in-Some-3 c = OfQuestion _ _ (rw c.in-Some-3.is at c.in_ok-name.ensures)
+returns-in-Some-3 c = OfQuestion _ _ (rw c.in-Some-3.is at c.in_ok-question.ensures)
 
 pub returns-in-Some-4 : goal.returns-in-Some-4
 returns-in-Some-4 c = OfLine _ _ (rw c.in-Some-4.is at c.in_ok-line.ensures)

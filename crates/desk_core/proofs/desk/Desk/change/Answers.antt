@@ -1,5 +1,7 @@
 use Rattle.std.proofs.Common.{◌<◌, arith, [], ◌∷◌, ◌++◌, length, refl, sym, ap, subst, ◌∙◌}
 use Rattle.desk_core.specs.Marks.{HasMarks, IsRuleFor}
+use Rattle.desk_core.specs.Latest.{AreLatest}
+use Rattle.desk_core.proofs.LatestLemmas.{latest_more}
 use Rattle.desk_core.proofs.MarkLemmas.{marks_more}
 use Rattle.desk_core.specs.Mutation.{entry_of}
 use Rattle.desk_core.specs.Past.{past}
@@ -18,6 +20,7 @@ invariant_of-self-in_default-append g c = (
   c.append.ensures.kept.0 ∙ c.self.invariant.1,
   c.append.ensures.kept.1 ∙ c.self.invariant.2,
   subst (λ journal. HasMarks (past journal) c.self.inside.marks.shut c.self.inside.marks.slots) (sym c.in_default-append.ensures.err) c.self.invariant.3,
+  subst (λ journal. AreLatest (past journal) c.self.inside.latest.slots) (sym c.in_default-append.ensures.err) c.self.invariant.4,
 )
 
 pub show-shows-requires-clause-few : goal.show-shows-requires-clause-few
@@ -30,11 +33,13 @@ returns-in_default-append-clause-answered g c = unanswered _ _ _ _ _ c.self.view
 pub invariant_of-self-2 : goal.invariant_of-self-2
 invariant_of-self-2 g c =
     let lawful = c.in_default.ensures.none.0 in
-    let room : length c.self.inside.history.journal.items < c.self.inside.max_entries = subst (λ state. length state.journal < state.max_entries) (sym c.self.view_is) c.in_default.ensures.none.1 in (
-      is_desk_changed _ _ _ _ _ _ _ _ _ _ _ _ _ _ _ _ _ _ _ _ c.args.call c.reply_to-reply.result c.self.invariant.0 c.reserve.ensures.same room lawful
-          (c.reply_to-reply.ensures ∙ ap (λ state. reply_to (past state.journal) c.args.call) (sym c.self.view_is)) c.in-Ok-append.ensures.ok.1 c.show-shows.ensures.journal
-          c.in-Ok-append.ensures.ok.0 c.append.ensures.changes (ap (λ cache. cache.statuses) c.append.ensures.cache) (ap (λ cache. cache.dependents) c.append.ensures.cache)
-          c.apply-old.ensures.applied c.shut_after-self-inside.ensures c.show-shows.ensures.dependents c.show-shows.ensures.statuses c.show-shows.ensures.changes,
+    let room : length c.self.inside.history.journal.items < c.self.inside.max_entries = subst (λ state. length state.journal < state.max_entries) (sym c.self.view_is) c.in_default.ensures.none.1 in
+    let desk =
+    is_desk_changed _ _ _ _ _ _ _ _ _ _ _ _ _ _ _ _ _ _ _ _ c.args.call c.reply_to-reply.result c.self.invariant.0 c.reserve.ensures.same room lawful
+    (c.reply_to-reply.ensures ∙ ap (λ state. reply_to (past state.journal) c.args.call) (sym c.self.view_is)) c.in-Ok-append.ensures.ok.1 c.show-shows.ensures.journal
+    c.in-Ok-append.ensures.ok.0 c.append.ensures.changes (ap (λ cache. cache.statuses) c.append.ensures.cache) (ap (λ cache. cache.dependents) c.append.ensures.cache)
+    c.apply-old.ensures.applied c.shut_after-self-inside.ensures c.show-shows.ensures.dependents c.show-shows.ensures.statuses c.show-shows.ensures.changes in (
+      desk,
       c.show-shows.ensures.kept.0 ∙ (c.append.ensures.kept.0 ∙ c.self.invariant.1),
       c.show-shows.ensures.kept.1 ∙ (c.append.ensures.kept.1 ∙ c.self.invariant.2),
       marks_more c.args.seat c.in-Ok-append.at c.args.call c.reply_to-reply.result c.rule_for-rule.result c.self.inside.history.journal.items
@@ -43,6 +48,10 @@ invariant_of-self-2 g c =
           (subst (λ state. IsRuleFor (past state.journal) c.args.call c.rule_for-rule.result) (sym c.self.view_is) c.rule_for-rule.ensures)
           (c.reply_to-reply.ensures ∙ ap (λ state. reply_to (past state.journal) c.args.call) (sym c.self.view_is))
           (c.show-shows.ensures.journal ∙ c.in-Ok-append.ensures.ok.1) c.note.ensures.shut c.note.ensures.slots c.self.invariant.3,
+      latest_more c.args.seat c.in-Ok-append.at _ _ c.args.call c.reply_to-reply.result c.self.inside.history.journal.items c.show-shows.new.self.journal.items _ _
+          c.in-Ok-append.ensures.ok.0 (c.show-shows.ensures.journal ∙ c.in-Ok-append.ensures.ok.1)
+          (c.statuses-before.ensures ∙ ap (λ cache. cache.statuses) c.append.ensures.cache ∙ c.self.invariant.0.cached) (c.statuses.ensures ∙ desk.cached)
+          c.note-2.ensures c.self.invariant.4,
     )
 
 pub returns-clause-answered : goal.returns-clause-answered

@@ -10,4 +10,5 @@ invariant_of-result g c = (
   search rules,
   search rules,
   search rules,
+  search rules,
 )

@@ -1,7 +1,7 @@
 use Rattle.hall.specs.Seats.{IsOf}
 use Rattle.watchdog.specs.Watching.{HasWatched}
 use Rattle.live_run.specs.Watched.{guards_in}
-use Rattle.live_run.proofs.watchdog_loop.WatchdogLoop.run.Given as goal
+use Rattle.live_run.proofs.watchdog_loop.WatchdogLoop.rounds.Given as goal
 
 abbrev pub invariant-loop : goal.invariant-loop
 invariant-loop g l =

@@ -1,0 +1,156 @@
+use super::Ring;
+use crate::record::{Missing, Record};
+use std::sync::atomic::{AtomicU64, Ordering};
+use std::test::Fail;
+use std::thread;
+use test_support::{Scarcity, same};
+
+/// What the tests put in at a place. Each part of it tells the place.
+fn record_at(place: u64) -> Record {
+    let number = (place % 0x1_0000_0000) as u32;
+    Record {
+        micros: place.wrapping_mul(0x1_0000_0001),
+        session: number,
+        sort: !number,
+    }
+}
+
+/// What a test does with a ring of three slots.
+#[derive(Clone, Copy, Debug)]
+enum Step {
+    Put(u64),
+    Has(u64),
+    Lacks(u64, Missing),
+}
+
+/// One past the last place of lap 2^32 - 1 of three slots.
+const ROUND: u64 = 3 * 0x1_0000_0000;
+
+const CASES: [(&str, &[Step]); 5] = [
+    (
+        "in any order",
+        &[
+            Step::Lacks(0, Missing::Awaited),
+            Step::Put(2),
+            Step::Put(0),
+            Step::Has(0),
+            Step::Lacks(1, Missing::Awaited),
+            Step::Has(2),
+        ],
+    ),
+    (
+        "a later place writes over",
+        &[
+            Step::Put(1),
+            Step::Lacks(4, Missing::Awaited),
+            Step::Put(4),
+            Step::Lacks(1, Missing::WrittenOver),
+            Step::Has(4),
+            Step::Lacks(7, Missing::Awaited),
+        ],
+    ),
+    (
+        "a slow writer comes too late",
+        &[
+            Step::Put(7),
+            Step::Put(1),
+            Step::Has(7),
+            Step::Lacks(1, Missing::WrittenOver),
+            Step::Lacks(4, Missing::WrittenOver),
+        ],
+    ),
+    (
+        "the first record of a place stays",
+        &[Step::Put(5), Step::Put(5), Step::Has(5)],
+    ),
+    (
+        "the number of laps goes round",
+        &[
+            Step::Put(3_000_000),
+            Step::Put(ROUND / 2),
+            Step::Put(ROUND - 3),
+            Step::Has(ROUND - 3),
+            Step::Lacks(ROUND, Missing::Awaited),
+            Step::Put(ROUND),
+            Step::Has(ROUND),
+            Step::Lacks(ROUND - 3, Missing::WrittenOver),
+            Step::Put(ROUND - 3),
+            Step::Has(ROUND),
+        ],
+    ),
+];
+
+fn expect_step(ring: &Ring, step: Step) -> Result<(), Fail> {
+    match step {
+        Step::Put(place) => {
+            ring.put(place, record_at(place));
+            Ok(())
+        }
+        Step::Has(place) => same(&ring.record(place), &Ok(record_at(place)), &step),
+        Step::Lacks(place, missing) => same(&ring.record(place), &Err(missing), &step),
+    }
+}
+
+#[test]
+fn keeps_the_newest_place_of_each_slot(rt: HostRuntime) -> Result<(), Fail> {
+    for (at, steps) in &CASES {
+        let ring = Ring::new(rt.alloc(), 3)?;
+        for step in *steps {
+            expect_step(&ring, *step)?;
+        }
+        same(&ring.record(u64::MAX), &Err(Missing::Awaited), at)?;
+    }
+    Ok(())
+}
+
+#[test]
+fn keeps_nothing_without_slots(rt: HostRuntime) -> Result<(), Fail> {
+    let ring = Ring::new(rt.alloc(), 0)?;
+    ring.put(0, record_at(0));
+    same(&ring.record(0), &Err(Missing::Awaited), &"no slots")
+}
+
+#[test]
+fn a_ring_is_refused_without_memory(rt: HostRuntime) -> Result<(), Fail> {
+    let scarcity = Scarcity::with_small_room(rt.alloc())?;
+    let large = Ring::new(rt.alloc(), 65_536).is_err();
+    let small = Ring::new(rt.alloc(), 16).is_ok();
+    drop(scarcity);
+    same(
+        &(large, small),
+        &(true, true),
+        &"2 MiB and 512 bytes in a room of 16 KiB",
+    )
+}
+
+/// How many places the threads put in, and how many threads there are.
+const PLACES: u64 = 40_000;
+
+const THREADS: u64 = 4;
+
+/// Puts in each place of a thread, and looks meanwhile at places that others put in. The first place that had another's record.
+fn wrong_place_of(ring: &Ring, thread: u64, wrong: &AtomicU64) {
+    for turn in 0..PLACES / THREADS {
+        let place = turn * THREADS + thread % THREADS;
+        ring.put(place, record_at(place));
+        let seen = place.saturating_sub(turn % 7);
+        if let Ok(record) = ring.record(seen) {
+            if record != record_at(seen) {
+                wrong.store(seen, Ordering::SeqCst);
+            }
+        }
+    }
+}
+
+#[test]
+fn threads_never_see_a_record_of_another_place(rt: HostRuntime) -> Result<(), Fail> {
+    let ring = Ring::new(rt.alloc(), 3)?;
+    let wrong = AtomicU64::new(u64::MAX);
+    let run = |thread: usize| wrong_place_of(&ring, thread as u64, &wrong);
+    thread::map_indices(&rt, rt.alloc(), THREADS as usize, &run)?;
+    same(&wrong.load(Ordering::SeqCst), &u64::MAX, &"wrong")?;
+    for place in PLACES - 3..PLACES {
+        same(&ring.record(place), &Ok(record_at(place)), &place)?;
+    }
+    Ok(())
+}

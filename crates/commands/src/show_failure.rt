@@ -1,0 +1,53 @@
+ghost use Rattle.std.specs.Prelude.{◌≡◌};
+ghost use Rattle.commands.specs.declared.show_failure.ShowFailure.TheVariants.{Told};
+ghost use Rattle.commands.specs.declared.tell_failure.TellFailure.TheVariants.{OutOfMemory};
+
+use crate::tell_failure::TellFailure;
+use control::Place;
+use std::alloc::{AllocError, AllocFailed};
+use thiserror::Error;
+
+/// What ends the commands `status` and `history` with status 1. Its text follows `healthd: ` on standard error.
+#[derive(Debug, Drop, PartialEq, Eq, Error)]
+pub enum ShowFailure<'a> {
+    #[error("{0}")]
+    Told(TellFailure<'a>),
+    /// The time for an answer was up. Nothing that was asked changes anything.
+    #[error("timed out")]
+    TimedOut,
+    /// The server ended the session before it answered.
+    #[error("no answer")]
+    Ended,
+    /// The answer is none to what was asked.
+    #[error("{0} answered {1}")]
+    Answered(Place<'a>, String),
+    /// The answer is not UTF-8.
+    #[error("{0} answered no text")]
+    NoText(Place<'a>),
+}
+
+impl<'a> From<TellFailure<'a>> for ShowFailure<'a> {
+    fn from(failure: TellFailure<'a>) -> Self {
+        match failure {
+            TellFailure::TimedOut => ShowFailure::TimedOut,
+            TellFailure::NoAnswer => ShowFailure::Ended,
+            other => ShowFailure::Told(other),
+        }
+    }
+}
+
+impl From<AllocError> for ShowFailure<'_> {
+    ghost from_gives = { λ _ failure. failure ≡ Told OutOfMemory };
+
+    fn from(_error: AllocError) -> Self {
+        ShowFailure::Told(TellFailure::OutOfMemory)
+    }
+}
+
+impl<T: Drop> From<AllocFailed<T>> for ShowFailure<'_> {
+    ghost from_gives = { λ _ failure. failure ≡ Told OutOfMemory };
+
+    fn from(_error: AllocFailed<T>) -> Self {
+        ShowFailure::Told(TellFailure::OutOfMemory)
+    }
+}

@@ -1,0 +1,119 @@
+use crate::asking_place::{AskingPlace, connect_to, print_text};
+use crate::show_failure::ShowFailure;
+use crate::tell_failure::TellFailure;
+use crate::timed_control::{AnswerTime, TimedControl};
+use clap::ArgMatches;
+use control::Place;
+use readout::{Row, names_in, read_standing, rows_json, table};
+use std::alloc::{AllocError, Global};
+use std::env::FillError;
+use std::io;
+use std::io::{BufReader, Read, Write};
+use std::net::{Net, TcpStream};
+use std::rt::Env;
+use std::time::{Clock, Duration};
+
+/// How services are printed.
+#[derive(Clone, Copy, Debug, PartialEq, Eq)]
+pub enum Form {
+    Table,
+    /// A table whose statuses have colours.
+    ColouredTable,
+    Json,
+}
+
+/// The form that a command line asks for. A table has colours on a terminal, unless the environment forbids them.
+pub fn form_in<R: Env>(rt: &R, matches: &ArgMatches<'_>) -> Form {
+    if matches.get_flag("json") {
+        Form::Json
+    } else if is_output_terminal() && !forbids_colours(rt) {
+        Form::ColouredTable
+    } else {
+        Form::Table
+    }
+}
+
+fn is_output_terminal() -> bool {
+    libc::isatty(libc::STDOUT_FILENO) == 1
+}
+
+/// Whether `NO_COLOR` has a byte.
+fn forbids_colours<R: Env>(rt: &R) -> bool {
+    let mut value = [0u8; 1];
+    !matches!(
+        rt.var("NO_COLOR", &mut value),
+        Ok(0) | Err(FillError::NotPresent)
+    )
+}
+
+/// The command `status`.
+pub fn run_status<'a, R>(
+    rt: &R,
+    place: Place<'a>,
+    timeout: Duration,
+    form: Form,
+) -> Result<(), ShowFailure<'a>>
+where
+    R: Print + Clock + AllocGlobal + Net<Stream = TcpStream>,
+{
+    let alloc = rt.alloc();
+    let client = connect_to(rt, place, timeout)?;
+    let time = AnswerTime::new(timeout);
+    let Ok(reader) = BufReader::new(alloc, TimedControl::new(rt, &client, &time)) else {
+        return Err(ShowFailure::Told(TellFailure::OutOfMemory));
+    };
+    let writer = TimedControl::new(rt, &client, &time);
+    let mut asked = AskingPlace::new(alloc, place, reader, writer);
+    show_status(&mut asked, &mut io::writer(rt), form)
+}
+
+/// Asks how each service stands, and prints all of them in this form.
+pub fn show_status<'a, R: Read + Drop, W: Write + Drop, O: Write>(
+    asked: &mut AskingPlace<'a, R, W>,
+    output: &mut O,
+    form: Form,
+) -> Result<(), ShowFailure<'a>> {
+    let rows = ask_rows(asked)?;
+    let text = text_of(asked.alloc(), &rows, form)?;
+    print_text(output, &text)
+}
+
+fn text_of(alloc: Global, rows: &[Row], form: Form) -> Result<String, AllocError> {
+    match form {
+        Form::Table => table(alloc, rows, false),
+        Form::ColouredTable => table(alloc, rows, true),
+        Form::Json => rows_json(alloc, rows),
+    }
+}
+
+/// How each service of the server's list stands.
+fn ask_rows<'a, R: Read + Drop, W: Write + Drop>(
+    asked: &mut AskingPlace<'a, R, W>,
+) -> Result<Vec<Row>, ShowFailure<'a>> {
+    let alloc = asked.alloc();
+    let list = asked.ask("list")?;
+    let names = names_in(alloc, &list)?;
+    if names.is_empty() {
+        return Err(asked.unexpected(list));
+    }
+    let mut rows = Vec::new(alloc);
+    for name in &names {
+        rows.push(ask_row(asked, name)?)?;
+    }
+    Ok(rows)
+}
+
+/// How the service of this name stands, which is `-` for the whole server.
+fn ask_row<'a, R: Read + Drop, W: Write + Drop>(
+    asked: &mut AskingPlace<'a, R, W>,
+    name: &str,
+) -> Result<Row, ShowFailure<'a>> {
+    let alloc = asked.alloc();
+    let mut line = String::from_str(alloc, "status ")?;
+    line.push_str(name)?;
+    let answer = asked.ask(&line)?;
+    match read_standing(alloc, name, &answer)? {
+        Some(row) => Ok(row),
+        None => Err(asked.unexpected(answer)),
+    }
+}

@@ -1,0 +1,6 @@
+pub mod Laws
+pub mod Level
+pub mod Minute
+pub mod Paced
+pub mod Second
+pub mod Writer

@@ -1,0 +1,34 @@
+use crate::names_in;
+use std::test::Fail;
+use test_support::same;
+
+const LISTS: [(&str, &[&str]); 8] = [
+    (
+        "db=serving api=not_serving -=not_serving",
+        &["db", "api", "-"],
+    ),
+    ("-=unknown", &["-"]),
+    // A name may hold the sign that parts it from its status, and `:`, quotes and backslashes.
+    ("a=b=absent =c==serving", &["a=b", "=c="]),
+    (
+        "db:5432=serving pkg.Sub/x=unknown",
+        &["db:5432", "pkg.Sub/x"],
+    ),
+    (r#""q"=serving \n=absent"#, &[r#""q""#, r"\n"]),
+    ("größe=serving 健康=absent", &["größe", "健康"]),
+    ("", &[]),
+    ("not found", &[]),
+];
+
+#[test]
+fn lists_names(rt: HostRuntime) -> Result<(), Fail> {
+    for (answer, expected) in LISTS {
+        let names = names_in(rt.alloc(), answer)?;
+        let mut found = Vec::new(rt.alloc());
+        for name in &names {
+            found.push(name.as_str())?;
+        }
+        same(&found.as_slice(), &expected, &answer)?;
+    }
+    Ok(())
+}

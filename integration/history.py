@@ -1,0 +1,197 @@
+"""How services stand and what was changed, as an operator sees it: `healthd status` and `healthd history`."""
+import json
+import os
+import pty
+import re
+import signal
+import socket
+import subprocess
+import threading
+import time
+
+from servers import HEALTHD, Server, ask_line, holds, measured
+
+SCRIPT = ("catalogue db api web - slow gone\nregister db threshold 2 3\nregister api manual\n"
+          "register web depends db api\nregister - depends web\nregister slow threshold 1 1 unknown\n")
+TIME = r"\d{4}-\d\d-\d\dT\d\d:\d\d:\d\d\.\d{6}Z"
+# Without these a run looks the same whatever the environment of the checks.
+PLAIN = {name: value for name, value in os.environ.items() if name != "NO_COLOR"}
+
+server = Server(script=SCRIPT)
+
+
+def ran(command, *options, place=None):
+    """What a command prints, and its exit status."""
+    done = subprocess.run([HEALTHD, command, "--control", place or server.control, *options],
+                          capture_output=True, text=True, timeout=30, env=PLAIN)
+    return done.stdout, done.stderr, done.returncode
+
+
+def shown(command, *options):
+    """What a command prints where nothing goes wrong."""
+    out, err, status = ran(command, *options)
+    holds(f"{command} {' '.join(options)} ends well", (err, status) == ("", 0), f"{status}: {err}")
+    return out
+
+
+def told(*words):
+    found = server.tell(*words)
+    holds(f"tell {' '.join(words)}", found == ("done", 0), str(found))
+
+
+told("fail", "db")
+told("fail", "db")
+told("pass", "db")
+
+# The table of a small outage.
+table = shown("status")
+lines = table.splitlines()
+holds("a table has no colours where it is no terminal's", "\x1b" not in table, table)
+holds("no line of it ends in a space", all(line == line.rstrip() for line in lines), table)
+holds("its titles", lines[0].split() == ["NAME", "STATUS", "SINCE", "WHY", "EXPECTED", "REPORTED"], lines[0])
+rows = [re.split(r" {2,}", line) for line in lines[1:]]
+holds("its services are those of the catalogue", [row[0] for row in rows] == ["db", "api", "web", "-", "slow", "gone"], table)
+holds("their statuses", [row[1] for row in rows] == ["not_serving", "serving", "not_serving", "not_serving", "unknown", "absent"], table)
+holds("why they have them", [row[3] for row in rows] == [
+    "2 fails in a row up to entry 6, 1 of 3 passes since", "-", "depends on db", "depends on web",
+    "nothing heard since entry 4", "never registered"], table)
+holds("since when", all(re.fullmatch(r"\d{4}-\d\d-\d\d \d\d:\d\d:\d\dZ", row[2]) for row in rows[:5]) and rows[5][2] == "-", table)
+holds("its columns stand below their titles", all(line[lines[0].index("STATUS"):].startswith(row[1]) for line, row in zip(lines[1:], rows)), table)
+
+# The same for programs.
+services = json.loads(shown("status", "--json"))
+holds("each object has these keys, in this order",
+      all(list(each) == ["name", "status", "since", "reported", "expected_seconds", "why"] for each in services), str(services))
+holds("the whole server has the empty name", [each["name"] for each in services] == ["db", "api", "web", "", "slow", "gone"], str(services))
+by_name = {each["name"]: each for each in services}
+holds("an object tells why", by_name["web"]["why"] == "depends on db" and by_name["api"]["why"] is None, str(services))
+holds("an object tells since when", by_name["db"]["since"]["entry"] == 6 and re.fullmatch(TIME, by_name["db"]["since"]["time"]), str(services))
+holds("nothing is known of one that was never there", by_name["gone"]["since"] is None and by_name["gone"]["status"] == "absent", str(services))
+
+
+def on_terminal(env):
+    """What `status` prints on a terminal."""
+    ours, its = pty.openpty()
+    process = subprocess.Popen([HEALTHD, "status", "--control", server.control], stdin=subprocess.DEVNULL, stdout=its, env=env)
+    os.close(its)
+    text = b""
+    while True:
+        try:
+            part = os.read(ours, 4096)
+        except OSError:
+            break
+        if not part:
+            break
+        text += part
+    os.close(ours)
+    process.wait(10)
+    return text.decode()
+
+
+coloured = on_terminal(PLAIN)
+holds("statuses have colours on a terminal",
+      all(part in coloured for part in ("\x1b[31mnot_serving\x1b[0m", "\x1b[32mserving\x1b[0m", "\x1b[33munknown\x1b[0m", "\x1b[2mabsent\x1b[0m")), repr(coloured))
+holds("and else the same text", re.sub(r"\x1b\[\d+m", "", coloured).replace("\r\n", "\n") == table, repr(coloured))
+holds("NO_COLOR forbids them", on_terminal({**PLAIN, "NO_COLOR": "1"}).replace("\r\n", "\n") == table)
+holds("but not where it is empty", on_terminal({**PLAIN, "NO_COLOR": ""}) == coloured)
+
+# The history.
+history = shown("history")
+lines = history.splitlines()
+holds("all entries are printed, the oldest first", [int(line.split()[0]) for line in lines] == list(range(8)), history)
+holds("the first is the setup's", re.fullmatch(rf"0 {TIME} setup register db threshold 2 3: done", lines[0]), lines[0])
+holds("the last is a session's", re.fullmatch(rf"7 {TIME} session \d+ pass db: done", lines[7]), lines[7])
+holds("each is what the server answers", server.tell("entry", "7")[0] == lines[7], lines[7])
+holds("--last 2", shown("history", "--last", "2").splitlines() == lines[6:])
+holds("--last 0", shown("history", "--last", "0") == "")
+holds("--last 4294967295", shown("history", "--last", "4294967295") == history)
+entries = [json.loads(line) for line in shown("history", "--json", "--last", "3").splitlines()]
+holds("each object of an entry has these keys", all(list(each) == ["entry", "time", "who", "call", "reply"] for each in entries), str(entries))
+holds("objects of entries tell the same", [f"{each['entry']} {each['time']} {each['who']} {each['call']}: {each['reply']}" for each in entries]
+      == lines[5:], str(entries))
+
+# What goes wrong.
+out, err, status = ran("status", place="/run/healthd-nowhere")
+holds("a place where nobody listens", (out, err, status) == ("", "healthd: connect /run/healthd-nowhere: not found\n", 1), err)
+for command in ("status", "history"):
+    out, err, status = ran(command, place="nowhere")
+    holds(f"a place that is none is refused by {command}", status == 2 and f"Usage: healthd {command}" in err and "'nowhere'" in err, err)
+    out, err, status = ran(command, "--timeout", "0")
+    holds(f"a timeout of 0 is refused by {command}", status == 2, err)
+
+
+class Following:
+    """A `history --follow`, and when each of its lines came."""
+
+    def __init__(self, *options):
+        self.process = subprocess.Popen([HEALTHD, "history", "--control", server.control, "--follow", *options],
+                                        stdin=subprocess.DEVNULL, stdout=subprocess.PIPE, stderr=subprocess.PIPE, text=True, env=PLAIN)
+        self.lines = []
+        self.reader = threading.Thread(target=self.read, daemon=True)
+        self.reader.start()
+
+    def read(self):
+        for line in self.process.stdout:
+            self.lines.append((line.strip(), time.monotonic()))
+
+    def wait(self, count):
+        """When the line came that makes so many."""
+        ends = time.monotonic() + 5
+        while len(self.lines) < count and time.monotonic() < ends:
+            time.sleep(0.01)
+        holds(f"{count} lines are followed", len(self.lines) == count, str(self.lines))
+        return self.lines[count - 1][1]
+
+
+following, later = Following("--last", "1"), Following("--last", "0", "--json")
+following.wait(1)
+holds("what is kept comes first", following.lines[0][0] == lines[7], str(following.lines))
+time.sleep(0.6)
+begins = time.monotonic()
+told("down", "api")
+measured("a change that is followed", following.wait(2) - begins, 1)
+holds("it is what was changed", re.fullmatch(rf"8 {TIME} session \d+ down api: done", following.lines[1][0]), str(following.lines))
+later.wait(1)
+holds("and in JSON", json.loads(later.lines[0][0])["call"] == "down api", str(later.lines))
+session = server.session()
+session.sendall(b"pass db\n" * 20)
+following.wait(22)
+later.wait(21)
+holds("of many none is missing", [int(line.split()[0]) for line, _ in following.lines] == list(range(7, 29)), str(following.lines))
+session.close()
+
+# A reader that goes away.
+leaving = subprocess.Popen([HEALTHD, "history", "--control", server.control, "--follow"],
+                           stdin=subprocess.DEVNULL, stdout=subprocess.PIPE, stderr=subprocess.PIPE, text=True, env=PLAIN)
+leaving.stdout.readline()
+leaving.stdout.close()
+told("up", "api")
+said, status = leaving.stderr.read(), leaving.wait(5)
+holds("following ends where nobody reads what is printed", (said, status) == ("healthd: write: broken pipe\n", 1), f"{status}: {said}")
+following.wait(23)
+later.wait(22)
+
+# A follower whose session is ended for one that comes, since it was stopped for more than a second.
+following.process.send_signal(signal.SIGSTOP)
+time.sleep(1.2)
+sessions = [server.session() for _ in range(15)]
+holds("there are sixteen sessions without it", [ask_line(session, "check db") for session in sessions] == ["serving"] * 15)
+for session in sessions:
+    session.close()
+told("down", "api")
+following.process.send_signal(signal.SIGCONT)
+following.wait(24)
+holds("it goes on by another session", following.lines[23][0].endswith(" down api: done"), str(following.lines[-1]))
+
+# A server that does not answer, and one that has no session left.
+silent = socket.socket(socket.AF_UNIX)
+silent.bind(f"{server.folder}/silent")
+silent.listen()
+for command in (("status",), ("history",), ("history", "--follow")):
+    out, err, status = ran(*command, "--timeout", "1", place=f"{server.folder}/silent")
+    holds(f"{' '.join(command)} gives up where the server is silent", (out, err, status) == ("", "healthd: timed out\n", 1), f"{status}: {err}")
+server.stop()
+for each in (following, later):
+    status = each.process.wait(10)
+    err = each.process.stderr.read()
+    holds("following ends well where the server ends", (status, err) == (0, ""), f"{status}: {err}")
