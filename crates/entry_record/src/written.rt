@@ -4,7 +4,7 @@ use std::marker::Model;
 const MOST: usize = 28;
 
 /// The bytes of one entry.
-#[derive(Debug, Drop)]
+#[derive(Drop)]
 pub struct Written {
     bytes: [u8; MOST],
     count: usize,

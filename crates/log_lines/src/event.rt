@@ -10,7 +10,7 @@ use std::fmt;
 use std::net::SocketAddr;
 
 /// What a line tells. Its text has no line break, whatever the texts in it are.
-#[derive(Clone, Copy, Debug)]
+#[derive(Clone, Copy)]
 pub enum Event<'a> {
     /// The server serves at this address.
     Serving {

@@ -1,7 +1,7 @@
 use std::fmt;
 
 /// A bound of the server that is reached, or nearly.
-#[derive(Clone, Copy, Debug, PartialEq, Eq)]
+#[derive(Clone, Copy)]
 pub enum Limit {
     /// All of so many connections are taken.
     Connections(u32),

@@ -2,7 +2,7 @@ use crate::event::Event;
 use std::fmt;
 
 /// A line of the log, which ends in a line feed: `TIME LEVEL MESSAGE`.
-#[derive(Clone, Copy, Debug)]
+#[derive(Clone, Copy)]
 pub struct Line<'a> {
     /// When it was, as `2026-11-26T01:45:09.123456Z`.
     pub time: &'a str,

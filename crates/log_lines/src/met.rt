@@ -1,5 +1,5 @@
 /// What an allowance meets, with the reading of a monotone clock in milliseconds.
-#[derive(Clone, Copy, Debug, PartialEq, Eq)]
+#[derive(Clone, Copy)]
 pub enum Met {
     /// Somebody asked whether a line may be written.
     Asked(u64),

@@ -6,7 +6,7 @@ use std::marker::Model;
 const MINUTE_MILLIS: u64 = 60_000;
 
 /// Something that is told once a minute at most. Contracts see it as the reading at which it was told last.
-#[derive(Clone, Copy, Debug)]
+#[derive(Clone, Copy)]
 pub struct Minutely {
     told: Option<u64>,
 }
@@ -52,7 +52,7 @@ mod tests {
     use std::test::Fail;
     use test_support::same;
 
-    const CASES: [(&str, &[(u64, bool)]); 4] = [
+    static CASES: [(&str, &[(u64, bool)]); 4] = [
         (
             "a minute later, and not a millisecond before",
             &[
@@ -91,11 +91,14 @@ mod tests {
 
     #[test]
     fn tells_once_a_minute() -> Result<(), Fail> {
-        for (case, rows) in CASES {
+        for (case, rows) in &CASES {
             let mut minutely = Minutely::new();
-            for row in rows {
-                let (now_millis, expected) = *row;
-                same(&minutely.may_tell(now_millis), &expected, &(case, row))?;
+            for &(now_millis, expected) in *rows {
+                same(
+                    &minutely.may_tell(now_millis),
+                    &expected,
+                    &(case, now_millis),
+                )?;
             }
         }
         Ok(())

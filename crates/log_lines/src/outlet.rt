@@ -13,7 +13,7 @@ const STANDARD_ERROR: i32 = 2;
 const STANDARD_ERROR_PATH: &[u8] = b"/proc/self/fd/2";
 
 /// What lines are written to: a descriptor of this process.
-#[derive(Clone, Copy, Debug, PartialEq, Eq)]
+#[derive(Clone, Copy)]
 pub struct Outlet {
     pub descriptor: i32,
     /// Whether other processes write by the same open file, so that it can't be told not to wait.

@@ -5,7 +5,7 @@ use log::Level;
 use std::fmt;
 
 /// The status of a service, as lines have it.
-#[derive(Clone, Copy, Debug, PartialEq, Eq)]
+#[derive(Clone, Copy, Debug)]
 pub enum Status {
     Serving,
     NotServing,

@@ -66,27 +66,45 @@ fn read_all(
 /// Lines of a few bytes, of hundreds, and longer ones than a pipe takes whole.
 const LENGTHS: [usize; 3] = [3, 700, 10_000];
 
+/// Fills a writer to a pipe that nobody reads, and fills it again once the pipe has taken some of it.
+fn fill_twice(
+    alloc: Global,
+    writer: &mut Writer,
+    more: usize,
+    expected: &mut Vec<u8>,
+) -> Result<(), Fail> {
+    let first = fill(alloc, writer, 0, more, expected)?;
+    same(&writer.take_dropped(), &1, &more)?;
+    writer.write_now();
+    let second = fill(alloc, writer, first, more, expected)?;
+    same(&(second > first), &true, &more)?;
+    same(&writer.write_now(), &true, &more)?;
+    same(&writer.write_now(), &true, &more)?;
+    same(&writer.take_dropped(), &1, &more)?;
+    same(&writer.take_dropped(), &0, &more)
+}
+
+/// Reads what fills a writer, with lines of so many bytes and more.
+fn expect_all(
+    alloc: Global,
+    writer: &mut Writer,
+    reader: &PipeReader,
+    more: usize,
+) -> Result<(), Fail> {
+    let mut expected = Vec::new(alloc);
+    fill_twice(alloc, writer, more, &mut expected)?;
+    let mut found = Vec::new(alloc);
+    read_all(writer, reader, &mut found, expected.len())?;
+    let is_all = found.as_slice() == expected.as_slice();
+    same(&(is_all, writer.write_now()), &(true, false), &more)
+}
+
 #[test]
 fn a_full_pipe_makes_nobody_wait(rt: HostRuntime) -> Result<(), Fail> {
-    let alloc: Global = rt.alloc();
     for more in LENGTHS {
         let (reader, end) = io::pipe(&rt)?;
-        let mut writer = Writer::new(alloc, shared(&end))?;
-        let mut expected = Vec::new(alloc);
-        let first = fill(alloc, &mut writer, 0, more, &mut expected)?;
-        same(&writer.take_dropped(), &1, &more)?;
-        // The pipe takes some of it, so that there is room again.
-        writer.write_now();
-        let second = fill(alloc, &mut writer, first, more, &mut expected)?;
-        assert!(rt; second > first, "{more}");
-        same(&writer.write_now(), &true, &more)?;
-        same(&writer.write_now(), &true, &more)?;
-        same(&writer.take_dropped(), &1, &more)?;
-        same(&writer.take_dropped(), &0, &more)?;
-        let mut found = Vec::new(alloc);
-        read_all(&mut writer, &reader, &mut found, expected.len())?;
-        same(&writer.write_now(), &false, &more)?;
-        assert!(rt; found.as_slice() == expected.as_slice(), "{more}");
+        let mut writer = Writer::new(rt.alloc(), shared(&end))?;
+        expect_all(rt.alloc(), &mut writer, &reader, more)?;
     }
     Ok(())
 }
@@ -126,42 +144,60 @@ fn standard_error_has_a_descriptor_of_its_own() -> Result<(), Fail> {
     let Some(outlet) = Outlet::standard_error() else {
         return Err(Fail::new("none"));
     };
-    same(&(outlet.descriptor > 2), &true, &outlet)
+    same(&(outlet.descriptor > 2), &true, &outlet.descriptor)
 }
 
-#[test]
-fn a_file_takes_all(rt: HostRuntime) -> Result<(), Fail> {
-    let alloc: Global = rt.alloc();
-    let path = "/tmp/log-lines-takes-all";
-    let file = File::create(&rt, path)?;
+/// Fills a writer to a file, and tells whether something waits once it was written.
+fn fill_file(alloc: Global, file: &File, expected: &mut Vec<u8>) -> Result<bool, Fail> {
     let outlet = Outlet {
         descriptor: file.as_raw_fd(),
         is_shared: false,
     };
     let mut writer = Writer::new(alloc, outlet)?;
-    let mut expected = Vec::new(alloc);
-    fill(alloc, &mut writer, 0, 100, &mut expected)?;
-    let is_left = writer.write_now();
-    let found = fs::read(&rt, path)?;
-    fs::remove_file(&rt, path)?;
-    same(&is_left, &false, &"file")?;
-    assert!(rt; found.as_slice() == expected.as_slice());
-    Ok(())
+    fill(alloc, &mut writer, 0, 100, expected)?;
+    Ok(writer.write_now())
 }
 
 #[test]
+fn a_file_takes_all(rt: HostRuntime) -> Result<(), Fail> {
+    let path = "/tmp/log-lines-takes-all";
+    let file = File::create(&rt, path)?;
+    let mut expected = Vec::new(rt.alloc());
+    let is_left = fill_file(rt.alloc(), &file, &mut expected)?;
+    let found = fs::read(&rt, path)?;
+    fs::remove_file(&rt, path)?;
+    let is_all = found.as_slice() == expected.as_slice();
+    same(&(is_all, is_left), &(true, false), &"file")
+}
+
+/// An outlet that nothing is written to.
+const UNUSED: Outlet = Outlet {
+    descriptor: -1,
+    is_shared: true,
+};
+
+#[test]
 fn takes_its_memory_at_once(rt: HostRuntime) -> Result<(), Fail> {
-    let (_reader, end) = io::pipe(&rt)?;
     let scarcity = Scarcity::with_small_room(rt.alloc())?;
-    let refused = Writer::new(rt.alloc(), shared(&end)).is_err();
+    let refused = Writer::new(rt.alloc(), UNUSED).is_err();
     drop(scarcity);
-    same(&refused, &true, &"64 KiB of 16 KiB")?;
-    let mut writer = Writer::new(rt.alloc(), shared(&end))?;
+    same(&refused, &true, &"64 KiB of 16 KiB")
+}
+
+#[test]
+fn takes_no_memory_later(rt: HostRuntime) -> Result<(), Fail> {
+    let mut writer = Writer::new(rt.alloc(), UNUSED)?;
     let scarcity = Scarcity::new(rt.alloc(), 0)?;
     let taken = writer.push(&[b'\n'; 65_536]);
     let dropped = writer.push(b"\n");
     drop(scarcity);
     same(&(taken, dropped), &(true, false), &"no more later")
+}
+
+fn push(alloc: Global, writer: &mut Writer, event: Event<'_>) -> Result<bool, AllocError> {
+    let time = "2026-11-26T01:45:09.123456Z";
+    let line = Line { time, event }.to_string(alloc)?;
+    Ok(writer.push(line.as_bytes()))
 }
 
 /// Takes a line of this time, if one may be written, and writes what there is room for.
@@ -172,39 +208,48 @@ fn tell(
     now_millis: u64,
     event: Event<'_>,
 ) -> Result<bool, AllocError> {
-    let time = "2026-11-26T01:45:09.123456Z";
     if let Some(count) = allowance.left_out(now_millis) {
-        let event = Event::LeftOut(count);
-        writer.push(Line { time, event }.to_string(alloc)?.as_bytes());
+        push(alloc, writer, Event::LeftOut(count))?;
     }
     if allowance.take(now_millis) {
-        writer.push(Line { time, event }.to_string(alloc)?.as_bytes());
+        push(alloc, writer, event)?;
     }
     Ok(writer.write_now())
 }
 
-#[test]
-fn tells_how_many_lines_were_left_out(rt: HostRuntime) -> Result<(), Fail> {
-    let alloc: Global = rt.alloc();
-    let (mut reader, end) = io::pipe(&rt)?;
-    let mut writer = Writer::new(alloc, shared(&end))?;
+/// Tells 105 lines in a second, and one in the next.
+fn tell_all(alloc: Global, writer: &mut Writer) -> Result<(), Fail> {
     let mut allowance = Allowance::new();
-    let mut expected = String::new(alloc);
     for _ in 0..105 {
-        let is_left = tell(alloc, &mut writer, &mut allowance, 7, Event::Ended("a"))?;
+        let is_left = tell(alloc, writer, &mut allowance, 7, Event::Ended("a"))?;
         same(&is_left, &false, &"a")?;
     }
-    tell(alloc, &mut writer, &mut allowance, 1_007, Event::Ended("b"))?;
-    for _ in 0..100 {
-        expected.push_str("2026-11-26T01:45:09.123456Z INFO  ended: a\n")?;
-    }
-    expected.push_str("2026-11-26T01:45:09.123456Z WARN  5 lines left out\n")?;
-    expected.push_str("2026-11-26T01:45:09.123456Z INFO  ended: b\n")?;
-    drop(end);
-    let mut found = Vec::new(alloc);
-    reader.read_to_end(&mut found)?;
-    assert!(rt; found.as_slice() == expected.as_bytes());
+    tell(alloc, writer, &mut allowance, 1_007, Event::Ended("b"))?;
     Ok(())
+}
+
+/// What is written of them.
+fn lines_of_all(alloc: Global) -> Result<String, AllocError> {
+    let mut lines = String::new(alloc);
+    for _ in 0..100 {
+        lines.push_str("2026-11-26T01:45:09.123456Z INFO  ended: a\n")?;
+    }
+    lines.push_str("2026-11-26T01:45:09.123456Z WARN  5 lines left out\n")?;
+    lines.push_str("2026-11-26T01:45:09.123456Z INFO  ended: b\n")?;
+    Ok(lines)
+}
+
+#[test]
+fn tells_how_many_lines_were_left_out(rt: HostRuntime) -> Result<(), Fail> {
+    let (mut reader, end) = io::pipe(&rt)?;
+    let mut writer = Writer::new(rt.alloc(), shared(&end))?;
+    tell_all(rt.alloc(), &mut writer)?;
+    drop(end);
+    let mut found = Vec::new(rt.alloc());
+    reader.read_to_end(&mut found)?;
+    let expected = lines_of_all(rt.alloc())?;
+    let is_all = found.as_slice() == expected.as_bytes();
+    same(&is_all, &true, &"lines")
 }
 
 #[test]

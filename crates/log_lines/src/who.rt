@@ -1,7 +1,7 @@
 use std::fmt;
 
 /// Who asked for a change.
-#[derive(Clone, Copy, Debug, PartialEq, Eq)]
+#[derive(Clone, Copy, PartialEq, Eq)]
 pub enum Who {
     /// What the server begins with.
     Setup,

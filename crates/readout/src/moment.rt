@@ -12,7 +12,7 @@ const DAY_LENGTH: usize = 10;
 const SECONDS_LENGTH: usize = 8;
 
 /// An entry of the journal, and when it was made.
-#[derive(Debug, Drop, PartialEq, Serialize)]
+#[derive(Drop, Serialize)]
 pub struct Moment {
     /// The entry's place.
     pub entry: u32,

@@ -9,7 +9,7 @@ use serde::Serialize;
 use std::alloc::{AllocError, Global};
 
 /// How one service stands.
-#[derive(Debug, Drop, PartialEq, Serialize)]
+#[derive(Drop, Serialize)]
 pub struct Row {
     /// Its name, empty for the whole server.
     pub name: String,

@@ -5,7 +5,7 @@ ghost use Rattle.readout.specs.Told.{word_of};
 use serde::Serialize;
 
 /// The status of a service.
-#[derive(Clone, Copy, Debug, PartialEq, Eq, Serialize)]
+#[derive(Clone, Copy, Serialize)]
 #[serde(rename_all = "snake_case")]
 pub enum Status {
     Serving,

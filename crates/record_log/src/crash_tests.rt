@@ -82,6 +82,25 @@ struct Left {
     entries: Entries,
 }
 
+impl Left {
+    fn expect(&self, found: &Entries, torn: &[u8]) -> Result<(), Fail> {
+        same(found, &self.entries, &torn)
+    }
+}
+
+/// The entries that are read in a file.
+fn read(alloc: Global, file: &[u8]) -> Result<Entries, Fail> {
+    let (found, _) = read_entries(alloc, file)?;
+    Ok(found)
+}
+
+/// The entries of a log that is opened over a file.
+fn opened(alloc: Global, file: &[u8]) -> Result<Entries, Fail> {
+    let device = Memory::new(alloc, file.to_vec(alloc)?)?;
+    let found = RecordLog::new(device).open(alloc)?;
+    Ok(found)
+}
+
 /// A log that was stopped in one of its calls.
 #[derive(Drop)]
 struct Stopped<'a> {
@@ -138,13 +157,13 @@ impl Stopped<'_> {
 
     /// What a crash leaves, after a look at what is read there and what is opened there.
     fn crash(&self, alloc: Global, torn: &[u8]) -> Result<Left, Fail> {
-        let file = self.log.device.crashed(torn)?;
-        let entries = self.expected(alloc, torn)?;
-        let (found, _) = read_entries(alloc, &file)?;
-        same(&found, &entries, &torn)?;
-        let mut log = RecordLog::new(Memory::new(alloc, file.as_slice().to_vec(alloc)?)?);
-        same(&log.open(alloc)?, &entries, &torn)?;
-        Ok(Left { file, entries })
+        let left = Left {
+            file: self.log.device.crashed(torn)?,
+            entries: self.expected(alloc, torn)?,
+        };
+        left.expect(&read(alloc, &left.file)?, torn)?;
+        left.expect(&opened(alloc, &left.file)?, torn)?;
+        Ok(left)
     }
 
     /// Each place at which the bytes end, or turn into others.

@@ -1,74 +1,111 @@
 //! Over real files.
 
+ghost use Rattle.std.specs.Prelude.{◌<◌, All, length, IfOk};
+
 use crate::{FileDevice, FileError, OpenError, RecordLog, write_anew};
+use std::alloc::{AllocError, Global};
 use std::fs;
 use std::test::Fail;
 use test_support::same;
 
+/// The log of a file, which is still to be opened.
+fn log_at(rt: &HostRuntime, path: &str) -> Result<RecordLog<FileDevice>, FileError> {
+    Ok(RecordLog::new(FileDevice::open(rt, path)?))
+}
+
+fn one_and_two(alloc: Global) -> Result<Vec<Vec<u8>>, AllocError>
+    ensures some { IfOk result (λ batch. 0 < length batch.items) }
+    ensures short { IfOk result (λ batch. All (λ entry. length entry.items < 256) batch.items) }
+{
+    Ok(vec![in alloc; b"one".to_vec(alloc)?, b"two".to_vec(alloc)?]?)
+}
+
+fn three(alloc: Global) -> Result<Vec<Vec<u8>>, AllocError>
+    ensures some { IfOk result (λ batch. 0 < length batch.items) }
+    ensures short { IfOk result (λ batch. All (λ entry. length entry.items < 256) batch.items) }
+{
+    Ok(vec![in alloc; b"three".to_vec(alloc)?]?)
+}
+
+/// There are so many entries, of which `three` is the last.
+fn expect(found: &[Vec<u8>], count: usize, what: &str) -> Result<(), Fail> {
+    same(&found.len(), &count, &what)?;
+    let newest = found.last().map(Vec::as_slice);
+    same(&newest, &Some(b"three".as_slice()), &what)
+}
+
+/// Makes a file of three entries, which nobody else opens meanwhile.
+fn make(rt: &HostRuntime, path: &str) -> Result<(), Fail> {
+    let alloc = rt.alloc();
+    let mut log = log_at(rt, path)?;
+    same(&log.open(alloc)?.len(), &0, &"made")?;
+    log.append(alloc, &one_and_two(alloc)?)?;
+    log.append(alloc, &three(alloc)?)?;
+    let in_use = log_at(rt, path).map(drop);
+    let is_in_use = matches!(in_use, Err(FileError::InUse));
+    same(&is_in_use, &true, &"in use")
+}
+
+/// Opens that file, adds to it and makes it anew.
+fn make_anew(rt: &HostRuntime, path: &str) -> Result<(), Fail> {
+    let alloc = rt.alloc();
+    let mut log = log_at(rt, path)?;
+    expect(&log.open(alloc)?, 3, "opened")?;
+    log.append(alloc, &one_and_two(alloc)?)?;
+    let entries = three(alloc)?;
+    let mut anew = write_anew(rt, path, log, &entries)?;
+    anew.append(alloc, &entries)?;
+    Ok(())
+}
+
 #[test]
 fn a_file_keeps_what_is_acknowledged(rt: HostRuntime) -> Result<(), Fail> {
-    let alloc = rt.alloc();
     let path = "/tmp/record-log-keeps";
-    let first = vec![in alloc; b"one".to_vec(alloc)?, b"two".to_vec(alloc)?]?;
-    let second = vec![in alloc; b"three".to_vec(alloc)?]?;
-    let mut log = RecordLog::new(FileDevice::open(&rt, path)?);
-    same(&log.open(alloc)?.len(), &0, &"made")?;
-    log.append(alloc, &first)?;
-    log.append(alloc, &second)?;
-    let in_use = FileDevice::open(&rt, path).map(drop);
-    assert!(rt; matches!(in_use, Err(FileError::InUse)));
-    drop(log);
-    let mut log = RecordLog::new(FileDevice::open(&rt, path)?);
-    let found = log.open(alloc)?;
-    let newest = found.last().map(Vec::as_slice);
-    same(&found.len(), &3, &"opened")?;
-    same(&newest, &Some(b"three".as_slice()), &"opened")?;
-    log.append(alloc, &first)?;
-    let mut anew = write_anew(&rt, path, log, &second)?;
-    anew.append(alloc, &second)?;
-    drop(anew);
-    let mut anew = RecordLog::new(FileDevice::open(&rt, path)?);
-    let found = anew.open(alloc)?;
-    same(&found.len(), &2, &"anew")?;
-    same(&found.first(), &second.first(), &"anew")?;
+    make(&rt, path)?;
+    make_anew(&rt, path)?;
+    let found = log_at(&rt, path)?.open(rt.alloc())?;
+    expect(&found, 2, "anew")?;
+    let oldest = found.first().map(Vec::as_slice);
+    same(&oldest, &Some(b"three".as_slice()), &"anew")?;
     fs::remove_file(&rt, path)?;
     Ok(())
 }
 
 #[test]
 fn an_empty_file_is_an_empty_log(rt: HostRuntime) -> Result<(), Fail> {
-    let alloc = rt.alloc();
     let path = "/tmp/record-log-empty";
     fs::write(&rt, path, b"")?;
-    let mut log = RecordLog::new(FileDevice::open(&rt, path)?);
-    same(&log.open(alloc)?.len(), &0, &"empty")?;
-    drop(log);
+    let count = log_at(&rt, path)?.open(rt.alloc())?.len();
+    same(&count, &0, &"empty")?;
     same(&fs::read(&rt, path)?.as_slice(), &[0].as_slice(), &"a gate")?;
     fs::remove_file(&rt, path)?;
     Ok(())
 }
 
+/// Makes a file of two entries.
+fn make_two(rt: &HostRuntime, path: &str) -> Result<(), Fail> {
+    let alloc = rt.alloc();
+    let mut log = log_at(rt, path)?;
+    log.open(alloc)?;
+    log.append(alloc, &one_and_two(alloc)?)?;
+    Ok(())
+}
+
+fn expect_damage(rt: &HostRuntime, path: &str) -> Result<(), Fail> {
+    let opened = log_at(rt, path)?.open(rt.alloc()).map(drop);
+    same(&opened, &Err(OpenError::Damaged(9)), &"damaged")
+}
+
 #[test]
 fn a_damaged_file_stays_as_it_is(rt: HostRuntime) -> Result<(), Fail> {
-    let alloc = rt.alloc();
     let path = "/tmp/record-log-damaged";
-    let batch = vec![in alloc; b"one".to_vec(alloc)?, b"two".to_vec(alloc)?]?;
-    let mut log = RecordLog::new(FileDevice::open(&rt, path)?);
-    log.open(alloc)?;
-    log.append(alloc, &batch)?;
-    drop(log);
+    make_two(&rt, path)?;
     let mut file = fs::read(&rt, path)?;
     if let Some(byte) = file.get_mut(12) {
         *byte = 0;
     }
     fs::write(&rt, path, &file)?;
-    let mut log = RecordLog::new(FileDevice::open(&rt, path)?);
-    same(
-        &log.open(alloc).map(drop),
-        &Err(OpenError::Damaged(9)),
-        &"damaged",
-    )?;
-    drop(log);
+    expect_damage(&rt, path)?;
     same(&fs::read(&rt, path)?, &file, &"as it is")?;
     fs::remove_file(&rt, path)?;
     Ok(())
@@ -76,9 +113,10 @@ fn a_damaged_file_stays_as_it_is(rt: HostRuntime) -> Result<(), Fail> {
 
 #[test]
 fn what_is_no_file_is_not_opened(rt: HostRuntime) -> Result<(), Fail> {
-    let folder = FileDevice::open(&rt, "/tmp").map(drop);
-    assert!(rt; matches!(folder, Err(FileError::NotAFile)));
-    let missing = FileDevice::open(&rt, "/tmp/record-log-missing/log").map(drop);
-    assert!(rt; matches!(missing, Err(FileError::Io(_))));
-    Ok(())
+    let folder = log_at(&rt, "/tmp").map(drop);
+    let is_refused = matches!(folder, Err(FileError::NotAFile));
+    same(&is_refused, &true, &"a folder")?;
+    let missing = log_at(&rt, "/tmp/record-log-missing/log").map(drop);
+    let is_refused = matches!(missing, Err(FileError::Io(_)));
+    same(&is_refused, &true, &"missing")
 }

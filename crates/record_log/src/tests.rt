@@ -1,9 +1,10 @@
 use crate::{Memory, ReadError, RecordLog, crc32, read_entries};
+use std::alloc::Global;
 use std::test::Fail;
 use test_support::same;
 
 /// The last is the check value of the standard; zlib has the others.
-const CHECKSUMS: [(&[u8], u32); 4] = [
+static CHECKSUMS: [(&[u8], u32); 4] = [
     (b"", 0),
     (b"a", 0xE8B7_BE43),
     (b"message digest", 0x2015_9D7F),
@@ -12,8 +13,8 @@ const CHECKSUMS: [(&[u8], u32); 4] = [
 
 #[test]
 fn has_the_checksums_of_zlib(rt: HostRuntime) -> Result<(), Fail> {
-    for (bytes, sum) in CHECKSUMS {
-        same(&crc32(bytes), &sum, &bytes)?;
+    for (bytes, sum) in &CHECKSUMS {
+        same(&crc32(bytes), sum, bytes)?;
     }
     Ok(())
 }
@@ -34,9 +35,15 @@ fn writes_blocks(rt: HostRuntime) -> Result<(), Fail> {
     same(&log.end, &15, &"the gate")
 }
 
+/// The place of the gate behind the entries of a file.
+fn end_of(alloc: Global, file: &[u8]) -> Result<usize, ReadError> {
+    let (_, end) = read_entries(alloc, file)?;
+    Ok(end)
+}
+
 /// A byte of the file, what stands there instead, and where damage is found: at the first byte of
 /// the block. A gate that is closed is no damage, since a crash leaves it so.
-const CHANGES: [(usize, u8, Result<usize, ReadError>); 11] = [
+static CHANGES: [(usize, u8, Result<usize, ReadError>); 11] = [
     (0, 0, Ok(0)),
     (0, 7, Ok(0)),
     (1, 2, Err(ReadError::Damaged(0))),
@@ -53,19 +60,18 @@ const CHANGES: [(usize, u8, Result<usize, ReadError>); 11] = [
 #[test]
 fn tells_damage_from_a_crash(rt: HostRuntime) -> Result<(), Fail> {
     let alloc = rt.alloc();
-    for change in CHANGES {
-        let mut file = FILE.to_vec(alloc)?;
-        if let Some(byte) = file.get_mut(change.0) {
-            *byte = change.1;
+    for &(at, byte, expected) in &CHANGES {
+        let mut file = FILE;
+        if let Some(place) = file.get_mut(at) {
+            *place = byte;
         }
-        let end = read_entries(alloc, &file).map(|found| found.1);
-        same(&end, &change.2, &change)?;
+        same(&end_of(alloc, &file), &expected, &(at, byte))?;
     }
     Ok(())
 }
 
 /// How many bytes are left of the file, and what is found.
-const CUTS: [(usize, Result<usize, ReadError>); 6] = [
+static CUTS: [(usize, Result<usize, ReadError>); 6] = [
     (0, Ok(0)),
     (1, Ok(0)),
     (2, Err(ReadError::Damaged(0))),
@@ -77,9 +83,8 @@ const CUTS: [(usize, Result<usize, ReadError>); 6] = [
 #[test]
 fn tells_a_file_that_was_cut(rt: HostRuntime) -> Result<(), Fail> {
     let alloc = rt.alloc();
-    for (len, found) in CUTS {
-        let end = read_entries(alloc, &FILE[..len]).map(|found| found.1);
-        same(&end, &found, &len)?;
+    for (len, expected) in &CUTS {
+        same(&end_of(alloc, &FILE[..FILE.len().min(*len)]), expected, len)?;
     }
     Ok(())
 }

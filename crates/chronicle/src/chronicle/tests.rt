@@ -15,6 +15,10 @@ fn note_of(micros: u64, who: Who) -> Option<Note> {
     })
 }
 
+fn expect(chronicle: &Chronicle, place: u32, expected: &Option<Note>) -> Result<(), Fail> {
+    same(&chronicle.noted(place), expected, &place)
+}
+
 #[test]
 fn tells_when_entries_were_made_and_who_asked(rt: HostRuntime) -> Result<(), Fail> {
     let chronicle = Chronicle::new(rt.alloc())?;
@@ -26,14 +30,14 @@ fn tells_when_entries_were_made_and_who_asked(rt: HostRuntime) -> Result<(), Fai
         (u32::MAX, u64::MAX, Who::Session(0)),
     ];
     for (place, micros, who) in entries {
-        same(&chronicle.noted(place), &None, &place)?;
+        expect(&chronicle, place, &None)?;
         chronicle.note(place, micros, who);
     }
     for (place, micros, who) in entries {
-        same(&chronicle.noted(place), &note_of(micros, who), &place)?;
+        expect(&chronicle, place, &note_of(micros, who))?;
     }
     for place in [1, 3, 65_536, 65_538, 4_464, 135_536, 65_535] {
-        same(&chronicle.noted(place), &None, &place)?;
+        expect(&chronicle, place, &None)?;
     }
     Ok(())
 }
@@ -43,19 +47,15 @@ fn a_note_gives_way_to_that_of_an_entry_65536_later(rt: HostRuntime) -> Result<(
     let chronicle = Chronicle::new(rt.alloc())?;
     chronicle.note(9, 1, Who::Setup);
     chronicle.note(65_545, 2, Who::Session(2));
-    same(&chronicle.noted(9), &None, &"written over")?;
+    expect(&chronicle, 9, &None)?;
     // A slow writer of an older place.
     chronicle.note(9, 1, Who::Setup);
-    same(&chronicle.noted(9), &None, &"slow")?;
-    same(
-        &chronicle.noted(65_545),
-        &note_of(2, Who::Session(2)),
-        &"newer",
-    )
+    expect(&chronicle, 9, &None)?;
+    expect(&chronicle, 65_545, &note_of(2, Who::Session(2)))
 }
 
 /// How many entries setup made, and then the first and the last place whose note is kept, if one is.
-const SETUPS: [(u32, Option<(u32, u32)>); 6] = [
+static SETUPS: [(u32, Option<(u32, u32)>); 6] = [
     (0, None),
     (1, Some((0, 0))),
     (65_536, Some((0, 65_535))),
@@ -69,17 +69,17 @@ fn setup_notes_all_of_its_entries(rt: HostRuntime) -> Result<(), Fail> {
     for (places, kept) in &SETUPS {
         let chronicle = Chronicle::new(rt.alloc())?;
         chronicle.note_all(*places, 5, Who::Setup);
-        same(&chronicle.noted(*places), &None, places)?;
+        expect(&chronicle, *places, &None)?;
         let Some((first, last)) = *kept else {
             continue;
         };
         let setup = note_of(5, Who::Setup);
         let middle = first + (last - first) / 2;
         for place in [first, middle, last] {
-            same(&chronicle.noted(place), &setup, &place)?;
+            expect(&chronicle, place, &setup)?;
         }
         if let Some(before) = first.checked_sub(1) {
-            same(&chronicle.noted(before), &None, &before)?;
+            expect(&chronicle, before, &None)?;
         }
     }
     Ok(())
@@ -97,7 +97,7 @@ fn numbers_sessions_from_1_on(rt: HostRuntime) -> Result<(), Fail> {
 }
 
 /// What a test does with the refusals, and a cursor.
-#[derive(Clone, Copy, Debug)]
+#[derive(Clone, Copy)]
 enum Step {
     /// So many refusals, each with the next number as its time, session and reason.
     Refuse(u64),
@@ -107,7 +107,7 @@ enum Step {
     End(u64),
 }
 
-const REFUSALS: [(&str, &[Step]); 4] = [
+static REFUSALS: [(&str, &[Step]); 4] = [
     ("none", &[Step::End(0), Step::End(0)]),
     (
         "one after another",
@@ -147,6 +147,17 @@ fn asker(number: u64) -> Who {
     }
 }
 
+/// What is told next, and where the cursor is then.
+fn expect_told(
+    chronicle: &Chronicle,
+    cursor: &mut u64,
+    told: Option<Refused>,
+    end: u64,
+) -> Result<(), Fail> {
+    same(&chronicle.refused(cursor), &told, &end)?;
+    same(cursor, &end, &"cursor")
+}
+
 /// Takes one step, with the number of refusals so far.
 fn expect_step(
     chronicle: &Chronicle,
@@ -169,12 +180,9 @@ fn expect_step(
                 who: asker(number),
                 reason: (number % 256) as u8,
             };
-            same(&chronicle.refused(cursor), &Some(expected), &step)
+            expect_told(chronicle, cursor, Some(expected), number.saturating_add(1))
         }
-        Step::End(expected) => {
-            same(&chronicle.refused(cursor), &None, &step)?;
-            same(cursor, &expected, &step)
-        }
+        Step::End(end) => expect_told(chronicle, cursor, None, end),
     }
 }
 
@@ -215,7 +223,7 @@ fn the_newest_of_a_service_stays_known(rt: HostRuntime) -> Result<(), Fail> {
     ] {
         let note = note_of(u64::from(place), Who::Session(place));
         let expected = if is_known { note } else { None };
-        same(&chronicle.noted(place), &expected, &place)?;
+        expect(&chronicle, place, &expected)?;
     }
     Ok(())
 }
@@ -225,8 +233,7 @@ fn a_cursor_of_the_future_is_told_nothing(rt: HostRuntime) -> Result<(), Fail> {
     let chronicle = Chronicle::new(rt.alloc())?;
     chronicle.refuse(1, Who::Session(1), 1);
     let mut cursor = u64::MAX;
-    same(&chronicle.refused(&mut cursor), &None, &"future")?;
-    same(&cursor, &u64::MAX, &"cursor")
+    expect_told(&chronicle, &mut cursor, None, u64::MAX)
 }
 
 // Whoever takes one down has its place and has not put it in yet.
@@ -236,19 +243,17 @@ fn a_refusal_that_is_being_taken_down_is_awaited(rt: HostRuntime) -> Result<(), 
     chronicle.refused.fetch_add(1, Ordering::SeqCst);
     chronicle.refuse(7, Who::Session(7), 7);
     let mut cursor = 0;
-    same(&chronicle.refused(&mut cursor), &None, &"awaited")?;
-    same(&cursor, &0, &"cursor")?;
+    expect_told(&chronicle, &mut cursor, None, 0)?;
     for number in 0..1_023 {
         chronicle.refuse(number, Who::Session(8), 8);
     }
-    let found = chronicle.refused(&mut cursor);
     let expected = Refused {
         lost: 1,
         micros: 7,
         who: Who::Session(7),
         reason: 7,
     };
-    same(&found, &Some(expected), &"written over")
+    expect_told(&chronicle, &mut cursor, Some(expected), 2)
 }
 
 #[test]
@@ -258,7 +263,7 @@ fn a_chronicle_is_refused_without_memory(rt: HostRuntime) -> Result<(), Fail> {
     drop(scarcity);
     same(&refused, &true, &"2 MiB in a room of 16 KiB")?;
     let chronicle = Chronicle::new(rt.alloc())?;
-    same(&chronicle.noted(0), &None, &"with memory")
+    expect(&chronicle, 0, &None)
 }
 
 const SESSIONS: usize = 3;
@@ -346,8 +351,8 @@ fn threads_see_no_note_of_another_entry(rt: HostRuntime) -> Result<(), Fail> {
     for slot in 0..8 {
         let place = 3 * 65_536 + slot;
         let newest = note_of(u64::from(place), Who::Session(place));
-        same(&chronicle.noted(place), &newest, &place)?;
-        same(&chronicle.noted(slot), &None, &slot)?;
+        expect(&chronicle, place, &newest)?;
+        expect(&chronicle, slot, &None)?;
     }
     Ok(())
 }

@@ -16,7 +16,7 @@ fn record_at(place: u64) -> Record {
 }
 
 /// What a test does with a ring of three slots.
-#[derive(Clone, Copy, Debug)]
+#[derive(Clone, Copy)]
 enum Step {
     Put(u64),
     Has(u64),
@@ -26,7 +26,7 @@ enum Step {
 /// One past the last place of lap 2^32 - 1 of three slots.
 const ROUND: u64 = 3 * 0x1_0000_0000;
 
-const CASES: [(&str, &[Step]); 5] = [
+static CASES: [(&str, &[Step]); 5] = [
     (
         "in any order",
         &[
@@ -80,25 +80,29 @@ const CASES: [(&str, &[Step]); 5] = [
     ),
 ];
 
+fn expect(ring: &Ring, place: u64, expected: Result<Record, Missing>) -> Result<(), Fail> {
+    same(&ring.record(place), &expected, &place)
+}
+
 fn expect_step(ring: &Ring, step: Step) -> Result<(), Fail> {
     match step {
         Step::Put(place) => {
             ring.put(place, record_at(place));
             Ok(())
         }
-        Step::Has(place) => same(&ring.record(place), &Ok(record_at(place)), &step),
-        Step::Lacks(place, missing) => same(&ring.record(place), &Err(missing), &step),
+        Step::Has(place) => expect(ring, place, Ok(record_at(place))),
+        Step::Lacks(place, missing) => expect(ring, place, Err(missing)),
     }
 }
 
 #[test]
 fn keeps_the_newest_place_of_each_slot(rt: HostRuntime) -> Result<(), Fail> {
-    for (at, steps) in &CASES {
+    for (_, steps) in &CASES {
         let ring = Ring::new(rt.alloc(), 3)?;
         for step in *steps {
             expect_step(&ring, *step)?;
         }
-        same(&ring.record(u64::MAX), &Err(Missing::Awaited), at)?;
+        expect(&ring, u64::MAX, Err(Missing::Awaited))?;
     }
     Ok(())
 }
@@ -107,7 +111,7 @@ fn keeps_the_newest_place_of_each_slot(rt: HostRuntime) -> Result<(), Fail> {
 fn keeps_nothing_without_slots(rt: HostRuntime) -> Result<(), Fail> {
     let ring = Ring::new(rt.alloc(), 0)?;
     ring.put(0, record_at(0));
-    same(&ring.record(0), &Err(Missing::Awaited), &"no slots")
+    expect(&ring, 0, Err(Missing::Awaited))
 }
 
 #[test]
@@ -150,7 +154,7 @@ fn threads_never_see_a_record_of_another_place(rt: HostRuntime) -> Result<(), Fa
     thread::map_indices(&rt, rt.alloc(), THREADS as usize, &run)?;
     same(&wrong.load(Ordering::SeqCst), &u64::MAX, &"wrong")?;
     for place in PLACES - 3..PLACES {
-        same(&ring.record(place), &Ok(record_at(place)), &place)?;
+        expect(&ring, place, Ok(record_at(place)))?;
     }
     Ok(())
 }

@@ -4,7 +4,7 @@ use std::test::Fail;
 use std::time::{Clock, Duration};
 use test_support::same;
 
-const TEXTS: [(u64, &str); 15] = [
+static TEXTS: [(u64, &str); 15] = [
     (0, "1970-01-01T00:00:00.000000Z"),
     (1, "1970-01-01T00:00:00.000001Z"),
     (946_684_799_100_000, "1999-12-31T23:59:59.100000Z"),

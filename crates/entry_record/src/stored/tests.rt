@@ -6,7 +6,7 @@ use std::test::Fail;
 use test_support::same;
 
 /// A call, its slot as a number.
-#[derive(Clone, Copy, Debug)]
+#[derive(Clone, Copy)]
 enum Asked {
     Register(u8, Rule),
     Retire(u8),
@@ -17,7 +17,6 @@ enum Asked {
 }
 
 /// Who asked in which seat for what, at which time, what was answered, and the bytes of all that, written out by the format.
-#[derive(Clone, Copy, Debug)]
 struct Row {
     micros: u64,
     who: Who,
@@ -27,7 +26,7 @@ struct Row {
     bytes: &'static [u8],
 }
 
-const ROWS: [Row; 12] = [
+static ROWS: [Row; 12] = [
     // `register db threshold 2 1` of a setup, at the first slot.
     Row {
         micros: 0x0102_0304_0506_0708,
@@ -152,7 +151,7 @@ fn call(asked: Asked) -> Result<Call, Fail> {
     })
 }
 
-fn stored(row: Row) -> Result<Stored, Fail> {
+fn stored(row: &Row) -> Result<Stored, Fail> {
     let entry = Entry {
         seat: row.seat,
         call: call(row.asked)?,
@@ -165,33 +164,40 @@ fn stored(row: Row) -> Result<Stored, Fail> {
     })
 }
 
+fn expect(found: &Option<Stored>, expected: &Option<Stored>, bytes: &[u8]) -> Result<(), Fail> {
+    same(found, expected, &bytes)
+}
+
 #[test]
 fn writes_and_reads_each_row() -> Result<(), Fail> {
-    for row in ROWS {
+    for row in &ROWS {
         let stored = stored(row)?;
-        same(&stored.write().as_bytes(), &row.bytes, &row)?;
-        same(&Stored::read(row.bytes), &Some(stored), &row)?;
-        same(&read_gives_back(&stored), &Some(stored), &row)?;
+        same(&stored.write().as_bytes(), &row.bytes, &"written")?;
+        let back = read_gives_back(&stored);
+        let expected = Some(stored);
+        expect(&Stored::read(row.bytes), &expected, row.bytes)?;
+        expect(&back, &expected, row.bytes)?;
     }
     Ok(())
 }
 
 fn refuses_fronts_of(bytes: &[u8]) -> Result<(), Fail> {
     for count in 0..bytes.len() {
-        same(&Stored::read(&bytes[..count]), &None, &(bytes, count))?;
+        let is_refused = Stored::read(&bytes[..count]).is_none();
+        same(&is_refused, &true, &(bytes, count))?;
     }
     Ok(())
 }
 
 #[test]
 fn refuses_too_few_bytes() -> Result<(), Fail> {
-    for row in ROWS {
+    for row in &ROWS {
         refuses_fronts_of(row.bytes)?;
     }
     Ok(())
 }
 
-const REFUSED: [(&str, &[u8]); 11] = [
+static REFUSED: [(&str, &[u8]); 11] = [
     (
         "a byte behind shutdown",
         &[0, 0, 0, 0, 0, 0, 0, 0, 0, 0, 0, 0, 6, 0],
@@ -229,8 +235,9 @@ const REFUSED: [(&str, &[u8]); 11] = [
 
 #[test]
 fn refuses_what_no_entry_has() -> Result<(), Fail> {
-    for (case, bytes) in REFUSED {
-        same(&Stored::read(bytes), &None, &case)?;
+    for (case, bytes) in &REFUSED {
+        let is_refused = Stored::read(bytes).is_none();
+        same(&is_refused, &true, case)?;
     }
     Ok(())
 }

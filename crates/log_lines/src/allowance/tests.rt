@@ -3,7 +3,7 @@ use std::test::Fail;
 use test_support::same;
 
 /// What a test does with an allowance, each at a reading in milliseconds.
-#[derive(Clone, Copy, Debug)]
+#[derive(Clone, Copy)]
 enum Step {
     /// Asks for so many lines, of which so many may be written.
     Take(u64, u32, u32),
@@ -11,7 +11,7 @@ enum Step {
     LeftOut(u64, Option<u64>),
 }
 
-const CASES: [(&str, &[Step]); 7] = [
+static CASES: [(&str, &[Step]); 7] = [
     (
         "a hundred lines in a second",
         &[
@@ -93,17 +93,17 @@ fn follow(allowance: &mut Allowance, step: Step, case: &str) -> Result<(), Fail>
                     taken = taken.saturating_add(1);
                 }
             }
-            same(&taken, &expected, &(case, step))
+            same(&taken, &expected, &(case, now))
         }
-        Step::LeftOut(now, expected) => same(&allowance.left_out(now), &expected, &(case, step)),
+        Step::LeftOut(now, expected) => same(&allowance.left_out(now), &expected, &(case, now)),
     }
 }
 
 #[test]
 fn writes_a_hundred_lines_a_second_and_counts_the_rest() -> Result<(), Fail> {
-    for (case, steps) in CASES {
+    for (case, steps) in &CASES {
         let mut allowance = Allowance::new();
-        for step in steps {
+        for step in *steps {
             follow(&mut allowance, *step, case)?;
         }
     }

@@ -3,18 +3,19 @@ use crate::event::Event;
 use crate::limit::Limit;
 use crate::status::Status;
 use crate::who::Who;
+use std::alloc::Global;
 use std::net::{IpAddr, Ipv4Addr, Ipv6Addr, SocketAddr};
 use std::test::Fail;
 use test_support::{Scarcity, same};
 
 const TIME: &str = "2026-11-26T01:45:09.123456Z";
 
-fn expect(rt: &HostRuntime, event: Event<'_>, expected: &str) -> Result<(), Fail> {
-    let found = Line { time: TIME, event }.to_string(rt.alloc())?;
-    same(&found.as_str(), &expected, &event)
+fn expect(alloc: Global, event: Event<'_>, expected: &str) -> Result<(), Fail> {
+    let found = Line { time: TIME, event }.to_string(alloc)?;
+    same(&found.as_str(), &expected, &"line")
 }
 
-const CHANGES: [(&str, Status, Status, Who, &str, &str); 7] = [
+static CHANGES: [(&str, Status, Status, Who, &str, &str); 7] = [
     (
         "api",
         Status::Serving,
@@ -75,7 +76,7 @@ const CHANGES: [(&str, Status, Status, Who, &str, &str); 7] = [
 
 #[test]
 fn tells_a_change_on_one_line(rt: HostRuntime) -> Result<(), Fail> {
-    for (name, old, new, who, call, expected) in CHANGES {
+    for &(name, old, new, who, call, expected) in &CHANGES {
         let event = Event::Changed {
             name,
             old,
@@ -84,12 +85,12 @@ fn tells_a_change_on_one_line(rt: HostRuntime) -> Result<(), Fail> {
             who,
             call,
         };
-        expect(&rt, event, expected)?;
+        expect(rt.alloc(), event, expected)?;
     }
     Ok(())
 }
 
-const EXPIRIES: [(&str, Option<u32>, u32, &str); 3] = [
+static EXPIRIES: [(&str, Option<u32>, u32, &str); 3] = [
     (
         "db",
         None,
@@ -112,19 +113,19 @@ const EXPIRIES: [(&str, Option<u32>, u32, &str); 3] = [
 
 #[test]
 fn tells_that_a_service_was_not_heard_from(rt: HostRuntime) -> Result<(), Fail> {
-    for (name, seconds, fails, expected) in EXPIRIES {
+    for &(name, seconds, fails, expected) in &EXPIRIES {
         let event = Event::Expired {
             name,
             seconds,
             fails,
             place: 12,
         };
-        expect(&rt, event, expected)?;
+        expect(rt.alloc(), event, expected)?;
     }
     Ok(())
 }
 
-const OTHERS: [(Event<'static>, &str); 16] = [
+static OTHERS: [(Event<'static>, &str); 16] = [
     (
         Event::Ended("stopped"),
         "2026-11-26T01:45:09.123456Z INFO  ended: stopped\n",
@@ -199,35 +200,45 @@ const OTHERS: [(Event<'static>, &str); 16] = [
 
 #[test]
 fn tells_ends_refusals_limits_and_what_is_missing(rt: HostRuntime) -> Result<(), Fail> {
-    for (event, expected) in OTHERS {
-        expect(&rt, event, expected)?;
+    for &(event, expected) in &OTHERS {
+        expect(rt.alloc(), event, expected)?;
     }
     Ok(())
 }
 
+fn expect_serving(
+    alloc: Global,
+    address: SocketAddr,
+    services: u32,
+    entries: u32,
+    expected: &str,
+) -> Result<(), Fail> {
+    let event = Event::Serving {
+        address,
+        services,
+        entries,
+    };
+    expect(alloc, event, expected)
+}
+
 #[test]
 fn tells_where_the_server_serves(rt: HostRuntime) -> Result<(), Fail> {
-    let rows = [
-        (
-            SocketAddr::new(IpAddr::V4(Ipv4Addr::new(127, 0, 0, 1)), 8080),
-            (3, 12),
-            "2026-11-26T01:45:09.123456Z INFO  serving on 127.0.0.1:8080, 3 services, 12 entries\n",
-        ),
-        (
-            SocketAddr::new(IpAddr::V6(Ipv6Addr::LOCALHOST), 1),
-            (1, 1),
-            "2026-11-26T01:45:09.123456Z INFO  serving on [::1]:1, 1 service, 1 entry\n",
-        ),
-    ];
-    for (address, (services, entries), expected) in rows {
-        let event = Event::Serving {
-            address,
-            services,
-            entries,
-        };
-        expect(&rt, event, expected)?;
-    }
-    Ok(())
+    let v4 = SocketAddr::new(IpAddr::V4(Ipv4Addr::new(127, 0, 0, 1)), 8080);
+    expect_serving(
+        rt.alloc(),
+        v4,
+        3,
+        12,
+        "2026-11-26T01:45:09.123456Z INFO  serving on 127.0.0.1:8080, 3 services, 12 entries\n",
+    )?;
+    let v6 = SocketAddr::new(IpAddr::V6(Ipv6Addr::LOCALHOST), 1);
+    expect_serving(
+        rt.alloc(),
+        v6,
+        1,
+        1,
+        "2026-11-26T01:45:09.123456Z INFO  serving on [::1]:1, 1 service, 1 entry\n",
+    )
 }
 
 #[test]

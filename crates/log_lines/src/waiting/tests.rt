@@ -1,19 +1,20 @@
 use super::Waiting;
-use std::alloc::Global;
+use std::alloc::{AllocError, Global};
 use std::test::Fail;
 use test_support::same;
 
 /// A line of so many bytes, its line feed among them.
-fn line_of(alloc: Global, len: usize) -> Result<Vec<u8>, Fail> {
-    let mut line = vec![in alloc; b'x'; len]?;
-    if let Some(last) = line.last_mut() {
-        *last = b'\n';
+fn line_of(alloc: Global, len: usize) -> Result<Vec<u8>, AllocError> {
+    let mut line = Vec::new(alloc);
+    for _ in 1..len {
+        line.push(b'x')?;
     }
+    line.push(b'\n')?;
     Ok(line)
 }
 
 /// The lines that wait by their lengths, and how many bytes are written at each time.
-const CASES: [(&[usize], &[usize]); 7] = [
+static CASES: [(&[usize], &[usize]); 7] = [
     (&[], &[]),
     (&[10, 20, 30], &[60]),
     (&[4_096], &[4_096]),

@@ -18,7 +18,7 @@ const TOLD: [Told; 2] = [
 const ENTRY: &str = "4711 2026-11-26T01:45:09.123456Z session 3 down api: done";
 
 /// What is made where memory is scarce.
-#[derive(Clone, Copy, Debug)]
+#[derive(Clone, Copy)]
 enum Text {
     Names,
     Standing,
@@ -27,7 +27,7 @@ enum Text {
     Entry,
 }
 
-const TEXTS: [Text; 5] = [
+static TEXTS: [Text; 5] = [
     Text::Names,
     Text::Standing,
     Text::Table,
@@ -35,45 +35,64 @@ const TEXTS: [Text; 5] = [
     Text::Entry,
 ];
 
-/// How long what was made is.
-fn made(alloc: Global, rows: &[Row], text: Text) -> Result<usize, AllocError> {
-    Ok(match text {
-        Text::Names => names_in(alloc, "db=serving api=not_serving -=unknown")?.len(),
-        Text::Standing => {
-            let (name, answer) = TOLD[0];
-            let row = read_standing(alloc, name, answer)?;
-            row.map_or(0, |row| row.why.map_or(0, |why| why.len()))
-        }
-        Text::Table => table(alloc, rows, true)?.len(),
-        Text::Rows => rows_json(alloc, rows)?.len(),
-        Text::Entry => entry_json(alloc, ENTRY)?.map_or(0, |text| text.len()),
-    })
+/// How long the reason of a row that is read is.
+fn standing_made(alloc: Global) -> Result<usize, AllocError> {
+    let (name, answer) = TOLD[0];
+    match read_standing(alloc, name, answer)? {
+        Some(row) => Ok(len_of(&row.why)),
+        None => Ok(0),
+    }
 }
 
-/// With how many steps of memory it was refused, before it was made as with enough of it.
-fn refusals(alloc: Global, rows: &[Row], text: Text) -> Result<usize, Fail> {
-    let expected = made(alloc, rows, text)?;
+fn len_of(text: &Option<String>) -> usize {
+    match text {
+        Some(text) => text.len(),
+        None => 0,
+    }
+}
+
+/// How long what was made is.
+fn made(alloc: Global, rows: &[Row], text: Text) -> Result<usize, AllocError> {
+    match text {
+        Text::Names => Ok(names_in(alloc, "db=serving api=not_serving -=unknown")?.len()),
+        Text::Standing => standing_made(alloc),
+        Text::Table => Ok(table(alloc, rows, true)?.len()),
+        Text::Rows => Ok(rows_json(alloc, rows)?.len()),
+        Text::Entry => Ok(len_of(&entry_json(alloc, ENTRY)?)),
+    }
+}
+
+/// What is made with so many steps of memory.
+fn made_within(
+    alloc: Global,
+    scarcity: &Scarcity,
+    steps: usize,
+    rows: &[Row],
+    text: Text,
+) -> Result<Option<usize>, AllocError> {
+    let _filler = scarcity.leave_steps(steps)?;
+    Ok(made(alloc, rows, text).ok())
+}
+
+/// With how many steps of memory it was refused, and how long it was when it was made.
+fn refusals(alloc: Global, rows: &[Row], text: Text) -> Result<(usize, usize), AllocError> {
     let scarcity = Scarcity::with_small_room(alloc)?;
     for steps in 0..STEPS {
-        let filler = scarcity.leave_steps(steps)?;
-        let found = made(alloc, rows, text);
-        drop(filler);
-        if let Ok(found) = found {
-            drop(scarcity);
-            same(&found, &expected, &text)?;
-            return Ok(steps);
+        if let Some(len) = made_within(alloc, &scarcity, steps, rows, text)? {
+            return Ok((steps, len));
         }
     }
-    drop(scarcity);
-    Ok(STEPS)
+    Ok((STEPS, 0))
 }
 
 #[test]
 fn refuses_each_growth(rt: HostRuntime) -> Result<(), Fail> {
     let rows = rows_of(rt.alloc(), &TOLD)?;
-    for text in TEXTS {
-        let refused = refusals(rt.alloc(), &rows, text)?;
-        same(&(2 < refused && refused < STEPS), &true, &(text, refused))?;
+    for (at, text) in TEXTS.iter().enumerate() {
+        let expected = made(rt.alloc(), &rows, *text)?;
+        let (refused, len) = refusals(rt.alloc(), &rows, *text)?;
+        same(&len, &expected, &at)?;
+        same(&(2 < refused && refused < STEPS), &true, &(at, refused))?;
     }
     Ok(())
 }

@@ -2,7 +2,7 @@ use crate::names_in;
 use std::test::Fail;
 use test_support::same;
 
-const LISTS: [(&str, &[&str]); 8] = [
+static LISTS: [(&str, &[&str]); 8] = [
     (
         "db=serving api=not_serving -=not_serving",
         &["db", "api", "-"],
@@ -22,7 +22,7 @@ const LISTS: [(&str, &[&str]); 8] = [
 
 #[test]
 fn lists_names(rt: HostRuntime) -> Result<(), Fail> {
-    for (answer, expected) in LISTS {
+    for &(answer, expected) in &LISTS {
         let names = names_in(rt.alloc(), answer)?;
         let mut found = Vec::new(rt.alloc());
         for name in &names {

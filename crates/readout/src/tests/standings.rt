@@ -6,14 +6,13 @@ use test_support::same;
 type At = (u32, Option<&'static str>);
 
 /// A row whose texts are constants.
-#[derive(Clone, Copy, Debug, PartialEq)]
-struct Expected<'a> {
-    name: &'a str,
+struct Expected {
+    name: &'static str,
     status: Status,
-    since: Option<(u32, Option<&'a str>)>,
-    reported: Option<(u32, Option<&'a str>)>,
+    since: Option<At>,
+    reported: Option<At>,
     expected: Option<u32>,
-    why: Option<&'a str>,
+    why: Option<&'static str>,
 }
 
 fn text_of(text: &Option<String>) -> Option<&str> {
@@ -30,22 +29,20 @@ fn at(moment: &Option<Moment>) -> Option<(u32, Option<&str>)> {
     }
 }
 
-fn found(row: &Row) -> Expected<'_> {
-    Expected {
-        name: row.name.as_str(),
-        status: row.status,
-        since: at(&row.since),
-        reported: at(&row.reported),
-        expected: row.expected,
-        why: text_of(&row.why),
-    }
+fn expect(row: &Row, expected: &Expected, answer: &str) -> Result<(), Fail> {
+    same(&row.name.as_str(), &expected.name, &answer)?;
+    same(&row.status.word(), &expected.status.word(), &answer)?;
+    same(&at(&row.since), &expected.since, &answer)?;
+    same(&at(&row.reported), &expected.reported, &answer)?;
+    same(&row.expected, &expected.expected, &answer)?;
+    same(&text_of(&row.why), &expected.why, &answer)
 }
 
 const AT_9: At = (4711, Some("2026-11-26T01:45:09.123456Z"));
 
 const AT_8: At = (4710, Some("2026-11-26T01:45:08.000000Z"));
 
-const STANDINGS: [(&str, Expected<'static>); 8] = [
+static STANDINGS: [(&str, Expected); 8] = [
     (
         "since 4711 2026-11-26T01:45:09.123456Z reported 4710 2026-11-26T01:45:08.000000Z expected 30 not_serving: depends on db",
         Expected {
@@ -139,19 +136,19 @@ const STANDINGS: [(&str, Expected<'static>); 8] = [
 
 #[test]
 fn reads_how_a_service_stands(rt: HostRuntime) -> Result<(), Fail> {
-    for (answer, expected) in STANDINGS {
+    for (answer, expected) in &STANDINGS {
         let name = if expected.name.is_empty() {
             "-"
         } else {
             expected.name
         };
         let row = read_standing(rt.alloc(), name, answer)?.ok_or("no row")?;
-        same(&found(&row), &expected, &answer)?;
+        expect(&row, expected, answer)?;
     }
     Ok(())
 }
 
-const REFUSED: [&str; 18] = [
+static REFUSED: [&str; 18] = [
     "not found",
     "",
     "since",
@@ -174,8 +171,9 @@ const REFUSED: [&str; 18] = [
 
 #[test]
 fn refuses_an_answer_of_another_form(rt: HostRuntime) -> Result<(), Fail> {
-    for answer in REFUSED {
-        same(&read_standing(rt.alloc(), "api", answer)?, &None, &answer)?;
+    for answer in &REFUSED {
+        let is_refused = read_standing(rt.alloc(), "api", answer)?.is_none();
+        same(&is_refused, &true, answer)?;
     }
     Ok(())
 }

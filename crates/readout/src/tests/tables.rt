@@ -63,7 +63,7 @@ c     serving  2026Z                 -    -         entry 1
 健康    serving  entry 1               健康   -         -
 ";
 
-const TABLES: [(&[Told], bool, &str); 5] = [
+static TABLES: [(&[Told], bool, &str); 5] = [
     (&[], false, EMPTY),
     (&[], true, EMPTY),
     (&[DB, API, WHOLE, NEVER], false, ALL),
@@ -73,15 +73,15 @@ const TABLES: [(&[Told], bool, &str); 5] = [
 
 #[test]
 fn aligns_the_columns_of_a_table(rt: HostRuntime) -> Result<(), Fail> {
-    for (told, is_coloured, expected) in TABLES {
+    for &(told, is_coloured, expected) in &TABLES {
         let rows = rows_of(rt.alloc(), told)?;
         let text = table(rt.alloc(), &rows, is_coloured)?;
-        same(&text.as_str(), &expected, &told)?;
+        same(&text.as_str(), &expected, &told.len())?;
     }
     Ok(())
 }
 
-const TEXTS: [(&[Told], &str); 3] = [
+static TEXTS: [(&[Told], &str); 3] = [
     (&[], "[]\n"),
     (
         &[DB, API, WHOLE, NEVER],
@@ -113,10 +113,10 @@ const TEXTS: [(&[Told], &str); 3] = [
 
 #[test]
 fn writes_rows_as_json(rt: HostRuntime) -> Result<(), Fail> {
-    for (told, expected) in TEXTS {
+    for &(told, expected) in &TEXTS {
         let rows = rows_of(rt.alloc(), told)?;
         let text = rows_json(rt.alloc(), &rows)?;
-        same(&text.as_str(), &expected, &told)?;
+        same(&text.as_str(), &expected, &told.len())?;
     }
     Ok(())
 }
