@@ -19,6 +19,10 @@ SERVING, NOT_SERVING = b"\0\0\0\0\2\x08\1", b"\0\0\0\0\2\x08\2"
 OK = b"\x80\0\0\0\x0fgrpc-status:0\r\n"
 ENDED = b"grpc-status:14"
 
+# A message of a Watch, up to the number of its status, in a chunk; and the chunks that end a Watch.
+MESSAGE = b"7\r\n" + SERVING[:-1]
+WATCH_END = b"2f\r\n\x80\0\0\0\x2agrpc-status:14\r\ngrpc-message:watch ended\r\n\r\n0\r\n\r\n"
+
 
 def holds(name, fact, why=""):
     print(f"ok {CHECK} {name}" if fact else f"FAILED {CHECK} {name}: {why}", flush=True)
@@ -38,19 +42,33 @@ def timed(act, *args):
     return result, time.monotonic() - begins
 
 
-def head(method):
+def until(name, read, expected, patience=10):
+    """Holds once what is read is as expected."""
+    ends = time.monotonic() + patience
+    while (found := read()) != expected and time.monotonic() < ends:
+        time.sleep(0.02)
+    holds(name, found == expected, f"{found}, and not {expected}")
+
+
+def head(method, request=REQUEST):
     return (f"POST /grpc.health.v1.Health/{method} HTTP/1.1\r\nhost: localhost\r\n"
-            f"content-type: application/grpc-web+proto\r\ncontent-length: {len(REQUEST)}\r\n\r\n").encode()
+            f"content-type: application/grpc-web+proto\r\ncontent-length: {len(request)}\r\n\r\n").encode()
+
+
+def request_for(name):
+    """The frame of a request for the service of this name."""
+    message = b"\x0a" + bytes([len(name)]) + name.encode() if name else b""
+    return b"\0" + len(message).to_bytes(4, "big") + message
 
 
 class Server:
-    """A `healthd run`, with its places in a folder that others may enter."""
+    """A `healthd run`, whose control place is in a folder that others may enter, or at the address that is given."""
 
     def __init__(self, *options, script=SCRIPT, before=(), socket_of=None, env=None, starts=True, err=None,
                  out=None, control=True):
         self.folder = tempfile.mkdtemp(prefix="healthd-", dir="/tmp")
         os.chmod(self.folder, 0o755)
-        self.control, self.report = f"{self.folder}/control", f"{self.folder}/report"
+        self.control = f"{self.folder}/control" if control is True else control
         with open(f"{self.folder}/script", "w") as file:
             file.write(script)
         self.err = open(f"{self.folder}/err", "w+")
@@ -70,7 +88,7 @@ class Server:
         if not starts:
             self.process.wait(20)
             return
-        places = 1 + sum(option == "--report" for option in options) + control
+        places = 1 + sum(option == "--report" for option in options) + bool(control)
         if out is None:
             self.lines = [self.process.stdout.readline().strip() for _ in range(places)]
         else:
@@ -78,6 +96,8 @@ class Server:
         found = re.fullmatch(r"listening 127\.0\.0\.1:(\d+)", self.lines[0])
         holds("a server listens", found, f"it said {self.lines} and {self.said()}")
         self.port = int(found[1])
+        if control:
+            self.control = self.lines[1].removeprefix("control ")
 
     def said(self):
         """What it has written to standard error so far, without its log."""
@@ -102,10 +122,17 @@ class Server:
         client.sendall(head("Watch") + REQUEST)
         return client
 
+    def watcher(self, name="a", client=None):
+        return Watcher(client or self.connect(20), name)
+
     def session(self, place=None, timeout=5):
+        place = place or self.control
+        if not place.startswith("/"):
+            host, port = place.split(":")
+            return socket.create_connection((host, int(port)), timeout)
         client = socket.socket(socket.AF_UNIX)
         client.settimeout(timeout)
-        client.connect(place or self.control)
+        client.connect(place)
         return client
 
     def tell(self, *words, place=None):
@@ -123,6 +150,13 @@ class Server:
         words = self.tell("stats")[0].split()
         return dict(zip(words[::2], map(int, words[1::2])))
 
+    def ended(self):
+        """Waits until it has ended: its exit status, and what it has printed since it told its places."""
+        status = self.process.wait(40)
+        self.left = sorted(os.listdir(self.folder))
+        shutil.rmtree(self.folder)
+        return status, self.process.stdout.read().strip()
+
     def kill(self):
         """Ends it where nobody can tell it to."""
         self.process.kill()
@@ -136,6 +170,37 @@ class Server:
         status = self.process.wait(40)
         shutil.rmtree(self.folder)
         return status
+
+
+class Watcher:
+    """A Watch that is read message by message."""
+
+    def __init__(self, client, name):
+        request = request_for(name)
+        client.sendall(head("Watch", request) + request)
+        self.client, self.file = client, client.makefile("rb")
+        while self.file.readline().strip():
+            pass
+
+    def next(self):
+        """The number of the next status that it is told."""
+        message = self.file.read(len(MESSAGE) + 3)
+        return message[len(MESSAGE)] if message.startswith(MESSAGE) else message
+
+    def told(self, count):
+        return [self.next() for _ in range(count)]
+
+    def close(self):
+        self.file.close()
+        self.client.close()
+
+    def to_end(self):
+        """The numbers of the statuses that it is told before the server ends it, and what else there is where that is not its end."""
+        rest, statuses, at = self.file.read(), [], 0
+        while rest.startswith(MESSAGE, at):
+            statuses.append(rest[at + len(MESSAGE)])
+            at += len(MESSAGE) + 3
+        return statuses if rest[at:] == WATCH_END else [*statuses, rest[at:]]
 
 
 def lines_of(path, count):
@@ -158,9 +223,20 @@ def read_all(client):
         read.append(part)
 
 
+def rest_of(client):
+    """All that comes until the server closes the connection, by a reset where it has left bytes unread."""
+    read = b""
+    try:
+        while part := client.recv(65536):
+            read += part
+    except ConnectionResetError:
+        pass
+    return read
+
+
 def ask_line(client, line):
     """The answer to a line of a session."""
-    client.sendall(line.encode() + b"\n")
+    client.sendall((line if isinstance(line, bytes) else line.encode()) + b"\n")
     answer = b""
     while not answer.endswith(b"\n"):
         part = client.recv(4096)

@@ -1,4 +1,4 @@
-"""Sixteen sessions, and one more."""
+"""Sixteen sessions of a place, and one more."""
 import os
 import pwd
 import signal
@@ -7,7 +7,7 @@ import sys
 import threading
 import time
 
-from servers import HEALTHD, Server, ask_line, holds, measured, timed
+from servers import HEALTHD, Server, ask_line, holds, measured, rest_of, timed, until
 
 server = Server("--threads", "2")
 silent = [server.session() for _ in range(16)]
@@ -24,6 +24,16 @@ holds("a seventeenth gets in", (said, status) == ("a=serving db=serving -=servin
 measured("a seventeenth session", seconds, 1)
 holds("the one that was quiet for longest is closed for it", quiet.recv(10) == b"")
 holds("the others are held", all(ask_line(client, "check a") == "serving" for client in silent))
+
+# All are quiet for more than a second, the second of them for longest: it is closed for one that comes then.
+silent.append(server.session())
+holds("there are sixteen again", ask_line(silent[-1], "check a") == "serving")
+ask_line(silent[0], "check a")
+time.sleep(1.3)
+silent.append(server.session())
+holds("one more gets in where all are quiet", ask_line(silent[-1], "check a") == "serving")
+holds("the one that was quiet for longest is closed", silent.pop(1).recv(10) == b"")
+holds("and no other", all(ask_line(client, "check a") == "serving" for client in silent))
 for client in silent:
     client.close()
 time.sleep(0.5)
@@ -55,6 +65,46 @@ holds("beside sixteen that pour lines one is told that it is too many", (said, s
 ends.set()
 for thread in pouring:
     thread.join()
+server.stop()
+
+# Sixteen at each place say lines without pause, and one more comes to each, again and again.
+REPORT = f"/tmp/healthd-sessions-{os.getpid()}"
+server = Server("--threads", "2", "--report", REPORT)
+talking = [server.session(place) for place in (server.control, REPORT) for _ in range(16)]
+answers, ends = {ask_line(client, "check a") for client in talking}, threading.Event()
+
+
+def talk():
+    while not ends.is_set() and answers == {"serving"}:
+        answers.update(ask_line(client, "check a") for client in talking)
+
+
+def turned_away(place):
+    """What one more is told, which says a line and does not leave."""
+    with server.session(place) as other:
+        try:
+            other.sendall(b"check a\n")
+        except BrokenPipeError:
+            pass
+        return rest_of(other)
+
+
+thread = threading.Thread(target=talk)
+thread.start()
+told = []
+for _ in range(4):
+    told += [turned_away(server.control), turned_away(REPORT)]
+    time.sleep(0.5)
+ends.set()
+thread.join()
+holds("beside sixteen that talk at each place one more is turned away at each", told == [b"too many sessions\n"] * 8, str(told))
+holds("those that talk are all answered", answers == {"serving"}, str(answers))
+talking.pop().close()
+until("once one has left there is room at its place", lambda: server.tell("check", "a", place=REPORT), ("serving", 0))
+holds("and none at the other", turned_away(server.control) == b"too many sessions\n")
+for client in talking:
+    client.close()
+time.sleep(0.5)
 server.stop()
 
 if os.geteuid() != 0:

@@ -1,9 +1,11 @@
 """A server that is told to stop ends soon, and answers what was accepted."""
-import socket
+import fcntl
+import struct
+import termios
 import threading
 import time
 
-from servers import ENDED, OK, REQUEST, SERVING, Server, head, holds, measured, read_all, timed
+from servers import ENDED, OK, REQUEST, SERVING, Server, ask_line, head, holds, measured, read_all, rest_of, timed
 
 
 def stopped(server):
@@ -44,6 +46,65 @@ holds("a request that was begun is answered when it is whole", read_all(half).en
 holds("it ends behind it", server.process.wait(10) == 0)
 measured("the end behind the last answer", time.monotonic() - begins - 1, 1)
 thread.join()
+
+# Open Watches and requests that were begun: those that are made whole are answered, and nobody waits for clients that leave.
+server = Server("--threads", "3")
+front, back = (head("Check") + REQUEST)[:40], (head("Check") + REQUEST)[40:]
+begun, leaving = [server.connect() for _ in range(3)], [server.connect() for _ in range(3)]
+for client in begun + leaving:
+    client.sendall(front)
+# They come later, so that the others are held by then.
+watchers = [server.watcher() for _ in range(3)]
+holds("Watches beside requests that were begun", [watcher.next() for watcher in watchers] == [1] * 3)
+with server.session() as session:
+    holds("it stops", ask_line(session, "stop") == "stopping")
+holds("the Watches are ended", [watcher.to_end() for watcher in watchers] == [[]] * 3)
+for client in begun:
+    client.sendall(back)
+holds("the requests that are made whole are answered", all(rest_of(client).endswith(OK) for client in begun))
+for client in leaving:
+    client.close()
+ended, seconds = timed(server.ended)
+holds("it ends where the others have left", ended == (0, "journal 3"), str(ended))
+measured("the end where clients have left whose requests had ten seconds", seconds, 5)
+
+# A session whose answers nobody reads, beside one that says `stop`: more lists than a socket holds, each of 1,900 bytes.
+NAMES = ["x" * 120 + letter for letter in "abcdefghijklmno"]
+LISTED = " ".join([f"{NAMES[0]}=serving", *(f"{name}=absent" for name in NAMES[1:]), "-=absent"]).encode() + b"\n"
+LISTS = 5_000
+
+
+def waiting(client):
+    """How many bytes have come that are not read."""
+    return struct.unpack("i", fcntl.ioctl(client, termios.FIONREAD, bytes(4)))[0]
+
+
+def say_late(client, line):
+    """Says a line to a session that may be over."""
+    try:
+        client.sendall(line)
+    except OSError:
+        pass
+
+
+# A socket of an address takes a part of an answer, where a Unix socket takes all of it or nothing.
+server = Server(script=f"catalogue {' '.join(NAMES)} -\nmax 10\nregister {NAMES[0]} manual\n", control="127.0.0.1:0")
+full, idle, last = server.session(), server.session(), server.session()
+full.sendall(b"list\n" * LISTS)
+holds("a session beside one whose answers wait", ask_line(idle, "list").encode() + b"\n" == LISTED)
+before = 0
+while (now := waiting(full)) != before or not now:
+    before = now
+    time.sleep(0.5)
+holds("it stops where answers wait", ask_line(last, "stop") == "stopping")
+say_late(idle, b"shutdown\n")
+say_late(full, b"shutdown\n")
+holds("what comes after the stop is not answered", rest_of(idle) == b"")
+answers = rest_of(full)
+holds("the answers that waited are sent whole", 0 < len(answers) and answers == LISTED * (len(answers) // len(LISTED)), f"{len(answers)} bytes")
+holds("and no others", len(answers) < LISTS * len(LISTED))
+ended = server.ended()
+holds("what came after the stop is no entry", ended == (0, "journal 1"), str(ended))
 
 # Checks that pour: each that was accepted is answered whole, and the others are refused by the system.
 server = Server("--threads", "2")

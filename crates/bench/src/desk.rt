@@ -88,9 +88,13 @@ fn time_chain_of<R: Clock + AllocGlobal, P: Probe>(
     rounds: u32,
 ) -> Option<Chain> {
     let mut desk = desk_of(rt.alloc(), chain)?;
-    let check = time_checks(rt, &desk, rounds)?;
-    let anew = time_anew(rt, &desk, rounds)?;
-    let head = time_settings(rt, &mut desk, rounds)?;
+    time_chain_at(rt, &mut desk, rounds)
+}
+
+fn time_chain_at<P: Probe>(clock: &impl Clock, desk: &mut Desk<P>, rounds: u32) -> Option<Chain> {
+    let check = time_checks(clock, desk, rounds)?;
+    let anew = time_anew(clock, desk, rounds)?;
+    let head = time_settings(clock, desk, rounds)?;
     Some(Chain { check, anew, head })
 }
 

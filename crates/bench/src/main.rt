@@ -44,6 +44,10 @@ fn main(rt: HostRuntime) -> ExitCode {
 
 fn asked<R: Env + AllocGlobal>(rt: &R) -> Option<Run> {
     let words: Vec<String> = env::args(rt).ok()?.collect(rt.alloc()).ok()?;
+    run_of(&words)
+}
+
+fn run_of(words: &[String]) -> Option<Run> {
     let asked = words.get(2..)?;
     match words.get(1)?.as_str() {
         "desk" => Some(Run::Desk(desk::asked(asked)?)),

@@ -100,59 +100,6 @@ fn refuses_a_name_that_is_too_long_before_it_connects(rt: HostRuntime) -> Result
     expect_fault(&rt, 1_048_576, Fault::Connect)
 }
 
-/// A server that never answers.
-#[test]
-fn gives_up_where_the_time_is_up(rt: HostRuntime) -> Result<(), Fail> {
-    let listener = TcpListener::bind(&rt, (HOST, 0u16))?;
-    let port = format!(in rt.alloc(); "{}", listener.local_addr()?.port())?;
-    let words = ["healthd", "ask", "--timeout", "1", "--port", port.as_str()];
-    let failure = failure_of(&rt, words.as_slice())?;
-    same(
-        &failure,
-        &Some(AskFailure::TimedOut(1)),
-        &"a server that does not answer",
-    )?;
-    expect_text(rt.alloc(), failure, "timed out after 1 s")
-}
-
-fn expect_text(alloc: Global, failure: Option<AskFailure>, expected: &str) -> Result<(), Fail> {
-    let text = match failure {
-        Some(failure) => format!(in alloc; "{failure}")?,
-        None => String::new(alloc),
-    };
-    same(&text.as_str(), &expected, &"the text of the failure")
-}
-
-/// Options behind a port to which nobody listens, and whether the address and the cause are told.
-const OPTIONS: [(&[&str], bool); 7] = [
-    (&[], false),
-    (&["--name", "a"], false),
-    (&["--watch", "2"], false),
-    (&["--host", "127.0.0.1"], true),
-    (&["--timeout", "5"], true),
-    (&["--expect", "SERVING"], true),
-    (&["--name", "a", "--timeout", "5", "--watch", "1"], true),
-];
-
-#[test]
-fn tells_address_and_cause_with_the_options_for_scripts(rt: HostRuntime) -> Result<(), Fail> {
-    let alloc = rt.alloc();
-    for (options, is_told) in &OPTIONS {
-        let port = format!(in alloc; "{}", free_port(&rt)?)?;
-        let mut words = Vec::from_slice(alloc, &["healthd", "ask", "--port", port.as_str()])?;
-        words.extend_from_slice(options)?;
-        let failure = failure_of(&rt, words.as_slice())?;
-        let refused = format!(in alloc; "connect 127.0.0.1:{port}: connection refused")?;
-        let expected = if *is_told {
-            refused.as_str()
-        } else {
-            "connect"
-        };
-        expect_text(alloc, failure, expected)?;
-    }
-    Ok(())
-}
-
 /// What `ask` reads of its arguments: where it asks, the name, the most statuses, and the most seconds.
 type Read<'a> = (Option<SocketAddr>, &'a str, (Method, u32), Option<u64>);
 

@@ -97,18 +97,19 @@ fn refuses_a_body_of_over_8_192_bytes(rt: HostRuntime) -> Result<(), Fail> {
     expect_answer(alloc, &[], &body, REQUEST_TOO_LARGE, &8_193)
 }
 
-#[test]
-fn answers_that_nothing_is_known(rt: HostRuntime) -> Result<(), Fail> {
-    let alloc = rt.alloc();
-    let list = parse_services(alloc, &["=unknown"])?;
-    expect_answer(alloc, &list, b"\0\0\0\0\0", UNKNOWN, &"the empty name")
-}
+/// What is known of the empty name, and the answer: that of the first pair counts.
+const KNOWN: [(&[&str], &[u8]); 2] = [
+    (&["=unknown"], UNKNOWN),
+    (&["=not_serving", "=serving"], NOT_SERVING),
+];
 
 #[test]
 fn answers_from_the_first_pair_with_the_name(rt: HostRuntime) -> Result<(), Fail> {
-    let alloc = rt.alloc();
-    let list = parse_services(alloc, &["=not_serving", "=serving"])?;
-    expect_answer(alloc, &list, b"\0\0\0\0\0", NOT_SERVING, &"the first pair")
+    for (words, expected) in &KNOWN {
+        let list = parse_services(rt.alloc(), words)?;
+        expect_answer(rt.alloc(), &list, b"\0\0\0\0\0", *expected, words)?;
+    }
+    Ok(())
 }
 
 static SERVICE_WORDS: [(&str, Result<(&str, Serving), Fault>); 10] = [

@@ -4,7 +4,7 @@
 #[cfg(test)]
 mod ask;
 #[cfg(test)]
-mod asking;
+mod beside;
 #[cfg(test)]
 mod bodies;
 #[cfg(test)]
@@ -23,6 +23,8 @@ mod expected;
 mod fault;
 #[cfg(test)]
 mod files;
+#[cfg(test)]
+mod manuals;
 #[cfg(test)]
 mod replay;
 #[cfg(test)]

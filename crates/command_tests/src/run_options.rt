@@ -7,13 +7,24 @@ use std::net::SocketAddr;
 use std::test::Fail;
 use test_support::same;
 
-/// The words behind `run`, and what is read of them: where it listens, the script, the threads, the connections and the Watches.
-type Row<'a> = (&'a [&'a str], (&'a str, Source<'a>, Option<u16>, u32, u32));
+/// The words behind `run`, and what is read of them: where it listens, the script, the threads, the connections, the Watches, and whether
+/// there is no log.
+type Row<'a> = (
+    &'a [&'a str],
+    (&'a str, Source<'a>, Option<u16>, u32, u32, bool),
+);
 
-const ROWS: [Row<'static>; 8] = [
+const ROWS: [Row<'static>; 9] = [
     (
         &[],
-        ("127.0.0.1:8080", Source::StandardInput, None, 10_000, 9_000),
+        (
+            "127.0.0.1:8080",
+            Source::StandardInput,
+            None,
+            10_000,
+            9_000,
+            false,
+        ),
     ),
     (
         &["--listen", "0.0.0.0:80", "--script", "/etc/healthd"],
@@ -23,11 +34,19 @@ const ROWS: [Row<'static>; 8] = [
             None,
             10_000,
             9_000,
+            false,
         ),
     ),
     (
         &["--listen", "[::1]:0", "--threads", "64"],
-        ("[::1]:0", Source::StandardInput, Some(64), 10_000, 9_000),
+        (
+            "[::1]:0",
+            Source::StandardInput,
+            Some(64),
+            10_000,
+            9_000,
+            false,
+        ),
     ),
     (
         &["--connections", "1000000", "--threads", "1"],
@@ -37,23 +56,42 @@ const ROWS: [Row<'static>; 8] = [
             Some(1),
             1_000_000,
             900_000,
+            false,
         ),
     ),
     (
         &["--connections", "19"],
-        ("127.0.0.1:8080", Source::StandardInput, None, 19, 17),
+        ("127.0.0.1:8080", Source::StandardInput, None, 19, 17, false),
     ),
     (
         &["--connections", "1"],
-        ("127.0.0.1:8080", Source::StandardInput, None, 1, 0),
+        ("127.0.0.1:8080", Source::StandardInput, None, 1, 0, false),
     ),
     (
         &["--connections", "5", "--watches", "5"],
-        ("127.0.0.1:8080", Source::StandardInput, None, 5, 5),
+        ("127.0.0.1:8080", Source::StandardInput, None, 5, 5, false),
     ),
     (
         &["--watches", "0"],
-        ("127.0.0.1:8080", Source::StandardInput, None, 10_000, 0),
+        (
+            "127.0.0.1:8080",
+            Source::StandardInput,
+            None,
+            10_000,
+            0,
+            false,
+        ),
+    ),
+    (
+        &["--quiet"],
+        (
+            "127.0.0.1:8080",
+            Source::StandardInput,
+            None,
+            10_000,
+            9_000,
+            true,
+        ),
     ),
 ];
 
@@ -68,7 +106,7 @@ fn words_of<'a>(alloc: Global, options: &[&'a str]) -> Result<Vec<&'a str>, Fail
 fn expect_read(alloc: Global, row: &Row<'_>) -> Result<(), Fail> {
     let words = words_of(alloc, row.0)?;
     let matches = command(alloc)?.try_get_matches_from(words.as_slice())?;
-    let (listen, script, threads, connections, watches) = row.1;
+    let (listen, script, threads, connections, watches, is_quiet) = row.1;
     let expected = match (listen.parse(), Bounds::new(connections, watches)) {
         (Ok(listen), Some(bounds)) => Some(Ok(RunOptions {
             listen,
@@ -77,7 +115,7 @@ fn expect_read(alloc: Global, row: &Row<'_>) -> Result<(), Fail> {
             script,
             threads,
             bounds,
-            is_quiet: false,
+            is_quiet,
         })),
         _ => None,
     };
@@ -89,21 +127,6 @@ fn expect_read(alloc: Global, row: &Row<'_>) -> Result<(), Fail> {
 fn reads_its_options(rt: HostRuntime) -> Result<(), Fail> {
     for row in &ROWS {
         expect_read(rt.alloc(), row)?;
-    }
-    Ok(())
-}
-
-#[test]
-fn reads_whether_there_is_a_log(rt: HostRuntime) -> Result<(), Fail> {
-    let alloc = rt.alloc();
-    let rows: [(&[&str], bool); 2] = [(&[], false), (&["--quiet"], true)];
-    for (options, is_quiet) in rows {
-        let words = words_of(alloc, options)?;
-        let matches = command(alloc)?.try_get_matches_from(words.as_slice())?;
-        let is_read = matches.subcommand().is_some_and(|named| {
-            RunOptions::read(named.1).is_ok_and(|read| read.is_quiet == is_quiet)
-        });
-        same(&is_read, &true, &options)?;
     }
     Ok(())
 }

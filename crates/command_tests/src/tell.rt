@@ -1,12 +1,11 @@
 use commands::command::command;
 use commands::tell::{line_in, place_in, tell_line, tell_lines, timeout_in};
 use commands::timed_control::{AnswerTime, TimedControl};
-use control::{ControlClient, Place, connect, connect_within, is_one_line};
+use control::{ControlClient, Place, connect_within, is_one_line};
 use std::alloc::Global;
-use std::io::{BufReader, ErrorKind, Read, Write};
-use std::net::TcpListener;
+use std::io::{ErrorKind, Read, Write};
+use std::net::{Net, TcpListener, TcpStream};
 use std::test::Fail;
-use std::thread;
 use std::time::{Clock, Duration, Instant};
 use test_support::{Fault, FaultyReader, FaultyWriter, same};
 
@@ -166,135 +165,54 @@ fn makes_one_line_of_its_words(rt: HostRuntime) -> Result<(), Fail> {
     same(&is_one_line(b"up a\nup b"), &false, &"two lines in a word")
 }
 
-/// A server that says `done` to the one line that it is sent.
-#[test]
-fn tells_a_server_over_a_socket(rt: HostRuntime) -> Result<(), Fail> {
-    let alloc = rt.alloc();
-    let listener = TcpListener::bind(&rt, "127.0.0.1:0")?;
-    let place = Place::Address(listener.local_addr()?);
-    let client = connect(&rt, place)?;
-    let (server, _) = listener.accept()?;
-    let mut sending = &server;
-    sending.write_all(b"done\n")?;
-    let mut reader = BufReader::new(alloc, &client)?;
-    let mut writer = &client;
-    let mut output = FaultyWriter::new(alloc, 64, 0, Fault::Nothing);
-    let told = tell_line(
-        alloc,
-        place,
-        &mut reader,
-        &mut writer,
-        &mut output,
-        b"pass db",
-    );
-    same(&told, &Ok(0), &"the exit status")?;
-    same(&output.written(), &b"done\n".as_slice(), &"the answer")?;
-    let mut line = [0u8; 8];
-    let mut receiving = &server;
-    receiving.read_exact(&mut line)?;
-    same(&line, b"pass db\n", &"the line")
-}
-
-/// What comes of `check -`, where each answer has so long, and how long that took.
-fn told_within<R: Clock>(
+/// A client of a server of this test's own, and the server's end.
+fn connected<R: Net<Listener = TcpListener, Stream = TcpStream>>(
     rt: &R,
-    alloc: Global,
+) -> Result<(ControlClient, TcpStream), Fail> {
+    let listener = TcpListener::bind(rt, "127.0.0.1:0")?;
+    accepted(rt, &listener)
+}
+
+fn accepted<R: Net<Listener = TcpListener, Stream = TcpStream>>(
+    rt: &R,
+    listener: &TcpListener,
+) -> Result<(ControlClient, TcpStream), Fail> {
+    let place = Place::Address(listener.local_addr()?);
+    let client = connect_within(rt, place, Duration::from_secs(5))?;
+    let (server, _) = listener.accept()?;
+    Ok((client, server))
+}
+
+/// How many milliseconds a line and its answer have.
+const TIME: u64 = 300;
+
+/// A byte of an answer in time, and what comes of the next read, to which nothing comes.
+fn expect_times<R: Clock>(
+    rt: &R,
     client: &ControlClient,
-    time: Duration,
-) -> Result<(String, u128), Fail> {
-    let start = Instant::now(rt)?;
-    let time = AnswerTime::new(time);
-    let mut reader = BufReader::new(alloc, TimedControl::new(rt, client, &time))?;
+    mut server: &TcpStream,
+) -> Result<(), Fail> {
+    let time = AnswerTime::new(Duration::from_millis(TIME));
     let mut writer = TimedControl::new(rt, client, &time);
-    let mut output = FaultyWriter::new(alloc, 64, 0, Fault::Nothing);
-    let place = Place::Path("/run/healthd");
-    let told = tell_line(
-        alloc,
-        place,
-        &mut reader,
-        &mut writer,
-        &mut output,
-        b"check -",
-    );
-    let text = match told {
-        Ok(status) => format!(in alloc; "{status}")?,
-        Err(failure) => format!(in alloc; "{failure}")?,
-    };
-    Ok((text, start.elapsed(rt)?.as_millis()))
-}
-
-/// A server that takes the connection and stays silent, and then one that sends a byte of an answer.
-#[test]
-fn gives_up_where_an_answer_takes_too_long(rt: HostRuntime) -> Result<(), Fail> {
-    let alloc = rt.alloc();
-    let listener = TcpListener::bind(&rt, "127.0.0.1:0")?;
-    let place = Place::Address(listener.local_addr()?);
-    let time = Duration::from_millis(200);
-    let client = connect_within(&rt, place, Duration::from_secs(5))?;
-    let (server, _) = listener.accept()?;
-    let late = "timed out, the change may still be made";
-    let (text, waited) = told_within(&rt, alloc, &client, time)?;
-    same(&text.as_str(), &late, &"a silent server")?;
-    same(&(200..5_000).contains(&waited), &true, &waited)?;
-    let mut sending = &server;
-    sending.write_all(b"s")?;
-    let (text, waited) = told_within(&rt, alloc, &client, time)?;
-    same(&text.as_str(), &late, &"a part of an answer")?;
-    same(&(200..5_000).contains(&waited), &true, &waited)?;
-    // the rest of that answer
-    sending.write_all(b"erving\n")?;
-    sending.write_all(b"done\n")?;
-    let (text, _) = told_within(&rt, alloc, &client, time)?;
-    same(&text.as_str(), &"0", &"an answer in time")
-}
-
-/// Bytes that come one by one do not make the time longer.
-#[test]
-fn gives_an_answer_no_more_time_for_each_byte(rt: HostRuntime) -> Result<(), Fail> {
-    let alloc = rt.alloc();
-    let listener = TcpListener::bind(&rt, "127.0.0.1:0")?;
-    let place = Place::Address(listener.local_addr()?);
-    let client = connect_within(&rt, place, Duration::from_secs(5))?;
-    let (server, _) = listener.accept()?;
-    let mut sending = &server;
-    let time = AnswerTime::new(Duration::from_millis(300));
-    let mut writer = TimedControl::new(&rt, &client, &time);
+    let mut reader = TimedControl::new(rt, client, &time);
+    let start = Instant::now(rt)?;
     writer.write_all(b"check -\n")?;
-    writer.flush()?;
-    let mut reader = TimedControl::new(&rt, &client, &time);
-    let mut read = 0u32;
-    let start = Instant::now(&rt)?;
-    for _ in 0..100u32 {
-        sending.write_all(b"s")?;
-        if reader.read(&mut [0u8; 1]).is_err() {
-            break;
-        }
-        read = read.wrapping_add(1);
-        thread::sleep(&rt, Duration::from_millis(20));
-    }
-    let waited = start.elapsed(&rt)?.as_millis();
-    same(&(0 < read && read < 100), &true, &read)?;
-    same(&(waited < 1_500), &true, &waited)?;
-    // a line behind it has a time of its own
+    server.write_all(b"s")?;
+    same(&reader.read(&mut [0; 2])?, &1, &"a byte in time")?;
+    let late = reader.read(&mut [0; 2]).map_err(|error| error.kind());
+    same(&late, &Err(ErrorKind::TimedOut), &"no byte more")?;
+    let waited = start.elapsed(rt)?.as_millis();
+    same(&(300..5_000).contains(&waited), &true, &waited)?;
     writer.write_all(b"check -\n")?;
-    same(&reader.read(&mut [0u8; 1]).is_ok(), &true, &"the next line")
+    server.write_all(b"s")?;
+    same(&reader.read(&mut [0; 2])?, &1, &"the next line")
 }
 
-/// Empty lines have no answers, and no line has less time because of the lines before it.
+/// The time of a line is not longer for each byte of its answer, nor shorter for the lines before it.
 #[test]
 fn gives_each_line_its_own_time(rt: HostRuntime) -> Result<(), Fail> {
-    let listener = TcpListener::bind(&rt, "127.0.0.1:0")?;
-    let place = Place::Address(listener.local_addr()?);
-    let client = connect_within(&rt, place, Duration::from_secs(5))?;
-    let (_server, _) = listener.accept()?;
-    let time = AnswerTime::new(Duration::from_millis(100));
-    let mut writer = TimedControl::new(&rt, &client, &time);
-    for _ in 0..5u32 {
-        writer.write_all(b"\n")?;
-        writer.flush()?;
-        thread::sleep(&rt, Duration::from_millis(40));
-    }
-    Ok(())
+    let (client, server) = connected(&rt)?;
+    expect_times(&rt, &client, &server)
 }
 
 fn expect_timeout(alloc: Global, words: &[&str], expected: u64) -> Result<(), Fail> {

@@ -3,12 +3,13 @@
 ghost use Rattle.hall.specs.Seats.{IsOf};
 
 use crate::guest::{Guest, Probes, manuals, two_seats};
+use crate::keeping::{FORGETTING, KeepFour};
 use crate::rows::{DONE, Found, Step, Wrong, is_as, result_of};
 use desk_core::{Extent, Finding, Keep, KeepAll, Refusal, Reply, Setting};
 use hall::Hall;
 use health_wire::Serving;
 use probe_core::{Manual, Probe, Start, Threshold};
-use std::alloc::Global;
+use std::alloc::{AllocError, Global};
 use std::sync::Wait;
 use std::test::Fail;
 use test_support::same;
@@ -51,7 +52,7 @@ fn first_wrong<R: Wait, P: Probe, K: Keep>(
     None
 }
 
-pub(crate) fn expect_story<R: Wait, P: Probe, K: Keep>(
+fn expect_story<R: Wait, P: Probe, K: Keep>(
     rt: &R,
     alloc: Global,
     story: &Story,
@@ -138,22 +139,6 @@ static CHANGES: Story = Story {
     ],
 };
 
-#[test]
-fn makes_each_change(rt: HostRuntime) -> Result<(), Fail> {
-    let alloc = rt.alloc();
-    let unknown = Threshold::new(1, 1, Start::Unknown);
-    let (up, unlisted) = (
-        Threshold::new(2, 1, Start::Up),
-        Threshold::new(2, 1, Start::Up),
-    );
-    let probes = Probes {
-        first: Vec::from_array(alloc, [unlisted, up, unknown])?,
-        second: Vec::new(alloc),
-        counters: None,
-    };
-    expect_story::<HostRuntime, Threshold, KeepAll>(&rt, alloc, &CHANGES, probes)
-}
-
 static SETTINGS: Story = Story {
     max_entries: 100,
     turns: &[
@@ -187,10 +172,26 @@ const FIVE: Extent = Extent {
     kept: 5,
 };
 
+/// A threshold to register, one in its place, and one that is handed in under a name that is not listed.
+fn thresholds(alloc: Global) -> Result<Probes<Threshold>, AllocError> {
+    let unknown = Threshold::new(1, 1, Start::Unknown);
+    let up = Threshold::new(2, 1, Start::Up);
+    let unlisted = Threshold::new(2, 1, Start::Up);
+    Ok(Probes {
+        first: Vec::from_array(alloc, [unlisted, up, unknown])?,
+        second: Vec::new(alloc),
+        counters: None,
+    })
+}
+
+fn expect_stories<R: Wait>(rt: &R, alloc: Global) -> Result<(), Fail> {
+    expect_story::<R, Threshold, KeepAll>(rt, alloc, &CHANGES, thresholds(alloc)?)?;
+    expect_story::<R, Manual, KeepAll>(rt, alloc, &SETTINGS, manuals(alloc)?)?;
+    expect_story::<R, Manual, KeepFour>(rt, alloc, &FORGETTING, manuals(alloc)?)
+}
+
 /// `answers_from_last_look`: a hall that answered from what the seat saw last would not show it the changes of the other.
 #[test]
-fn a_seat_sees_what_another_sets(rt: HostRuntime) -> Result<(), Fail> {
-    let alloc = rt.alloc();
-    let probes = manuals(alloc)?;
-    expect_story::<HostRuntime, Manual, KeepAll>(&rt, alloc, &SETTINGS, probes)
+fn a_seat_sees_each_change_of_another_as_far_as_it_is_kept(rt: HostRuntime) -> Result<(), Fail> {
+    expect_stories(&rt, rt.alloc())
 }

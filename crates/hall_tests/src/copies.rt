@@ -18,7 +18,7 @@ use test_support::{Scarcity, same};
 use web_call::Door;
 
 /// What another seat does, or what is asked of a door, with what it has to tell.
-#[derive(Clone, Copy, Debug, PartialEq, Eq)]
+#[derive(Clone, Copy)]
 enum Act {
     Set(Setting),
     Renew,

@@ -1,4 +1,3 @@
-mod drops;
 mod ends;
 mod flips;
 mod gates;

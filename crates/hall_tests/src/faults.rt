@@ -32,18 +32,3 @@ fn refuses_no_seats_and_too_many(rt: HostRuntime) -> Result<(), Fail> {
     }
     Ok(())
 }
-
-const FAULTS: [(HallFault, u8, &str); 3] = [
-    (HallFault::NoSeats, 1, "a hall needs a seat"),
-    (HallFault::TooManySeats, 2, "a hall has at most 1024 seats"),
-    (HallFault::NoMemory, 3, "out of memory"),
-];
-
-#[test]
-fn numbers_and_tells_each_fault(rt: HostRuntime) -> Result<(), Fail> {
-    for (fault, number, text) in &FAULTS {
-        same(&(*fault as u8), number, text)?;
-        same(&fault.to_string(rt.alloc())?.as_str(), text, number)?;
-    }
-    Ok(())
-}

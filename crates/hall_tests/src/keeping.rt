@@ -1,13 +1,10 @@
 //! Halls over a registry that keeps four entries, and four status changes.
 
-use crate::changes::{Story, Turn, Who, expect_story};
-use crate::guest::manuals;
-use crate::race::{Race, expect_race};
+use crate::changes::{Story, Turn, Who};
+use crate::race::Race;
 use crate::rows::{DONE, Found, Row, Step};
 use desk_core::{Behind, Extent, Finding, Keep, Setting};
 use health_wire::Serving;
-use probe_core::Manual;
-use std::test::Fail;
 
 /// The last four.
 #[derive(Drop)]
@@ -30,7 +27,7 @@ const UP: Turn = (Who::First, Step::Set("a", Setting::Up), DONE);
 const BEHIND: Turn = (Who::Second, Step::Next, Found::Next(Err(Behind)));
 
 /// Where the next change of a watch is the oldest that is kept it is told; one change later the watch is behind for good.
-static FORGETTING: Story = Story {
+pub(crate) static FORGETTING: Story = Story {
     max_entries: 100,
     turns: &[
         (Who::First, Step::Register("a"), DONE),
@@ -68,13 +65,6 @@ static FORGETTING: Story = Story {
     ],
 };
 
-#[test]
-fn a_hall_forgets_and_says_so(rt: HostRuntime) -> Result<(), Fail> {
-    let alloc = rt.alloc();
-    let probes = manuals(alloc)?;
-    expect_story::<HostRuntime, Manual, KeepFour>(&rt, alloc, &FORGETTING, probes)
-}
-
 /// Each call under a name, of which six are changes. What a watch is told depends on the other thread.
 const EACH_OF_A: &[Row] = &[
     (Step::Register("a"), Found::Reply),
@@ -106,7 +96,7 @@ const EACH_OF_B: &[Row] = &[
     (Step::Retire("b"), Found::Reply),
 ];
 
-static EACH_CALL: Race = Race {
+pub(crate) static EACH_CALL: Race = Race {
     names: &["a", "b", ""],
     max_entries: 1_000,
     before: &[],
@@ -124,8 +114,3 @@ static EACH_CALL: Race = Race {
     ),
     entries: 240,
 };
-
-#[test]
-fn a_hall_that_forgets_takes_each_call_of_two_threads(rt: HostRuntime) -> Result<(), Fail> {
-    expect_race::<HostRuntime, KeepFour>(&rt, rt.alloc(), &EACH_CALL)
-}

@@ -1,4 +1,4 @@
-//! Tests of halls, of the crews over them and of their servers, by public calls alone.
+//! Tests of halls and of the crews over them, by public calls alone.
 #![tactic(auto)]
 
 #[cfg(test)]

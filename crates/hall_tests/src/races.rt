@@ -1,8 +1,12 @@
+use crate::keeping::{EACH_CALL, KeepFour};
 use crate::race::{Race, expect_race};
 use crate::rows::{DONE, Found, Row, Step};
 use desk_core::{Extent, Finding, KeepAll, Refusal, Setting};
 use health_wire::Serving;
+use std::alloc::Global;
+use std::sync::Wait;
 use std::test::Fail;
+use std::thread::Threads;
 
 const DOWN_A: Row = (Step::Set("a", Setting::Down), DONE);
 
@@ -62,12 +66,6 @@ static CHECKED_FLIPS: Race = Race {
     entries: 402,
 };
 
-#[test]
-fn loses_no_change_of_two_threads(rt: HostRuntime) -> Result<(), Fail> {
-    expect_race::<HostRuntime, KeepAll>(&rt, rt.alloc(), &FLIPS)?;
-    expect_race::<HostRuntime, KeepAll>(&rt, rt.alloc(), &CHECKED_FLIPS)
-}
-
 const FULL: Found = Found::Change(Err(Refusal::Full));
 
 const AT_THREE: Row = (Step::Check("a"), Found::Check(3, Some(Serving::Serving)));
@@ -105,7 +103,15 @@ static FULL_JOURNAL: Race = Race {
     entries: 3,
 };
 
+fn expect_races<R: Wait + Threads + Sync>(rt: &R, alloc: Global) -> Result<(), Fail> {
+    for race in [&FLIPS, &CHECKED_FLIPS, &FULL_JOURNAL] {
+        expect_race::<R, KeepAll>(rt, alloc, race)?;
+    }
+    expect_race::<R, KeepFour>(rt, alloc, &EACH_CALL)
+}
+
+/// Two threads lose no change, are refused at a full journal, and make each call also where the hall forgets.
 #[test]
-fn refuses_changes_of_a_full_journal(rt: HostRuntime) -> Result<(), Fail> {
-    expect_race::<HostRuntime, KeepAll>(&rt, rt.alloc(), &FULL_JOURNAL)
+fn loses_no_change_of_two_threads(rt: HostRuntime) -> Result<(), Fail> {
+    expect_races(&rt, rt.alloc())
 }

@@ -1,4 +1,11 @@
+//! Calls at one loop, one after another, and how their clients leave.
+
+use crate::descriptors::watch_and_wait;
+use crate::ends::{
+    break_off, send_on_where_refused, send_without_end, shut_sides, stay_behind_the_end,
+};
 use crate::scenes::{Place, Scene, client, rest};
+use std::alloc::Global;
 use std::io::Write;
 use std::net::{Net, TcpStream};
 use std::test::Fail;
@@ -49,13 +56,6 @@ fn call_one_after_another<R: Net<Stream = TcpStream> + Clock>(
     same(&found, &(0, 6), &"all have ended")
 }
 
-#[test]
-fn answers_calls_one_after_another(rt: HostRuntime) -> Result<(), Fail> {
-    let scene = Scene::new(rt.alloc())?;
-    let mut place = Place::new(&rt, rt.alloc(), 10, 10)?;
-    call_one_after_another(&rt, &mut place, &scene)
-}
-
 fn send_in_two_parts<R: Net<Stream = TcpStream> + Clock>(
     rt: &R,
     place: &mut Place,
@@ -71,9 +71,29 @@ fn send_in_two_parts<R: Net<Stream = TcpStream> + Clock>(
     same(&found.as_slice(), &SERVING, &"the whole")
 }
 
+/// Each step begins with what the one before it has left. What the loop counts is of all of them.
+fn call_in_turn<R: Net<Stream = TcpStream> + Clock>(
+    rt: &R,
+    place: &mut Place,
+    scene: &mut Scene,
+) -> Result<(), Fail> {
+    call_one_after_another(rt, place, scene)?;
+    send_in_two_parts(rt, place, scene)?;
+    send_on_where_refused(rt, place, scene)?;
+    shut_sides(rt, place, scene)?;
+    send_without_end(rt, place, scene)?;
+    break_off(rt, place, scene)?;
+    stay_behind_the_end(rt, place, scene)?;
+    watch_and_wait(rt, place, scene)
+}
+
+fn call_at_a_loop<R: Net<Stream = TcpStream> + Clock>(rt: &R, alloc: Global) -> Result<(), Fail> {
+    let mut scene = Scene::new(alloc)?;
+    let mut place = Place::new(rt, alloc, 10, 10)?;
+    call_in_turn(rt, &mut place, &mut scene)
+}
+
 #[test]
-fn a_request_may_come_in_two_parts(rt: HostRuntime) -> Result<(), Fail> {
-    let scene = Scene::new(rt.alloc())?;
-    let mut place = Place::new(&rt, rt.alloc(), 10, 10)?;
-    send_in_two_parts(&rt, &mut place, &scene)
+fn clients_are_answered_and_leave_one_after_another(rt: HostRuntime) -> Result<(), Fail> {
+    call_at_a_loop(&rt, rt.alloc())
 }

@@ -68,7 +68,7 @@ impl<D: Door> Handler<TcpStream, Call> for Host<'_, D> {
 
 /// A clock that stands still.
 #[derive(Drop)]
-struct At(Duration);
+pub(crate) struct At(pub(crate) Duration);
 
 impl Clock for At {
     fn monotonic(&self) -> io::Result<Duration> {

@@ -41,7 +41,8 @@ fn run_out_of_descriptors<R: Net<Stream = TcpStream> + Clock>(
     expect_rest(place.alloc, waiting, ANSWERED)
 }
 
-fn watch_and_wait<R: Net<Stream = TcpStream> + Clock>(
+/// The loop goes on where descriptors run out. A Watch that has left before is the first to end.
+pub(crate) fn watch_and_wait<R: Net<Stream = TcpStream> + Clock>(
     rt: &R,
     place: &mut Place,
     scene: &mut Scene,
@@ -51,13 +52,6 @@ fn watch_and_wait<R: Net<Stream = TcpStream> + Clock>(
     sent(place.alloc, &mut watcher)?;
     let mut waiting = client(rt, place, CHECK_OF_EMPTY)?;
     run_out_of_descriptors(rt, place, scene, &mut watcher, &mut waiting)?;
-    let found = (place.server.watches(), place.server.ended());
-    same(&found, &(1, 1), &"with descriptors")
-}
-
-#[test]
-fn goes_on_where_descriptors_run_out(rt: HostRuntime) -> Result<(), Fail> {
-    let mut scene = Scene::new(rt.alloc())?;
-    let mut place = Place::new(&rt, rt.alloc(), 10, 10)?;
-    watch_and_wait(&rt, &mut place, &mut scene)
+    let found = (place.server.watches(), place.ends());
+    same(&found, &(1, (16, 0, 3)), &"with descriptors")
 }

@@ -2,8 +2,6 @@
 #![tactic(auto)]
 
 #[cfg(test)]
-mod bounds;
-#[cfg(test)]
 mod calls;
 #[cfg(test)]
 mod clocks;
@@ -26,7 +24,7 @@ mod recorder;
 #[cfg(test)]
 mod scenes;
 #[cfg(test)]
-mod times;
+mod stop;
 #[cfg(test)]
 mod waking;
 #[cfg(test)]

@@ -1,7 +1,8 @@
 //! How much a round tells its Watches.
 
 use crate::recorder::asked_in_round;
-use crate::scenes::{Place, Scene, client, sent};
+use crate::scenes::{Place, Scene, client, rest, sent};
+use crate::watches::{ENDED, WATCHERS};
 use desk_core::Setting;
 use std::alloc::Global;
 use std::io::Read;
@@ -10,9 +11,6 @@ use std::test::Fail;
 use std::time::Clock;
 use test_support::requests::WATCH_OF_EMPTY;
 use test_support::same;
-
-/// Open Watches.
-const WATCHERS: usize = 100;
 
 /// How often a service goes down and up again before a look. A turn tells 32 changes at most, so that each Watch is told all of them in
 /// one turn, in two and in four.
@@ -86,11 +84,23 @@ fn expect_flips(alloc: Global, streams: &mut [TcpStream], flips: usize) -> Resul
     Ok(())
 }
 
-fn tell_much<R: Net<Stream = TcpStream> + Clock>(
+/// Each client is sent the end of its Watch, and nothing more.
+fn expect_ended(alloc: Global, streams: &mut [TcpStream]) -> Result<(), Fail> {
+    for stream in streams {
+        let found = rest(alloc, stream)?;
+        same(&found.starts_with(b"2f\r\n\x80"), &true, &"no more")?;
+        same(&found.ends_with(ENDED), &true, &"the end")?;
+    }
+    Ok(())
+}
+
+/// A round tells its Watches little, and rounds tell each all; then all ends.
+pub(crate) fn tell_much<R: Net<Stream = TcpStream> + Clock>(
     rt: &R,
     place: &mut Place,
     scene: &mut Scene,
 ) -> Result<(), Fail> {
+    let (ended, given_up, gone) = place.ends();
     let mut streams = watchers(rt, place, scene)?;
     for flips in FLIPS {
         for _ in 0..flips {
@@ -102,16 +112,8 @@ fn tell_much<R: Net<Stream = TcpStream> + Clock>(
     }
     place.news.end();
     look_through(rt, place, scene)?;
-    for stream in &mut streams {
-        let found = sent(place.alloc, stream)?;
-        same(&found.starts_with(b"2f\r\n\x80"), &true, &"no more")?;
-    }
-    Ok(())
-}
-
-#[test]
-fn a_round_tells_its_watches_little_and_rounds_tell_each_all(rt: HostRuntime) -> Result<(), Fail> {
-    let mut scene = Scene::new(rt.alloc())?;
-    let mut place = Place::new(&rt, rt.alloc(), WATCHERS, WATCHERS)?;
-    tell_much(&rt, &mut place, &mut scene)
+    expect_ended(place.alloc, &mut streams)?;
+    same(&place.server.connections(), &0, &"all have ended")?;
+    let expected = (ended.saturating_add(WATCHERS as u64), given_up, gone);
+    same(&place.ends(), &expected, &"all have ended")
 }

@@ -40,10 +40,12 @@ fn asked_in_a_round<R: Net<Stream = TcpStream> + Clock>(
     Ok(asked)
 }
 
-#[test]
-fn watches_look_behind_all_else_and_the_door_is_renewed_once(rt: HostRuntime) -> Result<(), Fail> {
-    let mut scene = Scene::new(rt.alloc())?;
-    let mut place = Place::new(&rt, rt.alloc(), 10, 10)?;
-    let asked = asked_in_a_round(&rt, &mut place, &mut scene)?;
+/// Watches look behind all else, and the door is renewed once before they do.
+pub(crate) fn look_behind_all_else<R: Net<Stream = TcpStream> + Clock>(
+    rt: &R,
+    place: &mut Place,
+    scene: &mut Scene,
+) -> Result<(), Fail> {
+    let asked = asked_in_a_round(rt, place, scene)?;
     same(&asked, b"crssssssssssssss", &"asked")
 }

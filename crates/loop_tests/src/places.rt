@@ -1,6 +1,7 @@
 //! Two loops over one socket, which share the places.
 
 use crate::scenes::{ANSWERED, Place, Scene, client, expect_rest, rest, sent};
+use crate::watches::ENDED;
 use live_server::{Acceptor, EventServer, Limits, News, Places};
 use mio::net::TcpListener;
 use std::alloc::Global;
@@ -11,9 +12,6 @@ use std::test::Fail;
 use std::time::{Clock, Duration, Instant};
 use test_support::requests::{CHECK_OF_EMPTY, WATCH_OF_EMPTY};
 use test_support::same;
-
-/// How a Watch that the server ends closes.
-const ENDED: &[u8] = b"\r\n0\r\n\r\n";
 
 /// A loop over a socket, which shares these places.
 fn loop_over<R: Net + Clock>(
@@ -139,20 +137,6 @@ where
     pair.rounds(rt, scene, !first)
 }
 
-#[test]
-fn a_place_for_a_watch_serves_each_loop(rt: HostRuntime) -> Result<(), Fail> {
-    let scene = Scene::new(rt.alloc())?;
-    let limits = Limits {
-        connections: 4,
-        watches: 1,
-    };
-    let mut pair = Pair::new(&rt, rt.alloc(), limits)?;
-    for number in 0..8u8 {
-        watch_alone(&rt, &mut pair, &scene, number % 2 == 0)?;
-    }
-    Ok(())
-}
-
 /// Two connections are held by the first loop. A third waits for the other loop, and is answered once one of them has left.
 fn wait_for_the_other<R>(
     rt: &R,
@@ -187,20 +171,6 @@ where
     pair.expect_held(rt, scene, !first, (0, 0))
 }
 
-#[test]
-fn a_place_for_a_connection_serves_each_loop(rt: HostRuntime) -> Result<(), Fail> {
-    let scene = Scene::new(rt.alloc())?;
-    let limits = Limits {
-        connections: 2,
-        watches: 2,
-    };
-    let mut pair = Pair::new(&rt, rt.alloc(), limits)?;
-    for number in 0..8u8 {
-        connect_alone(&rt, &mut pair, &scene, number % 2 == 0)?;
-    }
-    Ok(())
-}
-
 /// One of the loops holds two connections, and both have left; the other has seen meanwhile that a third waits, which the first then
 /// answers.
 fn leave_places<R>(rt: &R, pair: &mut Pair, scene: &Scene, is_other: bool) -> Result<(), Fail>
@@ -230,19 +200,16 @@ where
     Ok(soon.is_some_and(|soon| ended < soon))
 }
 
-#[test]
-fn a_loop_is_woken_for_a_place_that_another_gives_back(rt: HostRuntime) -> Result<(), Fail> {
-    let scene = Scene::new(rt.alloc())?;
-    let limits = Limits {
-        connections: 2,
-        watches: 2,
-    };
-    let mut pair = Pair::new(&rt, rt.alloc(), limits)?;
+/// A loop is woken for a place that another gives back.
+fn wake_each_other<R>(rt: &R, pair: &mut Pair, scene: &Scene) -> Result<(), Fail>
+where
+    R: Clock + Net<Stream = TcpStream>,
+{
     // A round in which it is not woken takes a tenth of a second. A slow machine may take as long, but hardly each time.
     let mut woken = (false, false);
     for _ in 0..4u8 {
-        woken.0 = is_woken(&rt, &mut pair, &scene, false)? || woken.0;
-        woken.1 = is_woken(&rt, &mut pair, &scene, true)? || woken.1;
+        woken.0 = is_woken(rt, pair, scene, false)? || woken.0;
+        woken.1 = is_woken(rt, pair, scene, true)? || woken.1;
     }
     same(&woken, &(true, true), &"woken")
 }
@@ -290,13 +257,70 @@ where
     pair.expect_held(rt, scene, true, (0, 0))
 }
 
+/// What two loops do that share their places.
+#[derive(Clone, Copy)]
+enum Part {
+    /// One place for a Watch serves each of them.
+    Watch,
+    /// A place for a connection serves each of them, which is woken for it.
+    Connection,
+    /// They hold as many Watches as may be open.
+    All,
+}
+
+/// Each of the loops is the first in turn.
+fn play<R>(rt: &R, pair: &mut Pair, scene: &Scene, part: Part) -> Result<(), Fail>
+where
+    R: Clock + Net<Stream = TcpStream>,
+{
+    match part {
+        Part::Watch => {
+            for number in 0..8u8 {
+                watch_alone(rt, pair, scene, number % 2 == 0)?;
+            }
+            Ok(())
+        }
+        Part::Connection => {
+            for number in 0..8u8 {
+                connect_alone(rt, pair, scene, number % 2 == 0)?;
+            }
+            wake_each_other(rt, pair, scene)
+        }
+        Part::All => fill(rt, pair, scene),
+    }
+}
+
+fn play_at_two_loops<R>(rt: &R, alloc: Global, part: Part) -> Result<(), Fail>
+where
+    R: Clock + Net<Listener = net::TcpListener, Stream = TcpStream>,
+{
+    let (connections, watches) = match part {
+        Part::Watch => (4, 1),
+        Part::Connection => (2, 2),
+        Part::All => (100, 90),
+    };
+    let limits = Limits {
+        connections,
+        watches,
+    };
+    let scene = Scene::new(alloc)?;
+    let mut pair = Pair::new(rt, alloc, limits)?;
+    play(rt, &mut pair, &scene, part)
+}
+
+#[test]
+fn a_place_for_a_watch_serves_each_loop(rt: HostRuntime) -> Result<(), Fail> {
+    play_at_two_loops(&rt, rt.alloc(), Part::Watch)
+}
+
+#[test]
+fn a_place_for_a_connection_serves_each_loop_which_is_woken_for_it(
+    rt: HostRuntime,
+) -> Result<(), Fail> {
+    play_at_two_loops(&rt, rt.alloc(), Part::Connection)
+}
+
 #[test]
 fn loops_hold_as_many_watches_as_may_be_open(rt: HostRuntime) -> Result<(), Fail> {
-    let scene = Scene::new(rt.alloc())?;
-    let limits = Limits {
-        connections: 100,
-        watches: 90,
-    };
-    let mut pair = Pair::new(&rt, rt.alloc(), limits)?;
-    fill(&rt, &mut pair, &scene)
+    play_at_two_loops(&rt, rt.alloc(), Part::All)
 }

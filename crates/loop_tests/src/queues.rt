@@ -1,5 +1,6 @@
 //! When connections that wait are accepted.
 
+use crate::clocks::At;
 use live_server::Queue;
 use std::io::ErrorKind;
 use std::test::Fail;
@@ -13,22 +14,30 @@ const FAILURES: [(ErrorKind, Queue); 3] = [
     (ErrorKind::ConnectionAborted, Queue::Waiting),
 ];
 
+/// So many milliseconds on a clock that stands there.
+fn at(millis: u64) -> Result<Instant, Fail> {
+    Ok(Instant::now(&At(Duration::from_millis(millis)))?)
+}
+
 #[test]
 fn an_accept_that_failed_is_tried_again_a_tenth_of_a_second_later(
-    rt: HostRuntime,
+    _rt: HostRuntime,
 ) -> Result<(), Fail> {
-    let now = Instant::now(&rt)?;
+    let now = at(1_000)?;
     for (kind, expected) in &FAILURES {
         same(&Queue::behind(*kind, now), expected, kind)?;
     }
     let failed = Queue::behind(ErrorKind::OutOfMemory, now);
-    let early = now.checked_add(Duration::from_millis(99)).unwrap_or(now);
-    let due = now.checked_add(Duration::from_millis(100)).unwrap_or(now);
-    same(&failed.reported(), &failed, &"reported")?;
-    same(&failed.retried(early), &failed, &"99 milliseconds later")?;
-    same(
-        &failed.retried(due),
-        &Queue::Waiting,
-        &"100 milliseconds later",
-    )
+    for (found, expected, what) in [
+        (failed.reported(), failed, "reported"),
+        (failed.retried(at(1_099)?), failed, "99 milliseconds later"),
+        (
+            failed.retried(at(1_100)?),
+            Queue::Waiting,
+            "100 milliseconds later",
+        ),
+    ] {
+        same(&found, &expected, &what)?;
+    }
+    Ok(())
 }

@@ -55,17 +55,20 @@ where
     woken
 }
 
+fn woken_at_one_socket<R>(rt: &R, alloc: Global) -> Result<(bool, bool), Fail>
+where
+    R: Wait + Threads + Clock + Sync + Net<Listener = net::TcpListener, Stream = TcpStream>,
+{
+    let any = SocketAddr::from(([127, 0, 0, 1], 0));
+    let listener = net::TcpListener::from(TcpListener::bind(rt, any)?);
+    let addr = listener.local_addr()?;
+    let mut first = Waiter::new(rt, alloc, listener.try_clone()?)?;
+    let mut second = Waiter::new(rt, alloc, listener)?;
+    Ok(woken(rt, &mut first, &mut second, addr))
+}
+
 #[test]
 fn one_of_those_that_wait_is_woken_for_a_connection(rt: HostRuntime) -> Result<(), Fail> {
-    let any = SocketAddr::from(([127, 0, 0, 1], 0));
-    let listener = net::TcpListener::from(TcpListener::bind(&rt, any)?);
-    let addr = listener.local_addr()?;
-    let mut first = Waiter::new(&rt, rt.alloc(), listener.try_clone()?)?;
-    let mut second = Waiter::new(&rt, rt.alloc(), listener)?;
-    let (first_woken, second_woken) = woken(&rt, &mut first, &mut second, addr);
-    same(
-        &(first_woken != second_woken),
-        &true,
-        &(first_woken, second_woken),
-    )
+    let (first, second) = woken_at_one_socket(&rt, rt.alloc())?;
+    same(&(first != second), &true, &(first, second))
 }

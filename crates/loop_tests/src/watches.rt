@@ -1,7 +1,10 @@
-use crate::scenes::{Place, Scene, client, rest, sent};
+//! What Watches at one loop are told.
+
+use crate::looks::tell_much;
+use crate::order::look_behind_all_else;
+use crate::scenes::{Place, Scene, client, sent};
 use desk_core::Setting;
 use std::alloc::Global;
-use std::io::Write;
 use std::net::{Net, TcpStream};
 use std::test::Fail;
 use std::time::Clock;
@@ -9,9 +12,15 @@ use test_support::requests::WATCH_OF_EMPTY;
 use test_support::same;
 
 /// The messages NOT_SERVING and SERVING as a Watch tells them.
-const DOWN: &[u8] = b"7\r\n\x00\x00\x00\x00\x02\x08\x02\r\n";
+pub(crate) const DOWN: &[u8] = b"7\r\n\x00\x00\x00\x00\x02\x08\x02\r\n";
 
-const UP: &[u8] = b"7\r\n\x00\x00\x00\x00\x02\x08\x01\r\n";
+pub(crate) const UP: &[u8] = b"7\r\n\x00\x00\x00\x00\x02\x08\x01\r\n";
+
+/// How a Watch that the server ends closes.
+pub(crate) const ENDED: &[u8] = b"\r\n0\r\n\r\n";
+
+/// The most connections, and the most Watches among them.
+pub(crate) const WATCHERS: usize = 100;
 
 /// Each of the clients has been sent what ends so, and nothing else where it is said so.
 fn expect_sent(
@@ -30,6 +39,7 @@ fn expect_sent(
     Ok(())
 }
 
+/// Watches are told each change.
 fn tell_changes<R: Net<Stream = TcpStream> + Clock>(
     rt: &R,
     place: &mut Place,
@@ -45,6 +55,7 @@ fn tell_changes<R: Net<Stream = TcpStream> + Clock>(
         (Setting::Down, DOWN),
         (Setting::Up, UP),
         (Setting::Down, DOWN),
+        (Setting::Up, UP),
     ] {
         scene.set(setting);
         place.news.change();
@@ -53,58 +64,31 @@ fn tell_changes<R: Net<Stream = TcpStream> + Clock>(
     }
     let left = streams.pop();
     drop(left);
-    place.rounds(rt, scene)?;
-    let found = (place.server.connections(), place.server.watches());
-    same(&found, &(2, 2), &"one has left")?;
-    place.news.end();
-    place.rounds(rt, scene)?;
-    for stream in &mut streams {
-        let found = rest(place.alloc, stream)?;
-        same(&found.ends_with(b"\r\n0\r\n\r\n"), &true, &"the end")?;
-    }
-    same(&place.server.connections(), &0, &"all have ended")?;
-    same(&place.ends(), &(3, 0, 0), &"all have ended")
+    place.expect_held(rt, scene, (2, 2))?;
+    drop(streams);
+    place.expect_held(rt, scene, (0, 0))?;
+    same(&place.ends(), &(3, 0, 0), &"all have left")
 }
 
-#[test]
-fn watchers_are_told_each_change(rt: HostRuntime) -> Result<(), Fail> {
-    let mut scene = Scene::new(rt.alloc())?;
-    let mut place = Place::new(&rt, rt.alloc(), 10, 10)?;
-    tell_changes(&rt, &mut place, &mut scene)
-}
-
-/// How often a service goes down and up again: so many changes take several turns.
-const TIMES: usize = 50;
-
-/// A Watch whose client sends a byte while all is to end.
-fn tell_before_the_end<R: Net<Stream = TcpStream> + Clock>(
+/// Each step begins with no connection. The last one ends with the end of all.
+fn watch_in_turn<R: Net<Stream = TcpStream> + Clock>(
     rt: &R,
     place: &mut Place,
     scene: &mut Scene,
 ) -> Result<(), Fail> {
-    let mut stream = client(rt, place, WATCH_OF_EMPTY)?;
-    place.rounds(rt, scene)?;
-    let found = sent(place.alloc, &mut stream)?;
-    same(&found.ends_with(UP), &true, &"open")?;
-    let mut expected = Vec::new(place.alloc);
-    for _ in 0..TIMES {
-        scene.set(Setting::Down);
-        expected.extend_from_slice(DOWN)?;
-        scene.set(Setting::Up);
-        expected.extend_from_slice(UP)?;
-    }
-    stream.write_all(b"x")?;
-    place.news.end();
-    place.rounds(rt, scene)?;
-    place.rounds(rt, scene)?;
-    let found = rest(place.alloc, &mut stream)?;
-    same(&found.starts_with(&expected), &true, &"each change")?;
-    same(&found.ends_with(b"\r\n0\r\n\r\n"), &true, &"the end")
+    tell_changes(rt, place, scene)?;
+    look_behind_all_else(rt, place, scene)?;
+    place.expect_held(rt, scene, (0, 0))?;
+    tell_much(rt, place, scene)
+}
+
+fn watch_at_a_loop<R: Net<Stream = TcpStream> + Clock>(rt: &R, alloc: Global) -> Result<(), Fail> {
+    let mut scene = Scene::new(alloc)?;
+    let mut place = Place::new(rt, alloc, WATCHERS, WATCHERS)?;
+    watch_in_turn(rt, &mut place, &mut scene)
 }
 
 #[test]
-fn a_watch_is_told_all_changes_before_its_end(rt: HostRuntime) -> Result<(), Fail> {
-    let mut scene = Scene::new(rt.alloc())?;
-    let mut place = Place::new(&rt, rt.alloc(), 10, 10)?;
-    tell_before_the_end(&rt, &mut place, &mut scene)
+fn watches_are_told_each_change_a_part_of_them_in_a_round(rt: HostRuntime) -> Result<(), Fail> {
+    watch_at_a_loop(&rt, rt.alloc())
 }

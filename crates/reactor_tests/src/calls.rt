@@ -1,4 +1,4 @@
-use crate::streams::{Manner, wire};
+use crate::streams::{Manner, Wire, wire};
 use crate::turns::{by_turns, turn_once};
 use reactor::{Fate, Turned};
 use std::alloc::Global;
@@ -26,24 +26,24 @@ impl Bell for Mute {
     }
 }
 
-/// What an exchange with a client of this request sends, how it ends, and how many bytes it leaves unread; a Watch has no Looks.
+/// How an exchange with a client of this request ends, what it sends, and how many bytes it leaves unread; a Watch has no Looks.
 fn by_exchange(
     alloc: Global,
     door: &mut impl Door,
     request: &[u8],
-) -> Result<(Vec<u8>, Outcome, usize), Fail> {
+    sent: &mut Vec<u8>,
+) -> Result<(Outcome, usize), Fail> {
     let mut rest = request;
-    let mut sent = Vec::new(alloc);
     let result = exchange(
         alloc,
         &mut Tap::new(&mut rest),
-        &mut Tap::new(&mut sent),
+        &mut Tap::new(sent),
         door,
         &mut Mute,
         Limits { looks: 0 },
     );
     match result {
-        Ok(outcome) => Ok((sent, outcome, rest.len())),
+        Ok(outcome) => Ok((outcome, rest.len())),
         Err(_) => Err(Fail::new("the exchange failed")),
     }
 }
@@ -57,6 +57,21 @@ const REQUESTS: [&[u8]; 6] = [
     WATCH_OF_ZZ,
 ];
 
+/// A call over this link comes to this end, and sends this.
+fn expect_call(
+    alloc: Global,
+    staged: &Staged,
+    link: &mut Wire<'_>,
+    outcome: Outcome,
+    sent: &[u8],
+) -> Result<(), Fail> {
+    let mut call = Call::new(alloc)?;
+    let fate = by_turns(alloc, link, &mut staged.door(), &mut call, Turn::End);
+    same(&fate, &Fate::Done, &sent)?;
+    same(&call.outcome(), &Some(outcome), &sent)?;
+    same(&link.stream().writer.taken.as_slice(), &sent, &sent)
+}
+
 /// A request in the manner comes to what an exchange comes to. In one read there may be bytes that stand behind the request.
 fn expect_the_same(
     alloc: Global,
@@ -64,14 +79,12 @@ fn expect_the_same(
     request: &[u8],
     manner: Manner,
 ) -> Result<(), Fail> {
-    let (expected, outcome, rest) = by_exchange(alloc, &mut staged.door(), request)?;
-    let mut call = Call::new(alloc)?;
+    let mut sent = Vec::new(alloc);
+    let (outcome, rest) = by_exchange(alloc, &mut staged.door(), request, &mut sent)?;
     let mut link = wire(alloc, request, manner, manner)?;
-    let fate = by_turns(alloc, &mut link, &mut staged.door(), &mut call, Turn::End);
-    let found = (fate, call.outcome(), &link.stream().writer.taken);
-    same(&found, &(Fate::Done, Some(outcome), &expected), &manner)?;
+    expect_call(alloc, staged, &mut link, outcome, &sent)?;
     if manner.piece == 1 {
-        same(&link.stream().reader.rest.len(), &rest, &manner)?;
+        same(&link.stream().reader.rest.len(), &rest, &request)?;
     }
     Ok(())
 }
@@ -90,52 +103,69 @@ fn a_call_by_turns_is_answered_as_an_exchange(rt: HostRuntime) -> Result<(), Fai
     Ok(())
 }
 
-/// How a Check's bytes come, and how its answer is taken.
-const PACES: [(Manner, Manner); 2] = [
-    (Manner::BYTE_BY_BYTE, Manner::WHOLE),
-    (Manner::WHOLE, Manner::BYTE_BY_BYTE),
+/// The bytes of a call, how they come, and how its answer is taken; how many bytes its first turn reads and sends, and what comes of that.
+type Row = (&'static [u8], Manner, Manner, (usize, usize), Turned);
+
+const GOES_ON: Turned = Turned {
+    fate: Fate::GoesOn,
+    is_followed: false,
+};
+
+const DONE: Turned = Turned {
+    fate: Fate::Done,
+    is_followed: false,
+};
+
+const FOLLOWED: Turned = Turned {
+    fate: Fate::Done,
+    is_followed: true,
+};
+
+const WHOLE: Manner = Manner::WHOLE;
+
+const BYTES: Manner = Manner::BYTE_BY_BYTE;
+
+const ROWS: [Row; 6] = [
+    // each read and each write is a piece of work, and the answer is one; 112 bytes are read in two pieces
+    (CHECK_OF_EMPTY, BYTES, WHOLE, (64, 0), GOES_ON),
+    (CHECK_OF_EMPTY, WHOLE, BYTES, (112, 61), GOES_ON),
+    // the refused request has no byte behind it, or some
+    (b"GET / HTTP/1.1\r\n\r\n", WHOLE, WHOLE, (18, 86), DONE),
+    (b"GET / HTTP/1.1\r\n\r\nG", WHOLE, WHOLE, (19, 86), FOLLOWED),
+    (
+        b"GET / HTTP/1.1\r\n\r\nGE",
+        WHOLE,
+        WHOLE,
+        (20, 86),
+        FOLLOWED,
+    ),
+    (
+        b"GET / HTTP/1.1\r\n\r\nGET",
+        WHOLE,
+        WHOLE,
+        (21, 86),
+        FOLLOWED,
+    ),
 ];
 
-/// Each read and each write is a piece of work, and the answer is one.
-#[test]
-fn a_turn_gives_way_after_64_pieces_of_work(rt: HostRuntime) -> Result<(), Fail> {
-    let staged = Staged::new(rt.alloc())?;
-    let reads = CHECK_OF_EMPTY.len().div_ceil(64);
-    let expected = [
-        (64, 0),
-        (CHECK_OF_EMPTY.len(), 63usize.saturating_sub(reads)),
-    ];
-    for ((reader, writer), moved) in PACES.iter().zip(&expected) {
-        let mut call = Call::new(rt.alloc())?;
-        let mut link = wire(rt.alloc(), CHECK_OF_EMPTY, *reader, *writer)?;
-        let door = &mut staged.door();
-        let fate = turn_once(rt.alloc(), &mut link, door, &mut call, Turn::End).fate;
-        let pair = link.stream();
-        let read = CHECK_OF_EMPTY.len().saturating_sub(pair.reader.rest.len());
-        let found = (read, pair.writer.taken.len());
-        same(&(fate, found), &(Fate::GoesOn, *moved), reader)?;
-    }
-    Ok(())
+fn expect_turn(alloc: Global, staged: &Staged, row: &Row) -> Result<(), Fail> {
+    let (bytes, reads, writes, moved, turned) = *row;
+    let mut call = Call::new(alloc)?;
+    let mut link = wire(alloc, bytes, reads, writes)?;
+    let found = turn_once(alloc, &mut link, &mut staged.door(), &mut call, Turn::End);
+    let pair = link.stream();
+    let read = bytes.len().saturating_sub(pair.reader.rest.len());
+    let sent = pair.writer.taken.len();
+    same(&(found, (read, sent)), &(turned, moved), &bytes)
 }
 
-/// A request, and three bytes behind it.
-const STREAM: &[u8] = b"GET / HTTP/1.1\r\n\r\nGET";
-
 #[test]
-fn a_turn_tells_of_bytes_behind_the_request(rt: HostRuntime) -> Result<(), Fail> {
+fn a_turn_gives_way_after_64_pieces_of_work_and_tells_of_bytes_behind_the_request(
+    rt: HostRuntime,
+) -> Result<(), Fail> {
     let staged = Staged::new(rt.alloc())?;
-    for behind in 0..=3usize {
-        let len = STREAM.len().saturating_sub(3).saturating_add(behind);
-        let mut call = Call::new(rt.alloc())?;
-        let mut link = wire(rt.alloc(), &STREAM[..len], Manner::WHOLE, Manner::WHOLE)?;
-        let door = &mut staged.door();
-        let found = turn_once(rt.alloc(), &mut link, door, &mut call, Turn::End);
-        let expected = Turned {
-            fate: Fate::Done,
-            is_followed: behind > 0,
-        };
-        let rest = link.stream().reader.rest.len();
-        same(&(found, rest), &(expected, 0), &behind)?;
+    for row in &ROWS {
+        expect_turn(rt.alloc(), &staged, row)?;
     }
     Ok(())
 }

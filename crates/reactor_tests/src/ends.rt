@@ -3,6 +3,7 @@ use crate::streams::Pair;
 use crate::turns::turn_once;
 use control::Session;
 use control::one_thread::OneThread;
+use probe_core::Manual;
 use reactor::{Fate, Host, Link, Machine};
 use std::alloc::Global;
 use std::io::ErrorKind;
@@ -54,19 +55,26 @@ fn first_turn<M: Machine, H: Host<M>>(
     (fate, link.stream().writer.written().len())
 }
 
+fn expect_ends(
+    alloc: Global,
+    staged: &Staged,
+    console: &mut OneThread<Manual>,
+    row: &Row,
+) -> Result<(), Fail> {
+    let mut call = Call::new(alloc)?;
+    let called = first_turn(alloc, CHECK_OF_EMPTY, row, &mut staged.door(), &mut call);
+    let mut session = Session::new(alloc)?;
+    let lines = b"check a\ncheck a\n";
+    let talked = first_turn(alloc, lines, row, &mut tended(console), &mut session);
+    same(&(called, talked), &(row.3, row.4), row)
+}
+
 #[test]
 fn a_turn_ends_with_its_reader_and_its_writer(rt: HostRuntime) -> Result<(), Fail> {
-    let alloc = rt.alloc();
-    let staged = Staged::new(alloc)?;
+    let staged = Staged::new(rt.alloc())?;
+    let mut console = OneThread::new(rt.alloc())?;
     for row in &ROWS {
-        let mut call = Call::new(alloc)?;
-        let called = first_turn(alloc, CHECK_OF_EMPTY, row, &mut staged.door(), &mut call);
-        let mut session = Session::new(alloc)?;
-        let mut console = OneThread::new(alloc)?;
-        let mut host = tended(&mut console);
-        let lines = b"check a\ncheck a\n";
-        let talked = first_turn(alloc, lines, row, &mut host, &mut session);
-        same(&(called, talked), &(row.3, row.4), row)?;
+        expect_ends(rt.alloc(), &staged, &mut console, row)?;
     }
     Ok(())
 }

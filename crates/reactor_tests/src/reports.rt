@@ -1,6 +1,6 @@
 //! Sessions of a place where findings are reported.
 
-use crate::streams::{Manner, ended, wire};
+use crate::streams::{Manner, wire_of};
 use crate::turns::by_turns;
 use control::one_thread::{OneThread, Told};
 use control::{Rights, Session};
@@ -25,12 +25,13 @@ impl Maker<Threshold> for Thresholds {
 }
 
 /// What a session answers to the lines, beside the server as it is behind them.
-fn answers_beside(
+fn expect_answers(
     alloc: Global,
     console: &mut OneThread<Threshold>,
     server: Told,
     lines: &[u8],
-) -> Result<(Vec<u8>, Told), Fail> {
+    answers: &[u8],
+) -> Result<Told, Fail> {
     let mut host = Attendant {
         console,
         server,
@@ -38,11 +39,16 @@ fn answers_beside(
         of: PhantomData,
     };
     let mut session = Session::new(alloc)?;
-    let mut link = ended(wire(alloc, lines, Manner::WHOLE, Manner::WHOLE)?);
+    let mut link = wire_of(alloc, lines, false, Manner::WHOLE, Manner::WHOLE)?;
     let fate = by_turns(alloc, &mut link, &mut host, &mut session, Turn::Look);
     same(&fate, &Fate::Done, &"its end")?;
+    same(
+        &link.stream().writer.taken.as_slice(),
+        &answers,
+        &"its answers",
+    )?;
     let Attendant { server, .. } = host;
-    Ok((link.into_stream().writer.taken, server))
+    Ok(server)
 }
 
 /// A line of who reports, and its answer. `a` is registered and up, and there is room for three entries more.
@@ -80,24 +86,23 @@ const LINES: [(&[u8], &[u8]); 27] = [
     (b"pass a\n", b"refused full\n"),
 ];
 
-#[test]
-fn who_reports_is_answered_and_changes_nothing_but_by_findings(
-    rt: HostRuntime,
-) -> Result<(), Fail> {
-    let alloc = rt.alloc();
-    let mut console = OneThread::new(alloc)?;
-    let opening = b"register a threshold 1\n";
-    let (answer, _) = answers_beside(alloc, &mut console, Told::NOTHING, opening)?;
-    same(&answer.as_slice(), &b"done\n".as_slice(), &"registered")?;
+/// All lines, and their answers.
+fn talk(alloc: Global) -> Result<(Vec<u8>, Vec<u8>), AllocError> {
     let mut lines = Vec::new(alloc);
-    let mut expected = Vec::new(alloc);
+    let mut answers = Vec::new(alloc);
     for (line, answer) in &LINES {
         lines.extend_from_slice(line)?;
-        expected.extend_from_slice(answer)?;
+        answers.extend_from_slice(answer)?;
     }
+    Ok((lines, answers))
+}
+
+fn expect_reports(alloc: Global, console: &mut OneThread<Threshold>) -> Result<(), Fail> {
+    let opening = b"register a threshold 1\n";
+    expect_answers(alloc, console, Told::NOTHING, opening, b"done\n")?;
+    let (lines, answers) = talk(alloc)?;
     let server = Told::NOTHING_BY_REPORTERS;
-    let (answers, server) = answers_beside(alloc, &mut console, server, &lines)?;
-    same(&answers.as_slice(), &expected.as_slice(), &"reported")?;
+    let server = expect_answers(alloc, console, server, &lines, &answers)?;
     // the one change that showed, and no end
     let told = Told {
         rights: Rights::Reports,
@@ -106,4 +111,11 @@ fn who_reports_is_answered_and_changes_nothing_but_by_findings(
         stops: 0,
     };
     same(&server, &told, &"what the server was told")
+}
+
+#[test]
+fn who_reports_is_answered_and_changes_nothing_but_by_findings(
+    rt: HostRuntime,
+) -> Result<(), Fail> {
+    expect_reports(rt.alloc(), &mut OneThread::new(rt.alloc())?)
 }

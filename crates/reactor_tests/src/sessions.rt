@@ -1,4 +1,4 @@
-use crate::streams::{Manner, Wire, ended, filled, wire};
+use crate::streams::{Manner, Wire, filled, wire, wire_of};
 use crate::turns::{by_turns, turn_once};
 use control::Session;
 use control::one_thread::{Manuals, OneThread, Told};
@@ -23,101 +23,116 @@ pub(crate) fn tended(console: &mut OneThread<Manual>) -> Tended<'_> {
     }
 }
 
-/// What is sent to a session, and what it answers.
-const TALKS: [(&[u8], &[u8]); 5] = [
-    (b"", b""),
+/// What is sent to a session, whether more may come behind that, and what it answers.
+const TALKS: [(&[u8], bool, &[u8]); 7] = [
+    (b"", false, b""),
     (
         b"list\nregister a manual\r\ncheck a\ndown a\nlist\n",
+        false,
         b"a=absent -=absent\ndone\nserving\ndone\na=not_serving -=absent\n",
     ),
     (
         b"\ncheck \xff\nno word\nlist",
+        false,
         b"bad line\nbad line\na=absent -=absent\n",
     ),
     (
         b"register - threshold 3\ncheck a\n",
+        false,
         b"refused no memory\nnot found\n",
     ),
-    (b"stop\nlist\n", b"stopping\n"),
+    (b"stop\nlist\n", false, b"stopping\n"),
+    // a last line ends a session whose client sends no more for now
+    (b"stop\n", true, b"stopping\n"),
+    (&[b'a'; 2_000], true, b"line too long\n"),
 ];
 
 /// The bytes of the link are answered so, and the session is done.
-fn expect_sent(alloc: Global, mut link: Wire<'_>, expected: &[u8]) -> Result<(), Fail> {
-    let mut console = OneThread::new(alloc)?;
-    let mut host = tended(&mut console);
+fn expect_sent(
+    alloc: Global,
+    link: &mut Wire<'_>,
+    console: &mut OneThread<Manual>,
+    expected: &[u8],
+) -> Result<(), Fail> {
     let mut session = Session::new(alloc)?;
-    let fate = by_turns(alloc, &mut link, &mut host, &mut session, Turn::Look);
-    let pair = link.stream();
-    let found = (fate, pair.writer.taken.as_slice());
-    same(&found, &(Fate::Done, expected), pair)
+    let mut host = tended(console);
+    let fate = by_turns(alloc, link, &mut host, &mut session, Turn::Look);
+    same(&fate, &Fate::Done, &expected)?;
+    same(&link.stream().writer.taken.as_slice(), &expected, &expected)
+}
+
+/// So is what comes in pieces of such a length, where each second call would wait or none.
+fn expect_talk(
+    alloc: Global,
+    talk: &(&'static [u8], bool, &[u8]),
+    manner: Manner,
+) -> Result<(), Fail> {
+    let (bytes, is_open, expected) = *talk;
+    let mut link = wire_of(alloc, bytes, is_open, manner, manner)?;
+    expect_sent(alloc, &mut link, &mut OneThread::new(alloc)?, expected)
 }
 
 #[test]
-fn answers_each_line_over_any_streams(rt: HostRuntime) -> Result<(), Fail> {
-    let alloc = rt.alloc();
-    for (bytes, expected) in &TALKS {
+fn answers_each_line_over_any_streams_up_to_its_last(rt: HostRuntime) -> Result<(), Fail> {
+    for talk in &TALKS {
         for piece in [1usize, 7, 4_096] {
             for pauses in [false, true] {
-                let manner = Manner { piece, pauses };
-                expect_sent(alloc, ended(wire(alloc, bytes, manner, manner)?), expected)?;
+                expect_talk(rt.alloc(), talk, Manner { piece, pauses })?;
             }
         }
     }
     Ok(())
 }
 
-/// Lines that end a session whose client sends no more for now.
-const LAST_LINES: [(&[u8], &[u8]); 2] = [
-    (b"stop\n", b"stopping\n"),
-    (&[b'a'; 2_000], b"line too long\n"),
+/// Whether nothing can be sent in a turn, what the turn may do, its fate, how often a status has changed by then, and how many bytes were
+/// sent and are not read.
+type Step = (bool, Turn, Fate, u32, usize, usize);
+
+/// Two lines of one read.
+const LINES: &[u8] = b"register a manual\ndown a\n";
+
+/// A line waits until the answer before it is sent. A session that is to end sends what waits and answers no line, and reads none.
+const STEPS: [&[Step]; 3] = [
+    &[
+        (true, Turn::Look, Fate::Rests, 1, 0, 0),
+        (false, Turn::Look, Fate::Rests, 2, 10, 0),
+    ],
+    &[
+        (true, Turn::Look, Fate::Rests, 1, 0, 0),
+        (false, Turn::End, Fate::Done, 1, 5, 0),
+    ],
+    &[(false, Turn::End, Fate::Done, 0, 0, 25)],
 ];
 
-#[test]
-fn a_session_ends_behind_its_last_line(rt: HostRuntime) -> Result<(), Fail> {
-    let alloc = rt.alloc();
-    for (bytes, expected) in &LAST_LINES {
-        let link = wire(alloc, bytes, Manner::WHOLE, Manner::WHOLE)?;
-        expect_sent(alloc, link, expected)?;
+fn expect_steps(
+    alloc: Global,
+    host: &mut Tended<'_>,
+    session: &mut Session,
+    steps: &[Step],
+) -> Result<(), Fail> {
+    let mut link = wire(alloc, LINES, Manner::WHOLE, Manner::WHOLE)?;
+    for (number, (is_full, then, fate, wakes, sent, unread)) in steps.iter().enumerate() {
+        link = filled(link, *is_full);
+        let found = turn_once(alloc, &mut link, host, session, *then).fate;
+        same(&found, fate, &number)?;
+        same(&host.server.wakes, wakes, &number)?;
+        let pair = link.stream();
+        let found = (pair.writer.taken.len(), pair.reader.rest.len());
+        same(&found, &(*sent, *unread), &number)?;
     }
-    Ok(())
+    let sent = link.stream().writer.taken.as_slice();
+    same(&b"done\ndone\n".starts_with(sent), &true, &sent)
 }
 
-/// What a turn may do once the first answer can be sent, its fate, how often a status has changed by then, and what was sent.
-const SECOND_TURNS: [(Turn, Fate, u32, &[u8]); 2] = [
-    (Turn::Look, Fate::Rests, 2, b"done\ndone\n"),
-    // what waits is sent, and no line is answered
-    (Turn::End, Fate::Done, 1, b"done\n"),
-];
-
 #[test]
-fn a_line_waits_until_the_answer_before_it_is_sent(rt: HostRuntime) -> Result<(), Fail> {
+fn a_line_waits_for_the_answer_before_it_and_none_is_answered_behind_the_end(
+    rt: HostRuntime,
+) -> Result<(), Fail> {
     let alloc = rt.alloc();
-    for (then, fate, wakes, sent) in SECOND_TURNS {
+    for steps in STEPS {
         let mut console = OneThread::new(alloc)?;
-        let mut host = tended(&mut console);
         let mut session = Session::new(alloc)?;
-        let lines = b"register a manual\ndown a\n";
-        let mut link = filled(wire(alloc, lines, Manner::WHOLE, Manner::WHOLE)?, true);
-        let first = turn_once(alloc, &mut link, &mut host, &mut session, Turn::Look).fate;
-        let found = (first, host.server.wakes);
-        same(&found, &(Fate::Rests, 1), &"nothing can be sent")?;
-        link = filled(link, false);
-        let second = turn_once(alloc, &mut link, &mut host, &mut session, then).fate;
-        let taken = link.stream().writer.taken.as_slice();
-        let found = (second, host.server.wakes, taken);
-        same(&found, &(fate, wakes, sent), &then)?;
+        expect_steps(alloc, &mut tended(&mut console), &mut session, steps)?;
     }
     Ok(())
-}
-
-#[test]
-fn a_session_that_is_to_end_reads_nothing(rt: HostRuntime) -> Result<(), Fail> {
-    let alloc = rt.alloc();
-    let mut console = OneThread::new(alloc)?;
-    let mut host = tended(&mut console);
-    let mut session = Session::new(alloc)?;
-    let mut link = wire(alloc, b"list\n", Manner::WHOLE, Manner::WHOLE)?;
-    let fate = turn_once(alloc, &mut link, &mut host, &mut session, Turn::End).fate;
-    let rest = link.stream().reader.rest.len();
-    same(&(fate, rest), &(Fate::Done, 5), &"its fate, the bytes")
 }

@@ -11,7 +11,7 @@ use std::io;
 use std::io::{ErrorKind, Read, Write};
 
 /// How a stream gives or takes bytes.
-#[derive(Clone, Copy, Debug, PartialEq, Eq)]
+#[derive(Clone, Copy)]
 pub(crate) struct Manner {
     /// The most bytes of a call.
     pub(crate) piece: usize,
@@ -49,7 +49,7 @@ impl Manner {
 }
 
 /// A reader over bytes.
-#[derive(Debug, Drop)]
+#[derive(Drop)]
 pub(crate) struct Trickle<'a> {
     /// The bytes that were not read.
     pub(crate) rest: &'a [u8],
@@ -73,7 +73,7 @@ impl Read for Trickle<'_> {
 }
 
 /// A writer into memory.
-#[derive(Debug, Drop)]
+#[derive(Drop)]
 pub(crate) struct Basin {
     /// The bytes that were taken.
     pub(crate) taken: Vec<u8>,
@@ -101,7 +101,7 @@ impl Write for Basin {
 }
 
 /// A reader and a writer as one stream.
-#[derive(Debug, Drop)]
+#[derive(Drop)]
 pub(crate) struct Pair<R, W> {
     pub(crate) reader: R,
     pub(crate) writer: W,
@@ -150,16 +150,17 @@ impl<R: Read + Drop, W: Write + Drop> Socket for Pair<R, W> {
 
 pub(crate) type Wire<'a> = Link<Pair<Trickle<'a>, Basin>>;
 
-/// A link over which these bytes come, and then no more for now. For what is sent there is memory up to 1,024 bytes.
-pub(crate) fn wire(
+/// A link over which these bytes come, and then no more for now where it is open. For what is sent there is memory up to 1,024 bytes.
+pub(crate) fn wire_of(
     alloc: Global,
     bytes: &[u8],
+    is_open: bool,
     reads: Manner,
     writes: Manner,
 ) -> Result<Wire<'_>, AllocError> {
     let reader = Trickle {
         rest: bytes,
-        is_open: true,
+        is_open,
         manner: reads,
         calls: 0,
     };
@@ -172,11 +173,14 @@ pub(crate) fn wire(
     Ok(Link::new(Pair { reader, writer }))
 }
 
-/// The same link, whose bytes have an end.
-pub(crate) fn ended(wire: Wire<'_>) -> Wire<'_> {
-    let mut pair = wire.into_stream();
-    pair.reader.is_open = false;
-    Link::new(pair)
+/// The same, where it is open.
+pub(crate) fn wire(
+    alloc: Global,
+    bytes: &[u8],
+    reads: Manner,
+    writes: Manner,
+) -> Result<Wire<'_>, AllocError> {
+    wire_of(alloc, bytes, true, reads, writes)
 }
 
 /// The same link, whose writer would wait from now on, or takes bytes again.

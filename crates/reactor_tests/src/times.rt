@@ -1,26 +1,65 @@
 //! The time that a connection has.
 
+use crate::connections::{Held, after, connection, turn_at};
 use crate::streams::{Manner, filled, wire};
 use desk_core::Setting;
-use reactor::{Connection, End, MOST_TAKEN, Occasion};
+use reactor::End;
+use std::alloc::Global;
 use std::test::Fail;
-use std::time::{Duration, Instant};
+use std::time::Instant;
 use test_support::requests::WATCH_OF_EMPTY;
 use test_support::same;
+use web_call::Why;
 use web_call::staged::Staged;
-use web_call::{Call, Turn, Why};
 
 /// What came of a request by the one turn of a connection, whether its peer takes nothing, how many milliseconds later it is looked at,
-/// and whether it is late by then.
-const TIMES: [(&[u8], bool, u64, bool); 7] = [
-    (b"", false, 9_999, false),
-    (b"", false, 10_000, true),
-    (b"POST /", true, 9_999, false),
-    (b"POST /", true, 10_000, true),
-    (WATCH_OF_EMPTY, true, 29_999, false),
-    (WATCH_OF_EMPTY, true, 30_000, true),
-    (WATCH_OF_EMPTY, false, 86_400_000, false),
+/// and for want of what it is late by then, if it is.
+type Time = (&'static [u8], bool, u64, Option<Why>);
+
+const TIMES: [Time; 7] = [
+    (b"", false, 9_999, None),
+    (b"", false, 10_000, Some(Why::Read)),
+    (b"POST /", true, 9_999, None),
+    (b"POST /", true, 10_000, Some(Why::Read)),
+    (WATCH_OF_EMPTY, true, 29_999, None),
+    (WATCH_OF_EMPTY, true, 30_000, Some(Why::Write)),
+    (WATCH_OF_EMPTY, false, 86_400_000, None),
 ];
+
+/// It is late so many milliseconds behind its beginning, and is then given up so, or it is not late.
+fn expect_late(
+    connection: &Held<'_>,
+    begun: Instant,
+    millis: u64,
+    why: Option<Why>,
+) -> Result<(), Fail> {
+    let is_late = connection.is_late(after(begun, millis)?);
+    same(&is_late, &why.is_some(), &millis)?;
+    match why {
+        Some(why) => same(&connection.late_end(), &End::GivenUp(why), &millis),
+        None => Ok(()),
+    }
+}
+
+/// A connection that is new has ten seconds, whatever comes of its request by its one turn.
+fn expect_time(
+    alloc: Global,
+    staged: &Staged,
+    connection: &mut Held<'_>,
+    begun: Instant,
+    time: &Time,
+) -> Result<(), Fail> {
+    for (millis, why) in [
+        (0, None),
+        (9_999, None),
+        (10_000, Some(Why::Read)),
+        (20_000, Some(Why::Read)),
+    ] {
+        expect_late(connection, begun, millis, why)?;
+    }
+    let _ = turn_at(alloc, staged, connection, begun);
+    expect_late(connection, begun, time.2, time.3)
+}
 
 #[test]
 fn a_request_has_ten_seconds_and_a_peer_that_takes_nothing_thirty(
@@ -28,38 +67,18 @@ fn a_request_has_ten_seconds_and_a_peer_that_takes_nothing_thirty(
 ) -> Result<(), Fail> {
     let alloc = rt.alloc();
     let staged = Staged::new(alloc)?;
-    let mut buffer = [0u8; MOST_TAKEN];
     let now = Instant::now(&rt)?;
-    for (bytes, is_full, millis, is_late) in TIMES {
-        let link = filled(wire(alloc, bytes, Manner::WHOLE, Manner::WHOLE)?, is_full);
-        let mut connection = Connection::new(link.into_stream(), Call::new(alloc)?, now);
-        let occasion = Occasion {
+    for time in &TIMES {
+        let link = filled(wire(alloc, time.0, Manner::WHOLE, Manner::WHOLE)?, time.1);
+        expect_time(
+            alloc,
+            &staged,
+            &mut connection(alloc, link, now)?,
             now,
-            then: Turn::Look,
-            ready: None,
-        };
-        let _ = connection.turn(alloc, &mut staged.door(), &mut buffer, occasion);
-        let then = now.checked_add(Duration::from_millis(millis));
-        let found = then.map(|then| connection.is_late(then));
-        same(&found, &Some(is_late), &millis)?;
-        let why = if bytes == WATCH_OF_EMPTY {
-            Why::Write
-        } else {
-            Why::Read
-        };
-        if is_late {
-            same(&connection.late_end(), &End::GivenUp(why), &millis)?;
-        }
+            time,
+        )?;
     }
     Ok(())
-}
-
-/// So many milliseconds later.
-fn after(begun: Instant, millis: u64) -> Result<Instant, Fail> {
-    match begun.checked_add(Duration::from_millis(millis)) {
-        Some(then) => Ok(then),
-        None => Err(Fail::new("the clock does not go so far")),
-    }
 }
 
 /// What is set before a turn of a Watch, if anything, how many milliseconds behind its connection's beginning the turn is, and since
@@ -74,26 +93,29 @@ const QUIET: [(Option<Setting>, u64, u64); 6] = [
     (None, 6_000, 5_000),
 ];
 
-#[test]
-fn a_connection_is_quiet_since_bytes_last_went_over_it(rt: HostRuntime) -> Result<(), Fail> {
-    let alloc = rt.alloc();
-    let mut staged = Staged::new(alloc)?;
-    let mut buffer = [0u8; MOST_TAKEN];
-    let begun = Instant::now(&rt)?;
-    let link = wire(alloc, WATCH_OF_EMPTY, Manner::WHOLE, Manner::PAUSING)?;
-    let mut connection = Connection::new(link.into_stream(), Call::new(alloc)?, begun);
+fn expect_quiet(
+    alloc: Global,
+    staged: &mut Staged,
+    connection: &mut Held<'_>,
+    begun: Instant,
+) -> Result<(), Fail> {
     same(&connection.quiet_since(), &begun, &"new")?;
     for (setting, millis, quiet) in QUIET {
         if let Some(setting) = setting {
             staged.set(setting);
         }
-        let occasion = Occasion {
-            now: after(begun, millis)?,
-            then: Turn::Look,
-            ready: None,
-        };
-        let _ = connection.turn(alloc, &mut staged.door(), &mut buffer, occasion);
+        let _ = turn_at(alloc, staged, connection, after(begun, millis)?);
         same(&connection.quiet_since(), &after(begun, quiet)?, &millis)?;
     }
     Ok(())
+}
+
+#[test]
+fn a_connection_is_quiet_since_bytes_last_went_over_it(rt: HostRuntime) -> Result<(), Fail> {
+    let alloc = rt.alloc();
+    let mut staged = Staged::new(alloc)?;
+    let begun = Instant::now(&rt)?;
+    let link = wire(alloc, WATCH_OF_EMPTY, Manner::WHOLE, Manner::PAUSING)?;
+    let mut connection = connection(alloc, link, begun)?;
+    expect_quiet(alloc, &mut staged, &mut connection, begun)
 }

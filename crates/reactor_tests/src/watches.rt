@@ -6,6 +6,7 @@ use desk_core::{Catalogue, Desk, Keep, Setting, Slot};
 use probe_core::Manual;
 use reactor::Fate;
 use std::alloc::{AllocError, Global};
+use std::ops::Range;
 use std::test::Fail;
 use test_support::requests::WATCH_OF_EMPTY;
 use test_support::same;
@@ -52,10 +53,6 @@ impl Scene {
         Ok(scene)
     }
 
-    fn wire(&self) -> Result<Wire<'static>, AllocError> {
-        wire(self.alloc, WATCH_OF_EMPTY, Manner::WHOLE, Manner::WHOLE)
-    }
-
     fn set(&mut self, setting: Setting) {
         if let Some(slot) = Slot::new(0) {
             let _ = self.desk.set(0, slot, setting);
@@ -66,6 +63,11 @@ impl Scene {
         let mut door = DeskDoor::new(&self.desk, &self.catalogue);
         turn_once(self.alloc, wire, &mut door, &mut self.call, then).fate
     }
+}
+
+/// A Watch of the name, over a stream that gives and takes all.
+fn whole_watch(alloc: Global) -> Result<Wire<'static>, AllocError> {
+    wire(alloc, WATCH_OF_EMPTY, Manner::WHOLE, Manner::WHOLE)
 }
 
 /// What is set before a turn of an open Watch, what the turn may do, its fate, and how many messages were sent whole by then.
@@ -82,17 +84,20 @@ const STEPS: [Step; 6] = [
     (Setting::Down, Turn::End, Fate::Done, 4),
 ];
 
-#[test]
-fn a_watch_is_told_each_change_by_turns(rt: HostRuntime) -> Result<(), Fail> {
-    let mut scene = Scene::new(rt.alloc())?;
-    let mut link = scene.wire()?;
+fn expect_steps(scene: &mut Scene, link: &mut Wire<'_>) -> Result<(), Fail> {
     for (setting, then, fate, frames) in STEPS {
         scene.set(setting);
-        let found = scene.turn(&mut link, then);
+        let found = scene.turn(link, then);
         same(&(found, scene.call.frames()), &(fate, frames), &frames)?;
     }
     let expected = Some(Outcome::Watched { messages: 3 });
     same(&scene.call.outcome(), &expected, &"the end")
+}
+
+#[test]
+fn a_watch_is_told_each_change_by_turns(rt: HostRuntime) -> Result<(), Fail> {
+    let mut link = whole_watch(rt.alloc())?;
+    expect_steps(&mut Scene::new(rt.alloc())?, &mut link)
 }
 
 /// The first three statuses, and the one that waited for its client, are told; the end is that of any Watch.
@@ -104,27 +109,37 @@ const TOLD: &[u8] = b"HTTP/1.1 200 OK\r\nconnection: close\r\n\
     7\r\n\0\0\0\0\x02\x08\x02\r\n\
     2f\r\n\x80\0\0\0\x2agrpc-status:14\r\ngrpc-message:watch ended\r\n\r\n0\r\n\r\n";
 
-#[test]
-fn a_watch_whose_client_takes_nothing_is_behind_once_it_takes_again(
-    rt: HostRuntime,
-) -> Result<(), Fail> {
-    let mut scene = Scene::new(rt.alloc())?;
-    let mut link = scene.wire()?;
-    for number in 0..103u8 {
-        if number == 3 {
-            link = filled(link, true);
-        }
-        same(&scene.turn(&mut link, Turn::Look), &Fate::Rests, &number)?;
+/// So many turns, each of which rests, and behind each of which the name is set the other way.
+fn rest(scene: &mut Scene, link: &mut Wire<'_>, turns: Range<u8>) -> Result<(), Fail> {
+    for number in turns {
+        same(&scene.turn(link, Turn::Look), &Fate::Rests, &number)?;
         scene.set(if number % 2 == 0 {
             Setting::Down
         } else {
             Setting::Up
         });
     }
+    Ok(())
+}
+
+fn expect_behind(scene: &mut Scene, link: Wire<'_>) -> Result<(), Fail> {
+    let mut link = link;
+    rest(scene, &mut link, 0..3)?;
+    link = filled(link, true);
+    rest(scene, &mut link, 3..103)?;
     link = filled(link, false);
     let fate = scene.turn(&mut link, Turn::Look);
-    let expected = (Fate::Done, Some(Outcome::Behind { messages: 4 }));
-    same(&(fate, scene.call.outcome()), &expected, &"its end")?;
+    same(&fate, &Fate::Done, &"its end")?;
+    let expected = Some(Outcome::Behind { messages: 4 });
+    same(&scene.call.outcome(), &expected, &"the end")?;
     let told = link.stream().writer.taken.as_slice();
     same(&told, &TOLD, &"what it was told")
+}
+
+#[test]
+fn a_watch_whose_client_takes_nothing_is_behind_once_it_takes_again(
+    rt: HostRuntime,
+) -> Result<(), Fail> {
+    let link = whole_watch(rt.alloc())?;
+    expect_behind(&mut Scene::new(rt.alloc())?, link)
 }

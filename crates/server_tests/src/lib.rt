@@ -3,52 +3,22 @@
 #![tactic(auto)]
 
 #[cfg(test)]
-mod apart;
-#[cfg(test)]
-mod beside;
-#[cfg(test)]
-mod buffers;
-#[cfg(test)]
-mod changes;
-#[cfg(test)]
-mod ends;
-#[cfg(test)]
-mod full;
-#[cfg(test)]
-mod halls;
-#[cfg(test)]
-mod many;
+mod manuals;
 #[cfg(test)]
 mod memory;
 #[cfg(test)]
-mod pouring;
+mod orders;
 #[cfg(test)]
 mod ready;
 #[cfg(test)]
 mod refused;
 #[cfg(test)]
-mod reporting;
-#[cfg(test)]
 mod reports;
 #[cfg(test)]
 mod runs;
 #[cfg(test)]
-mod scenes;
-#[cfg(test)]
-mod serving;
-#[cfg(test)]
-mod sessions;
+mod scarce;
 #[cfg(test)]
 mod setup;
 #[cfg(test)]
-mod sixteen;
-#[cfg(test)]
-mod slices;
-#[cfg(test)]
-mod slots;
-#[cfg(test)]
-mod stalled;
-#[cfg(test)]
-mod stopping;
-#[cfg(test)]
-mod talks;
+mod watched;

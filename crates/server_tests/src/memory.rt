@@ -1,9 +1,6 @@
-use crate::ready::Ready;
-use crate::runs::{Manuals, SCRIPT, set_up};
-use crate::scenes::Place;
-use desk_core::{Keep, KeepMany};
-use live_run::{RunFault, SessionPlaces};
-use probe_core::Manual;
+use crate::ready::{Loops, Ready, set_up};
+use crate::scarce::scarce;
+use live_run::RunFault;
 use std::alloc::Global;
 use std::net::{Net, TcpListener, TcpStream};
 use std::sync::Wait;
@@ -11,7 +8,7 @@ use std::test::Fail;
 use std::thread;
 use std::thread::Threads;
 use std::time::Clock;
-use test_support::{Scarcity, same};
+use test_support::same;
 
 /// The room of the test, in bytes, of which it leaves one step more each time. Two loops have to move within it.
 const ROOM: usize = 114_688;
@@ -19,14 +16,14 @@ const ROOM: usize = 114_688;
 const STEP: usize = 4_096;
 
 /// A run for which there is so much memory of the room left, and whether that was enough.
-fn run_leaving<R: Wait + Threads + Clock + Sync, K: Keep + Send>(
-    ready: Ready<'_, R, Manual, K, Manuals>,
-    scarcity: &Scarcity,
+fn run_leaving<R: Wait + Threads + Clock + Sync>(
+    ready: Ready<'_, R>,
     left: usize,
 ) -> Result<bool, Fail> {
-    let filler = scarcity.leave(left)?;
+    let (scarcity, filler) = scarce(ready.alloc, ROOM, left)?;
     let ran = ready.run();
     drop(filler);
+    drop(scarcity);
     match ran {
         Ok(ran) => same(&ran.entries(), &4, &left).map(|()| true),
         Err(fault) => same(&fault, &RunFault::NoMemory, &left).map(|()| false),
@@ -38,24 +35,16 @@ fn runs_in<R>(rt: &R, alloc: Global, left: usize) -> Result<bool, Fail>
 where
     R: Wait + Threads + Clock + Sync + Net<Listener = TcpListener, Stream = TcpStream>,
 {
-    let Place { servers, news, .. } = Place::new(rt, alloc, 2)?;
+    let Loops { servers, news, .. } = Loops::new(rt, alloc)?;
     news.end();
-    let (made, _) = set_up::<R, Manual, KeepMany, Manuals>(rt, alloc, &Manuals, SCRIPT, 3)?;
     let ready = Ready {
         rt,
         alloc,
-        made,
+        made: set_up(rt, alloc)?,
         servers,
-        places: SessionPlaces {
-            control: None,
-            report: None,
-            watchdog: None,
-        },
-        maker: &Manuals,
         news: &news,
     };
-    let scarcity = Scarcity::new(alloc, ROOM)?;
-    run_leaving(ready, &scarcity, left)
+    run_leaving(ready, left)
 }
 
 /// How many runs had enough memory, and how many had not.

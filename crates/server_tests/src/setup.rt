@@ -2,6 +2,8 @@ ghost use Rattle.std.specs.Prelude.{All, IfOk};
 ghost use Rattle.hall.specs.Seats.{IsOf};
 ghost use Rattle.probe_core.specs.Made.{IsAsked};
 
+use crate::manuals::Manuals;
+use crate::scarce::{STEP, scarce};
 use desk_core::{Catalogue, Refusal, Reply};
 use hall::{Hall, Seat};
 use probe_core::{Depends, FnMaker, Maker, Manual, Probe, ProbeFn, Rule, Threshold};
@@ -10,7 +12,7 @@ use server::{SetUpHall, hall_of, run_setup};
 use std::alloc::{AllocError, Global};
 use std::sync::Wait;
 use std::test::Fail;
-use test_support::{Scarcity, same};
+use test_support::same;
 
 /// What comes of a line, if it asks for a change.
 type Taken = Option<Result<Reply, Refusal>>;
@@ -71,14 +73,20 @@ fn expect_results(results: &[Result<Reply, Refusal>], lines: &[(&str, Taken)]) -
     same(&results.next().copied(), &None, &"the end")
 }
 
-/// How many changes each of the seats has made, and how many their hall's journal has.
-fn expect_seats<P: Probe>(made: SetUpHall<P>) -> Result<(), Fail> {
-    let (hall, seats) = made.into_hall();
+/// How many changes each of the seats has made.
+fn expect_changes<P: Probe>(seats: &[Seat<P>]) -> Result<(), Fail> {
     let changes: [u64; 3] = [4, 0, 0];
     same(&seats.len(), &3, &"seats")?;
     for (seat, made) in seats.iter().zip(changes) {
         same(&seat.made(), &made, &"changes")?;
     }
+    Ok(())
+}
+
+/// The same, and how many changes their hall's journal has.
+fn expect_seats<P: Probe>(made: SetUpHall<P>) -> Result<(), Fail> {
+    let (hall, seats) = made.into_hall();
+    expect_changes(&seats)?;
     let Ok(closed) = hall.close(seats) else {
         return Err(Fail::new("a seat is missing"));
     };
@@ -93,7 +101,20 @@ fn expect_setup<R: Wait, P: Probe, M: Maker<P>>(
     maker: &M,
 ) -> Result<(), Fail> {
     let (hall, mut seat) = one_seat(alloc)?;
-    let results = run_setup(rt, alloc, &hall, &mut seat, script.lines(), maker)?;
+    expect_setup_by(rt, alloc, &hall, &mut seat, script, maker)
+}
+
+fn expect_setup_by<R: Wait, P: Probe, M: Maker<P>>(
+    rt: &R,
+    alloc: Global,
+    hall: &Hall<P>,
+    seat: &mut Seat<P>,
+    script: &Script,
+    maker: &M,
+) -> Result<(), Fail>
+    requires { IsOf hall.now seat.old }
+{
+    let results = run_setup(rt, alloc, hall, seat, script.lines(), maker)?;
     expect_results(&results, &LINES)?;
     same(&seat.made(), &4, &"changes")
 }
@@ -150,17 +171,8 @@ const LINES_OF_A: [(&str, Taken); 3] = [
     ("retire a", Some(Ok(Reply::Done))),
 ];
 
-/// Makes the probes of `LINES_OF_A`, and no others.
-struct Manuals;
-
-impl Maker<Manual> for Manuals {
-    fn make(&self, rule: Rule) -> Result<Manual, AllocError> {
-        match rule {
-            Rule::Manual => Ok(Manual::new()),
-            Rule::Threshold(..) | Rule::Depends(_) => Err(AllocError),
-        }
-    }
-}
+/// The room of both tests of memory, in bytes.
+const ROOM: usize = 16_384;
 
 /// How many of the lines got a reply, if there was room for their results. The others were refused out of memory, and the seat
 /// has made the changes of those with a reply.
@@ -207,16 +219,15 @@ impl Tally {
     }
 }
 
-/// What comes of the lines with so many steps of memory left, in a hall that was made before.
+/// What comes of the lines with so many bytes of memory left, in a hall that was made before.
 fn replies_in<R: Wait>(
     rt: &R,
     alloc: Global,
     script: &Script,
-    steps: usize,
+    left: usize,
 ) -> Result<Option<u64>, Fail> {
     let (hall, mut seat) = one_seat::<Manual>(alloc)?;
-    let scarcity = Scarcity::with_small_room(alloc)?;
-    let filler = scarcity.leave_steps(steps)?;
+    let (scarcity, filler) = scarce(alloc, ROOM, left)?;
     let results = run_setup(rt, alloc, &hall, &mut seat, script.lines(), &Manuals).ok();
     drop(filler);
     drop(scarcity);
@@ -228,7 +239,7 @@ fn goes_on_behind_each_growth_that_is_refused(rt: HostRuntime) -> Result<(), Fai
     let script = script_of(rt.alloc(), &LINES_OF_A)?;
     let mut tally = Tally::new();
     for steps in 0..128usize {
-        tally.count(replies_in(&rt, rt.alloc(), &script, steps)?);
+        tally.count(replies_in(&rt, rt.alloc(), &script, steps * STEP)?);
     }
     assert!(rt;
         tally.unmet > 1 && tally.fewer > 0 && tally.all > 0,
@@ -237,11 +248,19 @@ fn goes_on_behind_each_growth_that_is_refused(rt: HostRuntime) -> Result<(), Fai
     Ok(())
 }
 
-/// What comes of the lines in a hall that is made with so many steps of memory left. Its first seat alone has made changes.
-fn hall_in<R: Wait>(rt: &R, alloc: Global, steps: usize) -> Result<Option<u64>, Fail> {
+/// How many changes the first of three seats has made, which alone has made some.
+fn changes_of_first(seats: &[Seat<Manual>]) -> Result<u64, Fail> {
+    let mut changes = seats.iter().map(|seat| seat.made());
+    let first = changes.next().unwrap_or(0);
+    let others = (changes.next(), changes.next());
+    same(&others, &(Some(0), Some(0)), &"the other seats")?;
+    Ok(first)
+}
+
+/// What comes of the lines in a hall that is made with so many bytes of memory left. Its first seat alone has made changes.
+fn hall_in<R: Wait>(rt: &R, alloc: Global, left: usize) -> Result<Option<u64>, Fail> {
     let script = script_of(alloc, &LINES_OF_A)?;
-    let scarcity = Scarcity::with_small_room(alloc)?;
-    let filler = scarcity.leave_steps(steps)?;
+    let (scarcity, filler) = scarce(alloc, ROOM, left)?;
     let made: Result<SetUpHall<Manual>, AllocError> = hall_of(rt, alloc, script, &Manuals, 3);
     drop(filler);
     drop(scarcity);
@@ -250,18 +269,14 @@ fn hall_in<R: Wait>(rt: &R, alloc: Global, steps: usize) -> Result<Option<u64>, 
     };
     let results = Vec::from_slice(alloc, made.results())?;
     let (_hall, seats) = made.into_hall();
-    let mut changes = seats.iter().map(|seat| seat.made());
-    let first = changes.next().unwrap_or(0);
-    same(&changes.next(), &Some(0), &"second seat")?;
-    same(&changes.next(), &Some(0), &"third seat")?;
-    replies_of(Some(&results), first)
+    replies_of(Some(&results), changes_of_first(&seats)?)
 }
 
 #[test]
 fn refuses_each_growth_of_a_hall(rt: HostRuntime) -> Result<(), Fail> {
     let mut tally = Tally::new();
     for steps in 0..256usize {
-        tally.count(hall_in(&rt, rt.alloc(), steps)?);
+        tally.count(hall_in(&rt, rt.alloc(), steps * STEP)?);
     }
     assert!(rt; tally.unmet > 1 && tally.all > 0, "{tally:?}");
     Ok(())

@@ -9,21 +9,53 @@ use std::sync::atomic::AtomicU64;
 use std::thread::Threads;
 use std::time::{Clock, Duration};
 
-/// Times checks by so many threads, while so many more change. For look-ups alone there is nothing to change.
+/// What checks of each kind took in one run.
+#[derive(Clone, Copy)]
+struct Checks {
+    hall: Figures,
+    lock: Figures,
+    load: Figures,
+    names: Figures,
+    both: Figures,
+}
+
+/// For look-ups alone there is nothing to change.
+fn time_checks<R: Clock + Threads + Wait + Sync>(
+    rt: &R,
+    alloc: Global,
+    plan: &Plan,
+    alone: &Plan,
+) -> Option<Checks> {
+    let (hall, lock) = run_both(rt, alloc, plan)?;
+    let load = run_shared(rt, alloc, &AtomicU64::new(1), plan)?;
+    let catalogue = catalogue(alloc)?;
+    let names = run_shared(rt, alloc, &catalogue, alone)?;
+    let both = run_shared(rt, alloc, (&catalogue, &AtomicU64::new(1)), plan)?;
+    Some(Checks {
+        hall,
+        lock,
+        load,
+        names,
+        both,
+    })
+}
+
+/// Times checks by so many threads, while so many more change.
 pub fn report_checks<R: Print + Clock + AllocGlobal + Threads + Wait + Sync>(
     rt: &R,
     threads: u16,
     changers: u16,
     limit: Duration,
 ) -> Option<()> {
-    let alloc = rt.alloc();
     let plan = Plan::new(Task::Check, threads, changers, limit);
-    let (hall, lock) = run_both(rt, alloc, &plan)?;
-    let load = run_shared(rt, alloc, &AtomicU64::new(1), &plan)?;
     let alone = Plan::new(Task::Check, threads, 0, limit);
-    let catalogue = catalogue(alloc)?;
-    let names = run_shared(rt, alloc, &catalogue, &alone)?;
-    let both = run_shared(rt, alloc, (&catalogue, &AtomicU64::new(1)), &plan)?;
+    let Checks {
+        hall,
+        lock,
+        load,
+        names,
+        both,
+    } = time_checks(rt, rt.alloc(), &plan, &alone)?;
     print!(rt;
         "checkers {threads}, changers {changers}: hall {} ns,",
         hall.per_call()

@@ -23,7 +23,17 @@ pub fn run_hall<P: Probe + Send, R: Threads + Wait + Clock + Sync>(
     plan: &Plan,
 ) -> Option<Figures> {
     let (hall, seats) = open_hall(rt, alloc, probes, plan.all_threads())?;
-    let hall = &hall;
+    run_seats(rt, &hall, seats, plan)
+}
+
+fn run_seats<P: Probe + Send, R: Threads + Wait + Clock + Sync>(
+    rt: &R,
+    hall: &Hall<P>,
+    seats: Vec<Seat<P>>,
+    plan: &Plan,
+) -> Option<Figures>
+    requires { All (IsOf hall.now) seats.items }
+{
     let end = plan.end(rt)?;
     let figures = map_vec(
         rt,

@@ -22,27 +22,57 @@ pub struct LiveLoops {
     pub port: u16,
 }
 
+/// A socket that does not wait, and its port.
+fn bind<R: Net<Listener = TcpListener, Stream = TcpStream>>(rt: &R) -> Option<(TcpListener, u16)> {
+    let listener = TcpListener::bind(rt, (HOST, 0u16)).ok()?;
+    listener.set_nonblocking(true).ok()?;
+    let port = listener.local_addr().ok()?.port();
+    Some((listener, port))
+}
+
+fn live_loop<R: Net + Clock>(
+    rt: &R,
+    alloc: Global,
+    listener: &TcpListener,
+    places: &Arc<Places>,
+) -> Option<EventServer> {
+    let shared = mio::net::TcpListener::from_std(listener.try_clone().ok()?);
+    let places = places.clone().ok()?;
+    EventServer::new(rt, alloc, Acceptor::new(shared), places).ok()
+}
+
+fn live_loops<R: Net + Clock>(
+    rt: &R,
+    alloc: Global,
+    listener: &TcpListener,
+) -> Option<Vec<EventServer>> {
+    let places = Arc::new(alloc, Places::new(LIMITS)).ok()?;
+    let mut servers = Vec::new(alloc);
+    for _ in 0..LOOPS {
+        servers.push(live_loop(rt, alloc, listener, &places)?).ok()?;
+    }
+    Some(servers)
+}
+
+fn news_of(alloc: Global, servers: &[EventServer]) -> Option<News> {
+    let mut wakers = Vec::new(alloc);
+    for server in servers {
+        wakers.push(server.waker().ok()?).ok()?;
+    }
+    Some(News::new(wakers))
+}
+
 impl LiveLoops {
     pub fn new<R>(rt: &R, alloc: Global) -> Option<LiveLoops>
     where
         R: Clock + Net<Listener = TcpListener, Stream = TcpStream>,
     {
-        let listener = TcpListener::bind(rt, (HOST, 0u16)).ok()?;
-        listener.set_nonblocking(true).ok()?;
-        let port = listener.local_addr().ok()?.port();
-        let places = Arc::new(alloc, Places::new(LIMITS)).ok()?;
-        let mut servers = Vec::new(alloc);
-        let mut wakers = Vec::new(alloc);
-        for _ in 0..LOOPS {
-            let shared = mio::net::TcpListener::from_std(listener.try_clone().ok()?);
-            let places = places.clone().ok()?;
-            let server = EventServer::new(rt, alloc, Acceptor::new(shared), places).ok()?;
-            wakers.push(server.waker().ok()?).ok()?;
-            servers.push(server).ok()?;
-        }
+        let (listener, port) = bind(rt)?;
+        let servers = live_loops(rt, alloc, &listener)?;
+        let news = news_of(alloc, &servers)?;
         Some(LiveLoops {
             servers,
-            news: News::new(wakers),
+            news,
             port,
         })
     }

@@ -41,13 +41,8 @@ where
     let port = place.port;
     let open_before = descriptors(rt)?;
     let mut audience = open_watches(rt, place, watches)?;
-    let open = descriptors(rt)?;
-    let alone = audience.time_changes(rt, rt.alloc(), CHANGES, &AtomicU64::new(0))?;
-    print_changes(rt, "alone", Figures::of(alone)?)?;
-    let idle = ask_side_by_side(rt, rt.alloc(), port, CHECKS)?;
-    print_requests(rt, "Checks beside idle Watches", Figures::of(idle)?)?;
-    let audience = check_beside_changes(rt, port, audience)?;
-    drop(audience);
+    let open = time_alone(rt, port, &mut audience)?;
+    drop(check_beside_changes(rt, port, audience)?);
     let left = await_descriptors(rt, open_before)?;
     println!(rt;
         "descriptors: {open_before} before the Watches, {open} with them, {left} after"
@@ -56,6 +51,26 @@ where
         return None;
     }
     Some(u64::from(watches).saturating_add(u64::from(CHECKS.connections).saturating_mul(2)))
+}
+
+/// Times changes where nothing else happens, and then Checks while nothing changes. Gives how many descriptors are open.
+fn time_alone<R, P: Probe>(rt: &R, port: u16, audience: &mut Audience<'_, P>) -> Option<u64>
+where
+    R: Print
+        + Clock
+        + Files
+        + AllocGlobal
+        + Threads
+        + Wait
+        + Sync
+        + Net<Listener = TcpListener, Stream = TcpStream>,
+{
+    let open = descriptors(rt)?;
+    let alone = audience.time_changes(rt, rt.alloc(), CHANGES, &AtomicU64::new(0))?;
+    print_changes(rt, "alone", Figures::of(alone)?)?;
+    let idle = ask_side_by_side(rt, rt.alloc(), port, CHECKS)?;
+    print_requests(rt, "Checks beside idle Watches", Figures::of(idle)?)?;
+    Some(open)
 }
 
 /// Opens them, and prints what memory they take.

@@ -1,81 +1,181 @@
-use crate::crews::gates::{Doorkeeper, Noting};
-use crate::crews::letters::{CUT, GET, Letter, notes};
-use crate::crews::plans::{manuals, plan_of, serve, serve_notes};
-use crew::{CallEnd, OpenTurnstile};
+//! How calls end, and which steps they pass on their way.
+
+use crate::crews::letters::{CUT, GET};
+use crate::crews::plans::{manuals, plan_of, serve};
+use crew::{CallEnd, Job, Turnstile, Unopened};
 use grpc_frame::Code;
 use std::alloc::{AllocError, Global};
-use std::io::ErrorKind;
-use std::sync::atomic::AtomicU32;
+use std::io;
+use std::io::{ErrorKind, Read, Write};
+use std::sync::Wait;
+use std::sync::atomic::{AtomicU32, Ordering};
 use std::test::Fail;
+use std::thread::Threads;
 use test_support::requests::{CHECK_OF_EMPTY, CHECK_OF_ZZ, LIST, WATCH_OF_ZZ};
 use test_support::{Fault, FaultyReader, FaultyWriter, same};
 use web_call::{ExchangeFault, Outcome, Why};
 
-/// Calls of one crew, two of which can't be opened.
-const REQUESTS: [Option<&[u8]>; 9] = [
-    Some(CHECK_OF_EMPTY),
-    None,
-    Some(CHECK_OF_ZZ),
-    Some(LIST),
-    Some(GET),
-    Some(CUT),
-    Some(WATCH_OF_ZZ),
-    None,
-    Some(CHECK_OF_EMPTY),
-];
+/// What is seen of a call from outside, in the order in which it has to come.
+#[derive(Clone, Copy)]
+enum Step {
+    Enter,
+    Open,
+    DropOutput,
+    DropInput,
+    Leave,
+}
 
-const ENDS: [CallEnd; 9] = [
-    CHECKED,
-    CallEnd::Unopened,
-    CallEnd::Done(Outcome::Status(Code::NotFound)),
-    CallEnd::Done(Outcome::Status(Code::Unimplemented)),
-    CallEnd::Done(Outcome::Http(405)),
-    CUT_SHORT,
-    CallEnd::Done(Outcome::Watched { messages: 1 }),
-    CallEnd::Unopened,
-    CHECKED,
-];
+/// How many steps a call has, and all of them together.
+const STEPS: u32 = 5;
+
+const ALL: u32 = 105;
+
+/// A turnstile that follows each call on its way, and counts the steps that came out of their turn.
+#[derive(Drop)]
+struct Follower {
+    /// How many steps each call has made, by its number, and how many all have made together.
+    made: Vec<AtomicU32>,
+    all: AtomicU32,
+    /// One worker serves, so that calls come one after another.
+    is_alone: bool,
+    wrong: AtomicU32,
+}
+
+impl Follower {
+    fn new(alloc: Global, is_alone: bool) -> Result<Follower, AllocError> {
+        let mut made = Vec::new(alloc);
+        for _ in CALLS {
+            made.push(AtomicU32::new(0))?;
+        }
+        Ok(Follower {
+            made,
+            all: AtomicU32::new(0),
+            is_alone,
+            wrong: AtomicU32::new(0),
+        })
+    }
+
+    fn is_next(&self, number: u32, step: Step) -> bool {
+        match self.made.get(number as usize) {
+            Some(made) => made.fetch_add(1, Ordering::SeqCst) == step as u32,
+            None => false,
+        }
+    }
+
+    fn note(&self, number: u32, step: Step) {
+        let place = number.saturating_mul(STEPS).saturating_add(step as u32);
+        let all = self.all.fetch_add(1, Ordering::SeqCst);
+        let is_next = self.is_next(number, step);
+        if !is_next || (self.is_alone && all != place) {
+            self.wrong.fetch_add(1, Ordering::SeqCst);
+        }
+    }
+
+    /// How many steps were made, and how many of them out of their turn.
+    fn steps(&self) -> (u32, u32) {
+        let all = self.all.load(Ordering::SeqCst);
+        (all, self.wrong.load(Ordering::SeqCst))
+    }
+}
+
+impl Turnstile for Follower {
+    fn enter<R: Wait>(&self, _rt: &R, number: u32) {
+        self.note(number, Step::Enter);
+    }
+
+    fn leave<R: Wait>(&self, _rt: &R, number: u32) {
+        self.note(number, Step::Leave);
+    }
+}
+
+/// An end of a call, which notes that it is dropped.
+struct Noted<'a, T> {
+    end: T,
+    number: u32,
+    step: Step,
+    follower: &'a Follower,
+}
+
+impl<T: Drop> Drop for Noted<'_, T> {
+    fn drop(self) {
+        let Noted {
+            end: _,
+            number,
+            step,
+            follower,
+        } = self;
+        follower.note(number, step);
+    }
+}
+
+impl<R: Read> Read for Noted<'_, R> {
+    fn read(&mut self, buf: &mut [u8]) -> io::Result<usize> {
+        self.end.read(buf)
+    }
+}
+
+impl<W: Write> Write for Noted<'_, W> {
+    fn write(&mut self, buf: &[u8]) -> io::Result<usize> {
+        self.end.write(buf)
+    }
+
+    fn flush(&mut self) -> io::Result<()> {
+        self.end.flush()
+    }
+}
+
+/// A call of this number, unless its two ends were lost.
+#[derive(Drop)]
+struct Followed<'a> {
+    number: u32,
+    ends: Option<(FaultyReader<'static>, FaultyWriter)>,
+    follower: &'a Follower,
+}
+
+impl<'a> Job for Followed<'a> {
+    type Input = Noted<'a, FaultyReader<'static>>;
+
+    type Output = Noted<'a, FaultyWriter>;
+
+    fn open(self) -> Result<(Self::Input, Self::Output), Unopened> {
+        let Followed {
+            number,
+            ends,
+            follower,
+        } = self;
+        follower.note(number, Step::Open);
+        let Some((reader, writer)) = ends else {
+            // there is nothing to drop
+            follower.note(number, Step::DropOutput);
+            follower.note(number, Step::DropInput);
+            return Err(Unopened);
+        };
+        let input = Noted {
+            end: reader,
+            number,
+            step: Step::DropInput,
+            follower,
+        };
+        let output = Noted {
+            end: writer,
+            number,
+            step: Step::DropOutput,
+            follower,
+        };
+        Ok((input, output))
+    }
+}
 
 const CHECKED: CallEnd = CallEnd::Done(Outcome::Status(Code::Ok));
+
+const NOT_FOUND: CallEnd = CallEnd::Done(Outcome::Status(Code::NotFound));
+
+const NO_METHOD: CallEnd = CallEnd::Done(Outcome::Status(Code::Unimplemented));
 
 const CUT_SHORT: CallEnd = CallEnd::Fault(ExchangeFault {
     why: Why::Read,
     frames: 0,
 });
-
-#[test]
-fn each_call_ends_at_its_number_and_passes_the_turnstile_once(rt: HostRuntime) -> Result<(), Fail> {
-    for workers in [1u16, 2, 4] {
-        let noting = Noting::new(rt.alloc(), REQUESTS.len())?;
-        let plan = plan_of(workers);
-        let (found, opened) = serve_notes(&rt, rt.alloc(), &plan, &[], &REQUESTS, &noting)?;
-        same(&found.calls?.as_slice(), &ENDS.as_slice(), &workers)?;
-        same(&opened, &9, &workers)?;
-        same(&noting.are_all_gone(&rt), &true, &workers)?;
-    }
-    Ok(())
-}
-
-#[test]
-fn a_worker_opens_each_job_between_its_entering_and_its_leaving(
-    rt: HostRuntime,
-) -> Result<(), Fail> {
-    let alloc = rt.alloc();
-    let opened = AtomicU32::new(0);
-    let doorkeeper = Doorkeeper::new(&opened);
-    let jobs = notes(alloc, &REQUESTS, &opened)?;
-    let found = serve(
-        &rt,
-        alloc,
-        &plan_of(1),
-        Vec::new(alloc),
-        manuals(alloc)?,
-        jobs,
-        &doorkeeper,
-    )?;
-    same(&found.calls?.as_slice(), &ENDS.as_slice(), &"calls")?;
-    same(&doorkeeper.wrong(), &0, &"wrong")
-}
 
 /// A Check whose writer fails before its first frame is whole, before its second is, and behind both.
 const NO_FRAME: CallEnd = CallEnd::Fault(ExchangeFault {
@@ -95,57 +195,83 @@ const BOTH_FRAMES: CallEnd = CallEnd::Fault(ExchangeFault {
 
 const BROKEN: Fault = Fault::Error(ErrorKind::BrokenPipe);
 
-/// Checks, each with the read and the write that fail, counted from 1, the fault, and its end. A Check here takes 108 reads: one
-/// for each byte of the head, and one for the body. Its response has 127 bytes, each with a write of its own, and its first
-/// frame ends at 107. The flush comes last.
-const FAULTS: [(usize, usize, Fault, CallEnd); 12] = [
-    (0, 0, BROKEN, CHECKED),
-    (1, 0, BROKEN, CUT_SHORT),
-    (107, 0, Fault::Nothing, CUT_SHORT),
-    (108, 0, BROKEN, CUT_SHORT),
-    (109, 0, BROKEN, CHECKED),
-    (0, 1, BROKEN, NO_FRAME),
-    (0, 107, Fault::Nothing, NO_FRAME),
-    (0, 108, BROKEN, ONE_FRAME),
-    (0, 127, Fault::Nothing, ONE_FRAME),
-    (0, 128, BROKEN, BOTH_FRAMES),
-    (0, 128, Fault::Nothing, CHECKED),
-    (0, 129, BROKEN, CHECKED),
+const NOTHING: Fault = Fault::Nothing;
+
+const CHECK: Option<&[u8]> = Some(CHECK_OF_EMPTY);
+
+/// A call's request, if it can be opened; the read and the write that fail, counted from 1; the fault; and its end.
+type Call = (Option<&'static [u8]>, usize, usize, Fault, CallEnd);
+
+/// Calls of one crew. A Check here takes 108 reads: one for each byte of the head, and one for the body. Its response has 127 bytes, each
+/// with a write of its own, and its first frame ends at 107. The flush comes last.
+const CALLS: [Call; 21] = [
+    (CHECK, 0, 0, NOTHING, CHECKED),
+    (None, 0, 0, NOTHING, CallEnd::Unopened),
+    (Some(CHECK_OF_ZZ), 0, 0, NOTHING, NOT_FOUND),
+    (Some(LIST), 0, 0, NOTHING, NO_METHOD),
+    (Some(GET), 0, 0, NOTHING, CallEnd::Done(Outcome::Http(405))),
+    (Some(CUT), 0, 0, NOTHING, CUT_SHORT),
+    (
+        Some(WATCH_OF_ZZ),
+        0,
+        0,
+        NOTHING,
+        CallEnd::Done(Outcome::Watched { messages: 1 }),
+    ),
+    (None, 0, 0, NOTHING, CallEnd::Unopened),
+    (CHECK, 0, 0, BROKEN, CHECKED),
+    (CHECK, 1, 0, BROKEN, CUT_SHORT),
+    (CHECK, 107, 0, NOTHING, CUT_SHORT),
+    (CHECK, 108, 0, BROKEN, CUT_SHORT),
+    (CHECK, 109, 0, BROKEN, CHECKED),
+    (CHECK, 0, 1, BROKEN, NO_FRAME),
+    (CHECK, 0, 107, NOTHING, NO_FRAME),
+    (CHECK, 0, 108, BROKEN, ONE_FRAME),
+    (CHECK, 0, 127, NOTHING, ONE_FRAME),
+    (CHECK, 0, 128, BROKEN, BOTH_FRAMES),
+    (CHECK, 0, 128, NOTHING, CHECKED),
+    (CHECK, 0, 129, BROKEN, CHECKED),
+    (CHECK, 0, 0, NOTHING, CHECKED),
 ];
 
-/// A letter over a faulty reader and a faulty writer.
-type Faulty<'a> = Letter<'a, FaultyReader<'static>, FaultyWriter>;
-
-fn faulty_letters(alloc: Global, opened: &AtomicU32) -> Result<Vec<Faulty<'_>>, AllocError> {
-    let mut letters = Vec::new(alloc);
-    for (read, write, fault, _) in FAULTS {
-        let reader = FaultyReader::new(CHECK_OF_EMPTY, read, fault);
-        let writer = FaultyWriter::new(alloc, 1, write, fault);
-        letters.push(Letter::new(Some((reader, writer)), opened))?;
+fn jobs_of(alloc: Global, follower: &Follower) -> Result<Vec<Followed<'_>>, AllocError> {
+    let mut jobs = Vec::new(alloc);
+    for (number, (request, read, write, fault, _)) in (0u32..1_000).zip(CALLS) {
+        let ends = request.map(|text| {
+            let reader = FaultyReader::new(text, read, fault);
+            (reader, FaultyWriter::new(alloc, 1, write, fault))
+        });
+        jobs.push(Followed {
+            number,
+            ends,
+            follower,
+        })?;
     }
-    Ok(letters)
+    Ok(jobs)
 }
 
-#[test]
-fn a_call_whose_reader_or_writer_fails_is_a_fault_at_its_number(
-    rt: HostRuntime,
+fn expect_calls<R: Wait + Threads + Sync>(
+    rt: &R,
+    alloc: Global,
+    workers: u16,
+    follower: &Follower,
 ) -> Result<(), Fail> {
+    let plan = plan_of(workers);
+    let jobs = jobs_of(alloc, follower)?;
+    let orders = Vec::new(alloc);
+    let found = serve(rt, alloc, &plan, orders, manuals(alloc)?, jobs, follower)?;
+    let ends = CALLS.map(|(_, _, _, _, end)| end);
+    same(&found.calls?.as_slice(), &ends.as_slice(), &workers)
+}
+
+// Each job is opened once, between its entering and its leaving, and both its ends are dropped before it leaves.
+#[test]
+fn each_call_ends_at_its_number_and_passes_its_steps_in_order(rt: HostRuntime) -> Result<(), Fail> {
     let alloc = rt.alloc();
-    let ends = FAULTS.map(|(_, _, _, end)| end);
-    for workers in [1u16, 3] {
-        let opened = AtomicU32::new(0);
-        let jobs = faulty_letters(alloc, &opened)?;
-        let plan = plan_of(workers);
-        let found = serve(
-            &rt,
-            alloc,
-            &plan,
-            Vec::new(alloc),
-            manuals(alloc)?,
-            jobs,
-            &OpenTurnstile,
-        )?;
-        same(&found.calls?.as_slice(), &ends.as_slice(), &workers)?;
+    for workers in [1u16, 2, 3, 4] {
+        let follower = Follower::new(alloc, workers == 1)?;
+        expect_calls(&rt, alloc, workers, &follower)?;
+        same(&follower.steps(), &(ALL, 0), &workers)?;
     }
     Ok(())
 }

@@ -194,49 +194,71 @@ fn empty_pages(alloc: Global) -> Result<Vec<Vec<u8>>, AllocError> {
     Ok(pages)
 }
 
-// A Watch is told all changes but those that were made before it was open, which are few: those who make them wait for it. A worker
-// that ends its Watches early fails here, and one whose bell is made too late; a crew that rings before its orders, that rings for its
-// first list alone, or that ends the Watches with the list that is done first; and `serve_all_always_lost`, a crew that tells that all
-// calls were lost, or that they were answered, and opens no job.
-#[test]
-fn a_watch_tells_each_change_up_to_the_last(rt: HostRuntime) -> Result<(), Fail> {
-    let alloc = rt.alloc();
-    for run in 0..3u32 {
-        let mut pages = empty_pages(alloc)?;
-        let scene = Scene::new();
-        let found = serve_watches(&rt, alloc, &scene, u32::MAX, &mut pages)?;
-        same(&found.entries, &Some(FLIPS as usize + 1), &run)?;
-        let made = scene.made.load(Ordering::SeqCst);
-        let calls = found.calls?;
-        for (end, written) in calls.iter().zip(pages.iter()) {
-            let messages = messages_of(end)?;
-            let later = FLIPS.saturating_sub(made);
-            same(
-                &(messages > later && messages <= FLIPS + 1),
-                &true,
-                &(messages, made),
-            )?;
-            same(&(*written == text_of(alloc, messages)?), &true, &messages)?;
-        }
-        same(&(made < FLIPS / 2), &true, &made)?;
+/// How many orders were made when the last Watch was open, which are few: those who make them wait for it.
+fn made_before(scene: &Scene) -> Result<u32, Fail> {
+    let made = scene.made.load(Ordering::SeqCst);
+    same(&(made < FLIPS / 2), &true, &made)?;
+    Ok(made)
+}
+
+/// Each Watch has told all changes but those that were made before it was open, up to the last.
+fn expect_told(alloc: Global, calls: &[CallEnd], pages: &[Vec<u8>], made: u32) -> Result<(), Fail> {
+    let later = FLIPS.saturating_sub(made);
+    for (end, written) in calls.iter().zip(pages) {
+        let messages = messages_of(end)?;
+        let is_all = messages > later && messages <= FLIPS + 1;
+        same(&is_all, &true, &(messages, made))?;
+        same(&(*written == text_of(alloc, messages)?), &true, &messages)?;
     }
     Ok(())
 }
 
-// With a Look it would tell a later change: the orders wait for it.
+/// With a Look more it would tell a later change: the orders wait for it.
+fn expect_few(calls: &[CallEnd], looks: u32) -> Result<(), Fail> {
+    for end in calls {
+        let messages = messages_of(end)?;
+        same(
+            &(messages <= looks.saturating_add(1)),
+            &true,
+            &(messages, looks),
+        )?;
+    }
+    Ok(())
+}
+
+fn expect_watches<R: Wait + Threads + Sync + Clock>(
+    rt: &R,
+    alloc: Global,
+    looks: u32,
+) -> Result<(), Fail> {
+    let mut pages = empty_pages(alloc)?;
+    let scene = Scene::new();
+    let found = serve_watches(rt, alloc, &scene, looks, &mut pages)?;
+    same(&found.entries, &Some(FLIPS as usize + 1), &looks)?;
+    let made = made_before(&scene)?;
+    let calls = found.calls?;
+    if looks == u32::MAX {
+        expect_told(alloc, &calls, &pages, made)
+    } else {
+        expect_few(&calls, looks)
+    }
+}
+
+// A worker that ends its Watches early fails here, and one whose bell is made too late; a crew that rings before its orders, that rings
+// for its first list alone, or that ends the Watches with the list that is done first; and `serve_all_always_lost`, a crew that tells that
+// all calls were lost, or that they were answered, and opens no job.
+#[test]
+fn a_watch_tells_each_change_up_to_the_last(rt: HostRuntime) -> Result<(), Fail> {
+    for _ in 0..3u32 {
+        expect_watches(&rt, rt.alloc(), u32::MAX)?;
+    }
+    Ok(())
+}
+
 #[test]
 fn a_watch_takes_no_more_looks_than_its_limit(rt: HostRuntime) -> Result<(), Fail> {
-    let alloc = rt.alloc();
     for looks in [0u32, 3] {
-        let mut pages = empty_pages(alloc)?;
-        let scene = Scene::new();
-        let found = serve_watches(&rt, alloc, &scene, looks, &mut pages)?;
-        let made = scene.made.load(Ordering::SeqCst);
-        same(&(made < FLIPS / 2), &true, &made)?;
-        for end in found.calls?.iter() {
-            let messages = messages_of(end)?;
-            same(&(messages <= looks + 1), &true, &(messages, looks))?;
-        }
+        expect_watches(&rt, rt.alloc(), looks)?;
     }
     Ok(())
 }

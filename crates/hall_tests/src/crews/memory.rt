@@ -216,10 +216,20 @@ const ORDERS: Trial = Trial {
     ],
 };
 
+/// A crew fares so with enough memory, and before that in each of these ways and in no other.
+fn expect_trial<R: Wait + Threads + Sync>(
+    rt: &R,
+    alloc: Global,
+    trial: &Trial,
+    scarce: &[Fare],
+    last: Fare,
+) -> Result<(), Fail> {
+    expect_fares(&fares(rt, alloc, trial, last)?, scarce, last)
+}
+
 #[test]
 fn no_order_is_made_where_there_is_no_memory_for_its_result(rt: HostRuntime) -> Result<(), Fail> {
-    let fares = fares(&rt, rt.alloc(), &ORDERS, Fare::Served)?;
-    expect_fares(&fares, &[Fare::NoMemory], Fare::Served)
+    expect_trial(&rt, rt.alloc(), &ORDERS, &[Fare::NoMemory], Fare::Served)
 }
 
 /// A Check, and one order.
@@ -233,9 +243,8 @@ const CHECK: Trial = Trial {
 fn a_call_is_lost_or_starved_or_not_reported_when_out_of_memory(
     rt: HostRuntime,
 ) -> Result<(), Fail> {
-    let fares = fares(&rt, rt.alloc(), &CHECK, Fare::Served)?;
     let scarce = [Fare::Lost, Fare::NoMemory, Fare::Starved];
-    expect_fares(&fares, &scarce, Fare::Served)
+    expect_trial(&rt, rt.alloc(), &CHECK, &scarce, Fare::Served)
 }
 
 const LOST: Option<&[u8]> = None;
@@ -263,15 +272,19 @@ const TOGETHER: Trial = Trial {
     lists: &[&[Wish::Set("a", Setting::Down)]],
 };
 
+/// With as much memory as lets a crew of three tell of all calls a crew of one has stopped.
+fn expect_help<R: Wait + Threads + Sync>(rt: &R, alloc: Global) -> Result<(), Fail> {
+    let alone = fares(rt, alloc, &ALONE, Fare::Starved)?;
+    expect_fares(&alone, &[Fare::Lost, Fare::Stopped], Fare::Starved)?;
+    let together = fares(rt, alloc, &TOGETHER, Fare::Starved)?;
+    same(&together.last(), &Some(&Fare::Starved), &"together")?;
+    let enough = together.len().saturating_sub(1);
+    same(&alone.get(enough), &Some(&Fare::Stopped), &enough)
+}
+
 #[test]
 fn a_worker_without_memory_for_a_report_leaves_the_jobs_to_the_others(
     rt: HostRuntime,
 ) -> Result<(), Fail> {
-    let alloc = rt.alloc();
-    let alone = fares(&rt, alloc, &ALONE, Fare::Starved)?;
-    expect_fares(&alone, &[Fare::Lost, Fare::Stopped], Fare::Starved)?;
-    let together = fares(&rt, alloc, &TOGETHER, Fare::Starved)?;
-    same(&together.last(), &Some(&Fare::Starved), &"together")?;
-    let enough = together.len().saturating_sub(1);
-    same(&alone.get(enough), &Some(&Fare::Stopped), &enough)
+    expect_help(&rt, rt.alloc())
 }

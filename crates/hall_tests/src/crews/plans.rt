@@ -6,7 +6,7 @@ ghost use Rattle.hall.specs.Seats.{IsOf};
 
 use crate::crews::letters::notes;
 use crew::{CallEnd, CrewFault, CrewWhy, Job, Report, Turnstile, serve_all};
-use desk_core::{Catalogue, Finding, Name, Order, Refusal, Reply, Setting};
+use desk_core::{Catalogue, Name, Order, Refusal, Reply, Setting};
 use hall::{Hall, Seat};
 use probe_core::{Manual, Probe};
 use std::alloc::{AllocError, Global};
@@ -20,10 +20,8 @@ use web_call::Limits;
 /// An order, as a table has it.
 #[derive(Clone, Copy)]
 pub(crate) enum Wish {
-    Observe(&'static str, Finding),
     Set(&'static str, Setting),
     Shutdown,
-    Resume,
     /// Of a name that is not listed, and so long that it takes a while to find that out.
     SetLong,
 }
@@ -130,10 +128,8 @@ fn order_of(alloc: Global, wish: &Wish) -> Result<Order, AllocError> {
         Ok(Name::new(String::from_str(alloc, text)?))
     };
     match *wish {
-        Wish::Observe(text, finding) => Ok(Order::Observe(name(text)?, finding)),
         Wish::Set(text, setting) => Ok(Order::Set(name(text)?, setting)),
         Wish::Shutdown => Ok(Order::Shutdown),
-        Wish::Resume => Ok(Order::Resume),
         Wish::SetLong => Ok(Order::Set(long_name(alloc)?, Setting::Up)),
     }
 }

@@ -14,42 +14,23 @@ fn expect_turns<B: Bell>(bell: &mut B, expected: &[Turn]) -> Result<(), Fail> {
     Ok(())
 }
 
-#[test]
-fn gives_a_look_for_each_ring_from_then_on(rt: HostRuntime) -> Result<(), Fail> {
+/// Each bell gives its own Looks, one for each ring since it was made, and none for one behind the end.
+fn expect_own_looks<R: Wait>(rt: &R) -> Result<(), Fail> {
     let ring = Ring::new();
-    ring.ring(&rt);
-    let mut bell = ring.bell(&rt);
-    ring.ring(&rt);
-    ring.ring(&rt);
-    ring.end(&rt);
-    expect_turns(&mut bell, &[Turn::Look, Turn::Look, Turn::End, Turn::End])
-}
-
-#[test]
-fn counts_no_ring_after_the_end(rt: HostRuntime) -> Result<(), Fail> {
-    let ring = Ring::new();
-    let mut bell = ring.bell(&rt);
-    ring.ring(&rt);
-    ring.end(&rt);
-    ring.ring(&rt);
-    ring.end(&rt);
-    expect_turns(&mut bell, &[Turn::Look, Turn::End, Turn::End])?;
-    let mut later = ring.bell(&rt);
-    expect_turns(&mut later, &[Turn::End, Turn::End])
-}
-
-#[test]
-fn gives_each_bell_its_own_looks(rt: HostRuntime) -> Result<(), Fail> {
-    let ring = Ring::new();
-    let mut first = ring.bell(&rt);
-    ring.ring(&rt);
-    let mut second = ring.bell(&rt);
-    ring.ring(&rt);
+    ring.ring(rt);
+    let mut first = ring.bell(rt);
+    ring.ring(rt);
+    let mut second = ring.bell(rt);
+    ring.ring(rt);
     expect_turns(&mut first, &[Turn::Look, Turn::Look])?;
-    expect_turns(&mut second, &[Turn::Look])?;
-    ring.end(&rt);
-    expect_turns(&mut first, &[Turn::End])?;
-    expect_turns(&mut second, &[Turn::End])
+    ring.ring(rt);
+    ring.end(rt);
+    ring.ring(rt);
+    ring.end(rt);
+    let two = [Turn::Look, Turn::Look, Turn::End, Turn::End];
+    expect_turns(&mut second, &two)?;
+    expect_turns(&mut first, &[Turn::Look, Turn::End, Turn::End])?;
+    expect_turns(&mut ring.bell(rt), &[Turn::End, Turn::End])
 }
 
 /// Counts the Looks of a bell up to its End, or up to the most.
@@ -81,10 +62,17 @@ fn looks_beside<R: Wait + Threads + Sync>(rt: &R, rings: u32) -> u32 {
     .0
 }
 
-#[test]
-fn tells_another_thread_of_each_ring(rt: HostRuntime) -> Result<(), Fail> {
+fn expect_looks<R: Wait + Threads + Sync>(rt: &R) -> Result<(), Fail> {
+    expect_own_looks(rt)?;
     for rings in [0, 1, 1_000] {
-        same(&looks_beside(&rt, rings), &rings, &rings)?;
+        same(&looks_beside(rt, rings), &rings, &rings)?;
     }
     Ok(())
+}
+
+#[test]
+fn gives_a_look_for_each_ring_from_then_on_in_another_thread_too(
+    rt: HostRuntime,
+) -> Result<(), Fail> {
+    expect_looks(&rt)
 }

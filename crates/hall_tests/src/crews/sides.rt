@@ -18,15 +18,19 @@ use web_call::Outcome;
 
 const CHECKED: CallEnd = CallEnd::Done(Outcome::Status(Code::Ok));
 
-// `one_thread_serves_all`, a crew that serves all calls on one thread, gives up at the gate.
-#[test]
-fn two_workers_serve_their_calls_at_the_same_time(rt: HostRuntime) -> Result<(), Fail> {
+fn expect_two<R: Wait + Threads + Sync + Clock>(rt: &R, alloc: Global) -> Result<(), Fail> {
     let requests = [Some(CHECK_OF_EMPTY), Some(CHECK_OF_EMPTY)];
-    let gate = Gate::new(&rt, 2);
-    let (found, _) = serve_notes(&rt, rt.alloc(), &plan_of(2), &[], &requests, &gate)?;
+    let gate = Gate::new(rt, 2);
+    let (found, _) = serve_notes(rt, alloc, &plan_of(2), &[], &requests, &gate)?;
     same(&gate.given_up(), &0, &"the gate")?;
     let calls = found.calls?;
     same(&calls.as_slice(), &[CHECKED, CHECKED].as_slice(), &"calls")
+}
+
+// `one_thread_serves_all`, a crew that serves all calls on one thread, gives up at the gate.
+#[test]
+fn two_workers_serve_their_calls_at_the_same_time(rt: HostRuntime) -> Result<(), Fail> {
+    expect_two(&rt, rt.alloc())
 }
 
 /// How many orders a list has, which is more than are made before the other lists begin.

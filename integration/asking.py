@@ -1,0 +1,111 @@
+"""What `ask`, `tell` and `run` say where a server is silent, slow, or not there."""
+import os
+import socket
+import subprocess
+import tempfile
+import threading
+import time
+
+from servers import HEALTHD, Server, holds, measured, timed
+
+
+def ran(*words, **options):
+    """The exit status of a command, and what it prints and says."""
+    done = subprocess.run([HEALTHD, *words], capture_output=True, text=True, timeout=60, **options)
+    return done.returncode, done.stdout, done.stderr
+
+
+# `ask` where nobody listens: the address and the cause are told with the options for scripts.
+with socket.socket() as listener:
+    listener.bind(("127.0.0.1", 0))
+    port = str(listener.getsockname()[1])
+    REFUSED = f"connect 127.0.0.1:{port}: connection refused"
+    OPTIONS = [((), "connect"), (("--name", "a"), "connect"), (("--watch", "2"), "connect"), (("--host", "127.0.0.1"), REFUSED),
+               (("--timeout", "5"), REFUSED), (("--expect", "SERVING"), REFUSED), (("--name", "a", "--timeout", "5", "--watch", "1"), REFUSED)]
+    for options, why in OPTIONS:
+        found = ran("ask", "--port", port, *options)
+        holds(f"{' '.join(('ask', *options))} where nobody listens", found == (1, "", f"healthd: {why}\n"), str(found))
+with socket.create_server(("127.0.0.1", 0)) as silent:
+    port = str(silent.getsockname()[1])
+    found, seconds = timed(ran, "ask", "--port", port, "--timeout", "1")
+    holds("ask gives up where a server is silent", found == (1, "", "healthd: timed out after 1 s\n"), str(found))
+    measured("ask --timeout 1 at a silent server", seconds, 5)
+
+    # `run` where its address is in use.
+    found = ran("run", "--listen", f"127.0.0.1:{port}", "--connections", "10", input="catalogue -\n")
+    holds("run tells that its address is in use", found == (1, "", f"healthd: bind 127.0.0.1:{port}: address in use\n"), str(found))
+
+# `run` where a change of its script is refused.
+found = ran("run", "--listen", "127.0.0.1:0", "--connections", "10", input="catalogue a -\nregister a threshold 0\n")
+holds("run tells which line of its script is refused", found == (1, "", "healthd: script line 2: refused bad rule\n"), str(found))
+
+
+class Place:
+    """A control place at which a server of this check's own answers the lines of one session."""
+
+    def __init__(self, answer):
+        self.path = f"{tempfile.mkdtemp(prefix='healthd-asking-')}/control"
+        self.listener = socket.socket(socket.AF_UNIX)
+        self.listener.bind(self.path)
+        self.listener.listen()
+        self.lines = []
+        self.server = threading.Thread(target=self.serve, args=(answer,), daemon=True)
+        self.server.start()
+
+    def serve(self, answer):
+        client, _ = self.listener.accept()
+        with client, client.makefile("rb") as lines:
+            for line in lines:
+                self.lines.append(line)
+                try:
+                    answer(client)
+                except OSError:
+                    return
+
+    def close(self):
+        self.server.join(20)
+        self.listener.close()
+        os.remove(self.path)
+        os.rmdir(os.path.dirname(self.path))
+
+
+def part(client):
+    client.sendall(b"s")
+
+
+def bytewise(client):
+    for _ in range(1_000):
+        client.sendall(b"s")
+        time.sleep(0.05)
+
+
+def later(client):
+    time.sleep(1.2)
+    client.sendall(b"done\n")
+
+
+LATE = (1, "", "healthd: timed out, the change may still be made\n")
+for name, answer in (("sends a part of an answer", part), ("sends an answer byte by byte", bytewise)):
+    place = Place(answer)
+    found, seconds = timed(ran, "tell", "--control", place.path, "--timeout", "1", "check", "-")
+    holds(f"tell gives up where a server {name}", found == LATE, str(found))
+    measured(f"tell --timeout 1 where a server {name}", seconds, 5)
+    holds("it was sent the line", place.lines == [b"check -\n"], str(place.lines))
+    place.close()
+
+# Each line has a time of its own: three answers come in more than two seconds, and so do lines that are empty.
+place = Place(later)
+found = ran("tell", "--control", place.path, "--timeout", "2", input="up a\nup b\npass c\n")
+holds("tell has the time of each line for its answer", found == (0, "done\n" * 3, ""), str(found))
+holds("each line was told once, in its order", place.lines == [b"up a\n", b"up b\n", b"pass c\n"], str(place.lines))
+place.close()
+server = Server()
+slowly = subprocess.Popen([HEALTHD, "tell", "--control", server.control, "--timeout", "1"], text=True,
+                          stdin=subprocess.PIPE, stdout=subprocess.PIPE, stderr=subprocess.PIPE)
+for _ in range(3):
+    slowly.stdin.write("\n")
+    slowly.stdin.flush()
+    time.sleep(0.5)
+found = slowly.communicate("check -\n", timeout=20)
+holds("empty lines take no time of the lines behind them", found == ("serving\n", ""), str(found))
+server.stop()

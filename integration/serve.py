@@ -1,0 +1,90 @@
+"""`healthd serve`: so many calls by so many workers, beside the orders of its script."""
+import socket
+import subprocess
+
+from servers import HEALTHD, HERE, holds, rest_of
+
+REFUSED_TYPE = (b"POST /grpc.health.v1.Health/Check HTTP/1.1\r\ncontent-type: application/grpc-web-text\r\n"
+                b"content-length: 5\r\n\r\n")
+
+
+class Serving:
+    """A `healthd serve` that has read its script."""
+
+    def __init__(self, script, workers, calls, port=None):
+        self.port = port or int(subprocess.check_output(["/usr/bin/python3", "-I", f"{HERE}/free_port.py"]))
+        self.process = subprocess.Popen(
+            [HEALTHD, "serve", "--port", str(self.port), "--workers", str(workers), "--calls", str(calls)],
+            stdin=subprocess.PIPE, stdout=subprocess.PIPE, stderr=subprocess.PIPE, text=True)
+        self.process.stdin.write(script)
+        self.process.stdin.close()
+        self.first = self.process.stdout.readline().strip()
+
+    def listens(self):
+        holds("it tells where it listens", self.first == f"listening 127.0.0.1:{self.port}", self.first)
+
+    def connect(self):
+        return socket.create_connection(("127.0.0.1", self.port), 20)
+
+    def ask(self, *options):
+        """The lines that `healthd ask` prints."""
+        ran = subprocess.run([HEALTHD, "ask", "--port", str(self.port), *options], capture_output=True, text=True, timeout=30)
+        return (ran.stdout + ran.stderr).splitlines()
+
+    def ended(self):
+        """Its exit status, and what it has printed behind its first line and to standard error."""
+        status = self.process.wait(40)
+        return status, self.process.stdout.read().splitlines(), self.process.stderr.read()
+
+
+def ends(lines):
+    """How the calls ended, without their numbers: workers take them as they come."""
+    return sorted(line.split(" ", 2)[2] for line in lines[:-1])
+
+
+# One failure leaves `a` up; `b` is set down, and the whole depends on it; of `c` nothing is known.
+one = Serving("catalogue a b c -\nmax 10\nregister a threshold 2\nregister c threshold 1 1 unknown\nregister b manual\n"
+              "register - depends b\nfail a\ndown b\n", 1, 5)
+one.listens()
+for name, told in (("a", ["SERVING", "grpc-status 0"]), ("zz", ["grpc-status 5 unknown service"]), ("b", ["NOT_SERVING", "grpc-status 0"]),
+                   ("c", ["UNKNOWN", "grpc-status 0"]), ("", ["NOT_SERVING", "grpc-status 0"])):
+    found = one.ask("--name", name)
+    holds(f"a Check of {name!r}", found == told, str(found))
+found = one.ended()
+holds("each call's end is told at its number", found == (0, ["call 0 status 0", "call 1 status 5", "call 2 status 0", "call 3 status 0",
+                                                             "call 4 status 0", "journal 6"], ""), str(found))
+
+# With one worker the silent client would keep the other from its answer.
+two = Serving("catalogue a -\nmax 1\nregister a manual\n", 2, 2)
+silent = two.connect()
+found = two.ask("--name", "a", "--timeout", "20")
+holds("a Check beside a client that is silent", found == ["SERVING", "grpc-status 0"], str(found))
+silent.close()
+status, lines, _ = two.ended()
+holds("how both ended", (status, ends(lines), lines[-1]) == (0, ["fault read", "status 0"], "journal 1"), str(lines))
+
+# A Watch that opens before the orders is left by its client after three statuses. One that opens between them or after them ends.
+TOLD = [["SERVING", "NOT_SERVING", "SERVING"], ["NOT_SERVING", "SERVING", "grpc-status 14 watch ended"],
+        ["SERVING", "grpc-status 14 watch ended"]]
+ordered = Serving("catalogue a -\nmax 10\nregister a manual\ngo\ndown a\ndown zz\nup a\n", 2, 3)
+silent = ordered.connect()
+watched = ordered.ask("--name", "a", "--watch", "3")
+holds("a Watch beside orders", watched in TOLD, str(watched))
+with ordered.connect() as refused:
+    refused.sendall(REFUSED_TYPE)
+    found = rest_of(refused)
+holds("a request of a refused type beside both", found.startswith(b"HTTP/1.1 415 "), str(found))
+silent.close()
+status, lines, _ = ordered.ended()
+told = len([line for line in watched if line.endswith("SERVING")])
+holds("how the three ended", (status, ends(lines)) == (0, ["fault read", "http 415", f"watch {told}"]), str(lines))
+holds("its journal has the orders that were made", lines[-1] == "journal 3", str(lines))
+
+# The faults of a script come before that of the port.
+FAULTS = [("catalogue a -\nmax 1\n", "bind"), ("catalogue a -\nmax 1\nregister a manual\nregister - depends a\ngo\nup a\n", "bind"),
+          ("catalogue a -\nmax 1\ncheck a\n", "script line 3"), ("catalogue a\n", "catalogue fault 5")]
+with socket.create_server(("127.0.0.1", 0)) as taken:
+    for script, fault in FAULTS:
+        late = Serving(script, 1, 1, taken.getsockname()[1])
+        found = late.ended()
+        holds(f"at a port that is taken {script!r} ends by {fault}", (late.first, *found) == ("", 1, [], f"healthd: {fault}\n"), str(found))
