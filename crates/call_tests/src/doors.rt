@@ -1,6 +1,6 @@
 //! A registry that forgets, and its door.
 
-use desk_core::{Behind, Catalogue, Desk, Keep, Setting, Slot, Watch};
+use desk_core::{Behind, Catalogue, Desk, Entry, Keep, NotStored, Setting, Slot, Watch};
 use health_wire::Serving;
 use probe_core::Manual;
 use std::alloc::Global;
@@ -18,6 +18,10 @@ impl Keep for KeepSixteen {
 
     fn kept() -> Option<u32> {
         Some(16)
+    }
+
+    fn store(&mut self, entries: &[Entry]) -> Result<(), NotStored> {
+        Ok(())
     }
 }
 

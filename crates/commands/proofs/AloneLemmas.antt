@@ -9,7 +9,7 @@ use Rattle.desk_core.specs.declared.entry.Entry.{Entry}
 use Rattle.desk_core.specs.declared.refusal.Refusal.{Refusal}
 use Rattle.desk_core.specs.declared.reply.Reply.{Reply}
 use Rattle.desk_core.specs.Legal.{IsLegal}
-use Rattle.desk_core.specs.Mutation.{AreAnswered, Ends, Then, IsAnswered, Taken, NotListed, BadRule, Full, NoMemory}
+use Rattle.desk_core.specs.Mutation.{AreAnswered, Ends, Then, IsAnswered, Taken, NotListed, BadRule, Full, NoMemory, NotStored}
 use Rattle.desk_core.specs.Past.{past}
 use Rattle.desk_core.specs.Seats.{calls_by}
 use Rattle.desk_core.specs.Watch.{IsOlder}
@@ -51,6 +51,7 @@ before_own most seat before after _ _ (NotListed same) own = subst (AreOwn seat)
 before_own most seat before after _ _ (BadRule call unlawful same) own = subst (AreOwn seat) same own
 before_own most seat before after _ _ (Full call lawful full same) own = subst (AreOwn seat) same own
 before_own most seat before after _ _ (NoMemory call lawful room same) own = subst (AreOwn seat) same own
+before_own most seat before after _ _ (NotStored call lawful room same) own = subst (AreOwn seat) same own
 
 -- changes of a seat that has seen its own entries alone are changes of one thread
 one_thread : (most seat : ℕ) (old new : SeatState) (calls : List (Option Call)) (results : List (Result Reply Refusal)) → old.most ≡ most → old.number ≡ seat

@@ -9,7 +9,7 @@ use Rattle.desk_core.specs.declared.call.Call.{Call}
 use Rattle.desk_core.specs.declared.entry.Entry.{Entry}
 use Rattle.desk_core.specs.declared.refusal.Refusal.{Refusal}
 use Rattle.desk_core.specs.declared.reply.Reply.{Reply}
-use Rattle.desk_core.specs.Mutation.{AreAnswered, Ends, Then, IsAnswered, Taken, NotListed, BadRule, Full, NoMemory}
+use Rattle.desk_core.specs.Mutation.{AreAnswered, Ends, Then, IsAnswered, Taken, NotListed, BadRule, Full, NoMemory, NotStored}
 use Rattle.hall.specs.Seats.{HallState, SeatState, IsCarriedOut, new_seats}
 use Rattle.hall.specs.CarriedOut.{replied}
 use Rattle.server.specs.Setup.{SetUpState, AreSetUp}
@@ -37,6 +37,7 @@ one_made n most seat before after _ _ calls results (NotListed same) made = let 
 one_made n most seat before after _ _ calls results (BadRule call unlawful same) made = let no : ⊥ = cc in absurd no
 one_made n most seat before after _ _ calls results (Full call lawful full same) made = let no : ⊥ = cc in absurd no
 one_made n most seat before after _ _ calls results (NoMemory call lawful room same) made = let no : ⊥ = cc in absurd no
+one_made n most seat before after _ _ calls results (NotStored call lawful room same) made = let no : ⊥ = cc in absurd no
 
 -- so there are as many entries as results
 pub all_made : (n : ℕ) (old new : SeatState) (calls : List (Option Call)) (results : List (Result Reply Refusal)) → AreAnswered IsCarriedOut old new calls results

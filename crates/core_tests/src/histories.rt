@@ -522,11 +522,12 @@ fn answers_worked_histories(rt: HostRuntime) -> Result<(), Fail> {
 }
 
 /// The numbers of the refusals are in no clause.
-const REFUSALS: [(Refusal, u8); 4] = [
+const REFUSALS: [(Refusal, u8); 5] = [
     (Refusal::BadRule, 1),
     (Refusal::Full, 2),
     (Refusal::NoMemory, 3),
     (Refusal::NotListed, 4),
+    (Refusal::NotStored, 5),
 ];
 
 #[test]

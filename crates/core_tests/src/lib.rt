@@ -4,6 +4,8 @@
 #[cfg(test)]
 mod asked;
 #[cfg(test)]
+mod book;
+#[cfg(test)]
 mod catalogues;
 #[cfg(test)]
 mod events;
@@ -29,6 +31,8 @@ mod rows;
 mod scripts;
 #[cfg(test)]
 mod sixteen;
+#[cfg(test)]
+mod stored;
 #[cfg(test)]
 mod tails;
 #[cfg(test)]

@@ -1,4 +1,4 @@
-use desk_core::Keep;
+use desk_core::{Entry, Keep, NotStored};
 
 /// The last sixteen: in tests much is soon forgotten.
 #[derive(Drop)]
@@ -11,5 +11,9 @@ impl Keep for KeepSixteen {
 
     fn kept() -> Option<u32> {
         Some(16)
+    }
+
+    fn store(&mut self, entries: &[Entry]) -> Result<(), NotStored> {
+        Ok(())
     }
 }

@@ -22,7 +22,7 @@ use Rattle.crew.specs.declared.command_run.CommandRun.{CommandRun}
 use Rattle.crew.specs.declared.staff.Staff.{Staff}
 use Rattle.crew.specs.declared.worker.Worker.{Worker}
 use Rattle.crew.specs.CommandRun.{HaveRun, IsEquipped, IsReady}
-use Rattle.desk_core.specs.Mutation.{IsAnswered, Taken, NotListed, BadRule, Full, NoMemory, AreAnswered, Ends, Then}
+use Rattle.desk_core.specs.Mutation.{IsAnswered, Taken, NotListed, BadRule, Full, NoMemory, NotStored, AreAnswered, Ends, Then}
 use Rattle.hall.specs.CarriedOut.{HasCarriedOut, replied}
 use Rattle.hall.specs.Looking.{HasLooked}
 use Rattle.crew.specs.Serve.{HasServed, lists_in}
@@ -42,6 +42,7 @@ replied_one n most seat before after _ _ calls results (NotListed same) = omega 
 replied_one n most seat before after _ _ calls results (BadRule call unlawful same) = omega arith
 replied_one n most seat before after _ _ calls results (Full call lawful full same) = omega arith
 replied_one n most seat before after _ _ calls results (NoMemory call lawful room same) = omega arith
+replied_one n most seat before after _ _ calls results (NotStored call lawful room same) = omega arith
 
 replies : (n : ℕ) (old new : SeatState) (calls : List (Option Call)) (results : List (Result Reply Refusal)) → AreAnswered IsCarriedOut old new calls results
     → length (replied n calls results) ≡ count_by is_ok results

@@ -16,6 +16,7 @@ use Rattle.desk_core.specs.declared.call.Call.{Call}
 use Rattle.desk_core.specs.declared.call.Call.TheVariants.{Register, Retire, Observe, Set, Shutdown, Resume}
 use Rattle.desk_core.specs.declared.change.Change.{Change}
 use Rattle.desk_core.specs.declared.entry.Entry.{Entry}
+use Rattle.desk_core.specs.declared.refusal.Refusal.{Refusal}
 use Rattle.desk_core.specs.declared.reply.Reply.{Reply}
 use Rattle.desk_core.specs.declared.reply.Reply.TheVariants.{Done, Replaced, Missing, WrongKind, Ignored}
 use Rattle.desk_core.specs.Past.{past, last_said}
@@ -24,14 +25,14 @@ use Rattle.desk_core.specs.Heard.{heard, event_of_finding, event_of_setting}
 use Rattle.desk_core.specs.Shut.{says_shut, is_shut}
 use Rattle.desk_core.specs.Legal.{IsLawfulCall}
 use Rattle.desk_core.specs.declared.refusal.Refusal.TheVariants as refusals
-use Rattle.desk_core.specs.Mutation.{entry_of, Taken, NoMemory}
+use Rattle.desk_core.specs.Mutation.{entry_of, Taken, NoMemory, NotStored}
 use Rattle.desk_core.specs.Reply.{reply_to}
 use Rattle.desk_core.specs.Status.{status_at, status_by, opinion, all_serving, has_slot, serving_if}
 use Rattle.desk_core.specs.Board.{packed, status_in}
 use Rattle.desk_core.specs.Changes.{Shows, changed, changes_of, shown_at}
-use Rattle.desk_core.specs.Slots.{covers_below, status_from, shown_in, noted, touched, HasSame, IsHeard, IsApplied}
+use Rattle.desk_core.specs.Slots.{covers_below, status_from, shown_in, noted, touched, held_at, TakesFromSlot, HasSame, IsHeard, IsApplied}
 use Rattle.desk_core.specs.Cache.{relies_on, rule_in, IsMapOf, LooksBack, HasDependents, IsRelated, Leaves, HasRule}
-use Rattle.desk_core.specs.Desk.{State, HasAnswered, Keeps, IsDesk, IsShown, probe_at}
+use Rattle.desk_core.specs.Desk.{State, HasAnswered, HasStored, Keeps, IsDesk, IsShown, probe_at, probe_of}
 use Rattle.desk_core.proofs.HistoryLemmas.{past_more, rule_of_probe, keeps_room, keeps_change}
 use Rattle.desk_core.proofs.StatusLemmas.{Tells, status_of_probe}
 use Rattle.desk_core.proofs.LawfulLemmas.{lawful_rule, relied_below}
@@ -301,10 +302,11 @@ is_desk_changed slots room after shut now journal new last old kept changes old_
 -- a change that was taken
 pub has_answered : (old new : State) (seat : ℕ) (call : Call) (reply : Reply) → IsLawfulCall call → length old.journal < old.max_entries
     → reply ≡ reply_to (past old.journal) call → new.journal ≡ old.journal ++ entry_of seat call reply ∷ [] → new.max_entries ≡ old.max_entries
-    → HasAnswered old new seat call (Ok reply)
-has_answered old new seat call reply lawful below reply_is is most = record {
+    → HasStored old new (entry_of seat call reply) (Ok reply) → HasAnswered old new seat call (Ok reply)
+has_answered old new seat call reply lawful below reply_is is most stored = record {
   most = most;
   answer = Taken call reply lawful (rw (length-reverse old.journal) below) reply_is (ap past is ∙ past_more old.journal (entry_of seat call reply));
+  stored = subst (λ r. HasStored old new (entry_of seat call r) (Ok reply)) reply_is stored;
 }
 
 -- it shows where the list of status changes has grown
@@ -316,13 +318,20 @@ shows_newest shows journal new entry was changes is was_is changes_is told =
     (subst (λ cs. IsTrue shows ↔ (length cs < length (changes_of (entry ∷ past journal)))) was_is
     (subst (λ cs. IsTrue shows ↔ (length was < length cs)) (changes_is ∙ ap changes_of later) told))
 
--- a lawful change for which an allocation failed, at a journal that is not full
-pub unanswered : (old inside new : State) (seat : ℕ) (call : Call) → inside ≡ old → new.journal ≡ inside.journal → new.max_entries ≡ inside.max_entries
-    → IsLawfulCall call × (length old.journal < old.max_entries) → HasAnswered old new seat call (Err refusals.NoMemory)
-unanswered old inside new seat call is same most why = record {
-  most = most ∙ ap (λ (desk : State). desk.max_entries) is;
-  answer = NoMemory call why.0 (rw (length-reverse old.journal) why.1) (ap past (same ∙ ap (λ (desk : State). desk.journal) is));
-}
+-- a lawful change of a journal that is not full, for which an allocation failed, or which its store refused
+module _ (old new : State) (seat : ℕ) (call : Call) (reply : Reply) (same : new.journal ≡ old.journal) (most : new.max_entries ≡ old.max_entries)
+    (why : IsLawfulCall call × (length old.journal < old.max_entries)) (reply_is : reply ≡ reply_to (past old.journal) call) where
+  has_room : length (past old.journal) < old.max_entries
+  has_room = rw (length-reverse old.journal) why.1
+
+  as_replied : {refusal : Refusal} → HasStored old new (entry_of seat call reply) (Err refusal) → HasStored old new (entry_of seat call (reply_to (past old.journal) call)) (Err refusal)
+  as_replied {refusal} stored = subst (λ r. HasStored old new (entry_of seat call r) (Err refusal)) reply_is stored
+
+  pub out_of_memory : HasStored old new (entry_of seat call reply) (Err refusals.NoMemory) → HasAnswered old new seat call (Err refusals.NoMemory)
+  out_of_memory stored = record { most = most; answer = NoMemory call why.0 has_room (ap past same); stored = as_replied stored }
+
+  pub not_stored : HasStored old new (entry_of seat call reply) (Err refusals.NotStored) → HasAnswered old new seat call (Err refusals.NotStored)
+  not_stored stored = record { most = most; answer = NotStored call why.0 has_room (ap past same); stored = as_replied stored }
 
 -- more room for probes, and nothing else
 pub is_desk_room : (slots room : List (Option (Rule × ℕ))) (shut : Bool) (journal last : List Entry) (old changes : List Change)
@@ -337,3 +346,13 @@ is_desk_room slots room shut journal last old changes old_statuses statuses old_
 -- masks that are the same say the same rules
 pub related_too : (rules : ℕ → Option Rule) (old new : List ℕ) → new ≡ old → HasDependents rules old → HasDependents rules new
 related_too rules old new same related i j few below = ap (λ ds. has_slot (get_or ds j 0) i) same ∙ related i j few below
+
+-- what a call takes out is the probe that the journal says
+pub takes_out : (slots room : List (Option (Rule × ℕ))) (shut : Bool) (journal was : List Entry) (max_entries : ℕ) (call : Call) → HasSame slots room → Keeps slots shut journal max_entries
+    → journal ≡ was → TakesFromSlot call → held_at room call ≡ probe_of (past was) call
+takes_out slots room shut journal was max_entries (Register slot rule) same keeps is from = same slot ∙ keeps.each slot from ∙ ap (λ js. probe_at (past js) slot) is
+takes_out slots room shut journal was max_entries (Retire slot) same keeps is from = same slot ∙ keeps.each slot from ∙ ap (λ js. probe_at (past js) slot) is
+takes_out slots room shut journal was max_entries (Observe slot finding) same keeps is from = refl
+takes_out slots room shut journal was max_entries (Set slot setting) same keeps is from = refl
+takes_out slots room shut journal was max_entries Shutdown same keeps is from = refl
+takes_out slots room shut journal was max_entries Resume same keeps is from = refl

@@ -10,6 +10,7 @@ pub mod KeyLemmas
 pub mod LatestLemmas
 pub mod LawfulLemmas
 pub mod LawLemmas
+pub mod LeftLemmas
 pub mod MarkLemmas
 pub mod NamedLemmas
 pub mod OnceLemmas
@@ -20,6 +21,7 @@ pub mod RefreshLemmas
 pub mod SilenceLemmas
 pub mod SlotLemmas
 pub mod StatusLemmas
+pub mod TakenBackLemmas
 pub mod ToldLemmas
 pub mod TranscriptLemmas
 pub mod WatchLemmas

@@ -6,6 +6,7 @@ pub mod Desk
 pub mod Fault
 pub mod Heard
 pub mod Latest
+pub mod Left
 pub mod Legal
 pub mod Mutation
 pub mod Order

@@ -1,7 +1,7 @@
 -- Why a change was not taken.
 use Rattle.std.specs.Prelude.{ℕ, List, codes}
 use Rattle.desk_core.specs.declared.refusal.Refusal.{Refusal}
-use Rattle.desk_core.specs.declared.refusal.Refusal.TheVariants.{BadRule, Full, NoMemory, NotListed}
+use Rattle.desk_core.specs.declared.refusal.Refusal.TheVariants.{BadRule, Full, NoMemory, NotListed, NotStored}
 
 -- the text of a refusal
 abbrev pub refusal_text : Refusal → List ℕ
@@ -9,3 +9,4 @@ refusal_text BadRule = codes "the rule is not lawful"
 refusal_text Full = codes "the journal is full"
 refusal_text NoMemory = codes "out of memory"
 refusal_text NotListed = codes "the name is not in the catalogue"
+refusal_text NotStored = codes "not stored"

@@ -18,6 +18,15 @@ use Rattle.desk_core.specs.Board.{status_in}
 abbrev pub HasSame : List (Option (Rule × ℕ)) → List (Option (Rule × ℕ)) → Type 0
 HasSame old new = (i : ℕ) → slice_index_or new i None ≡ slice_index_or old i None
 
+-- the slot whose probe a call takes out is one of the sixteen
+abbrev pub TakesFromSlot : Call → Type 0
+TakesFromSlot (Register slot rule) = slot < 16
+TakesFromSlot (Retire slot) = slot < 16
+TakesFromSlot (Observe slot finding) = Unit {0}
+TakesFromSlot (Set slot setting) = Unit {0}
+TakesFromSlot Shutdown = Unit {0}
+TakesFromSlot Resume = Unit {0}
+
 -- a probe that heard one more event
 abbrev pub noted : Event → Option (Rule × ℕ) → Option (Rule × ℕ)
 noted event None = None

@@ -22,15 +22,17 @@ use crate::slots::Slots;
 use crate::standing::Standing;
 use crate::status::first_down;
 use crate::status_word::StatusWord;
+use crate::store::store_entry;
 use crate::transcript::Transcript;
 use crate::watch::{Behind, Watch};
 use health_wire::Serving;
 use probe_core::{Probe, Rule};
 use std::alloc::{AllocError, Global};
-use std::marker::{Model, PhantomData};
+use std::marker::Model;
 
 /// The registry of one thread: it owns the probes of sixteen slots, and the journal of all changes, of which it keeps as many as
-/// `K` says. What it has forgotten shows in `journal_kept` and `step_kept` alone.
+/// `K` says. What it has forgotten shows in `journal_kept` and `step_kept` alone. Where it has a store, each entry is stored before
+/// anything shows it.
 #[derive(Drop)]
 pub struct Desk<P: Probe, K: Keep = KeepAll> {
     slots: Slots<P>,
@@ -39,7 +41,7 @@ pub struct Desk<P: Probe, K: Keep = KeepAll> {
     marks: Marks,
     latest: LatestOfAll,
     max_entries: u32,
-    keep: PhantomData<K>,
+    store: Option<K>,
 }
 
 impl<P: Probe, K: Keep> Model for Desk<P, K> {
@@ -47,6 +49,7 @@ impl<P: Probe, K: Keep> Model for Desk<P, K> {
     ghost use Rattle.desk_core.specs.Desk.{State, IsDesk};
     ghost use Rattle.desk_core.specs.Latest.{AreLatest};
     ghost use Rattle.desk_core.specs.Marks.{HasMarks};
+    ghost use Rattle.desk_core.specs.Left.{left_of, is_stored, Holds, StandsIf};
     ghost use Rattle.desk_core.specs.Past.{past};
 
     ghost Value = { State };
@@ -59,6 +62,8 @@ impl<P: Probe, K: Keep> Model for Desk<P, K> {
         changes = desk.history.changes.capacity;
       };
       places = length desk.slots.places.items;
+      is_stored = is_stored desk.store;
+      left = left_of K.left desk.store;
     } };
 
     ghost invariant = { λ desk.
@@ -67,12 +72,14 @@ impl<P: Probe, K: Keep> Model for Desk<P, K> {
         desk.history.cache.dependents desk.max_entries
         × (desk.history.journal.keep ≡ K.kept) × (desk.history.changes.keep ≡ K.kept)
         × HasMarks (past desk.history.journal.items) desk.marks.shut desk.marks.slots
-        × AreLatest (past desk.history.journal.items) desk.latest.slots };
+        × AreLatest (past desk.history.journal.items) desk.latest.slots
+        × StandsIf K.stands desk.store desk.history.journal.items
+        × Holds (left_of K.left desk.store) desk.history.journal.items };
 }
 
 impl<P: Probe, K: Keep> Desk<P, K> {
     ghost use Rattle.desk_core.specs.declared.change.Change.{Change};
-    ghost use Rattle.std.specs.Prelude.{◌≡◌, ◌≢◌, ◌<◌, ◌≤◌, ◌↔◌, ◌+◌, ◌-◌, ◌++◌, ℕ, List, length, take, drop, None, Some, Ok, Err, IfSome, IfNone, IfOk, IfErr, IsErr, IsTrue, IsFalse, OnOk, OnErr, MatchResult};
+    ghost use Rattle.std.specs.Prelude.{◌≡◌, ◌≢◌, ◌<◌, ◌≤◌, ◌↔◌, ◌+◌, ◌-◌, ◌++◌, ℕ, List, length, take, drop, None, Some, Ok, Err, true, IfSome, IsSome, IfNone, IfOk, IfErr, IsErr, IsTrue, IsFalse, OnOk, OnErr, MatchResult};
     ghost use Rattle.std.specs.Option.{option_map};
     ghost use Rattle.desk_core.specs.Past.{past};
     ghost use Rattle.desk_core.specs.Mutation.{rule_of};
@@ -92,7 +99,8 @@ impl<P: Probe, K: Keep> Desk<P, K> {
     ghost use Rattle.desk_core.specs.Reason.{absent_by, down_by, named, not_serving_by, reason_at};
     ghost use Rattle.tail.specs.Tail.{forgotten};
     ghost use Rattle.std.specs.Vec.{vec_len, vec_capacity};
-    ghost use Rattle.desk_core.specs.Desk.{HasAnswered, HoldsMemory, IsAtLimit, new_desk, probe_at, probe_of};
+    ghost use Rattle.desk_core.specs.Desk.{HasAnswered, HoldsMemory, IsAtLimit, new_desk, with_store, probe_at, probe_of};
+    ghost use Rattle.desk_core.specs.Left.{Holds};
 
     /// An empty desk, whose journal takes at most so many entries. It takes no memory yet.
     pub fn new(alloc: Global, max_entries: u32) -> Desk<P, K>
@@ -105,8 +113,37 @@ impl<P: Probe, K: Keep> Desk<P, K> {
             marks: Marks::new(),
             latest: LatestOfAll::new(),
             max_entries,
-            keep: PhantomData,
+            store: None,
         }
+    }
+
+    /// The same desk over a store that has its journal. It stores each entry from now on.
+    pub fn stored_in(self, store: K) -> Desk<P, K>
+        requires stands { K.stands store self.journal }
+        requires holds { Holds (K.left store) self.journal }
+        ensures { result ≡ with_store self (K.left store) }
+    {
+        let mut desk = self;
+        desk.store = Some(store);
+        desk
+    }
+
+    /// The store, which has the desk's journal, if there is one.
+    pub fn into_store(self) -> Option<K>
+        ensures stands { IfSome result (λ store. K.stands store self.journal) }
+        ensures left { IfSome result (λ store. K.left store ≡ self.left) }
+        ensures some { self.is_stored ≡ true → IsSome result }
+    {
+        self.store
+    }
+
+    /// Whether it has a store.
+    pub fn is_stored(&self) -> bool
+        // A desk keeps that a crash takes nothing back; here a caller learns it.
+        ensures stored { result ≡ self.now.is_stored }
+        ensures kept { Holds self.now.left self.now.journal }
+    {
+        self.store.is_some()
     }
 
     /// The entries that are kept, the oldest first.
@@ -156,18 +193,22 @@ impl<P: Probe, K: Keep> Desk<P, K> {
         }
         let reply = self.reply_to(&call);
         let rule = self.rule_for(&call);
+        let entry = Entry { seat, call, reply };
         let Ok(()) = self.slots.reserve() else {
             return Err((Refusal::NoMemory, probe));
         };
-        let Ok(at) = self.history.append(seat, call, reply) else {
+        let Ok(()) = self.history.reserve() else {
             return Err((Refusal::NoMemory, probe));
         };
+        let Ok(()) = store_entry(&mut self.store, entry) else {
+            return Err((Refusal::NotStored, probe));
+        };
+        let at = self.history.append(seat, call, reply);
         self.marks.note(&call, reply, rule, at);
         let old = self.slots.apply(&call, reply, probe);
         self.is_shut = shut_after(self.is_shut, &call);
         let before = self.history.statuses();
         let shows = self.history.show(&self.slots, self.is_shut, &call, at);
-        let entry = Entry { seat, call, reply };
         self.latest
             .note(&entry, at, before, self.history.statuses());
         Ok(Made {
@@ -182,14 +223,16 @@ impl<P: Probe, K: Keep> Desk<P, K> {
     fn refusal_of(&self, call: &Call) -> Option<Refusal>
         ensures some { (seat : ℕ) → IfSome result (λ refusal.
             HasAnswered self.now self.now seat call.now (Err refusal)) }
-        ensures other { IfSome result (λ refusal. refusal ≢ Refusal.NoMemory) }
+        ensures other { IfSome result (λ refusal.
+            (refusal ≢ Refusal.NoMemory) × (refusal ≢ Refusal.NotStored)) }
         ensures none { IfNone result
             (IsLawfulCall call.now × (length self.now.journal < self.now.max_entries)) }
     {
+        let entries = self.history.len();
         if !is_lawful_call(call) {
             return Some(Refusal::BadRule);
         }
-        if self.history.len() >= u64::from(self.max_entries) {
+        if entries >= u64::from(self.max_entries) {
             return Some(Refusal::Full);
         }
         None

@@ -102,16 +102,13 @@ impl History {
         self.cache.statuses()
     }
 
-    /// Adds an entry at the end, once there is room for what it may change, and answers its place.
-    pub(crate) fn append(&mut self, seat: u16, call: Call, reply: Reply) -> Result<u32, AllocError>
-        requires { length self.old.journal.items < 2 ^ 32 }
-        ensures ok { IfOk result (λ at. (at ≡ length self.old.journal.items)
-            × (self.new.journal.items
-            ≡ self.old.journal.items ++ entry_of seat call reply ∷ [])) }
-        ensures err { OnErr result (self.new.journal.items ≡ self.old.journal.items) }
+    /// Makes room for one more entry and for all that it may change.
+    pub(crate) fn reserve(&mut self) -> Result<(), AllocError>
+        ensures journal { self.new.journal.items ≡ self.old.journal.items }
         ensures changes { self.new.changes.items ≡ self.old.changes.items }
         ensures cache { self.new.cache ≡ self.old.cache }
-        ensures room { OnOk result (16 ≤ self.new.changes.room) }
+        ensures room { OnOk result ((1 ≤ self.new.journal.room)
+            × (16 ≤ self.new.changes.room)) }
         ensures full { (most : ℕ) → self.old.journal.keep ≡ Some most
             → self.old.changes.keep ≡ Some most → self.old.journal.capacity ≡ most_held most
             → self.old.changes.capacity ≡ most_held most → IsOk result }
@@ -120,11 +117,25 @@ impl History {
         ensures kept { (self.new.journal.keep ≡ self.old.journal.keep)
             × (self.new.changes.keep ≡ self.old.changes.keep) }
     {
-        let at = self.journal.len() as u32;
         self.changes.reserve(usize::from(Slot::COUNT))?;
-        self.journal.reserve(1)?;
+        self.journal.reserve(1)
+    }
+
+    /// Adds an entry at the end, and answers its place.
+    pub(crate) fn append(&mut self, seat: u16, call: Call, reply: Reply) -> u32
+        requires room { 1 ≤ self.old.journal.room }
+        requires few { length self.old.journal.items < 2 ^ 32 }
+        ensures place { result ≡ length self.old.journal.items }
+        ensures journal { self.new.journal.items
+            ≡ self.old.journal.items ++ entry_of seat call reply ∷ [] }
+        ensures changes { self.new.changes ≡ self.old.changes }
+        ensures cache { self.new.cache ≡ self.old.cache }
+        ensures capacity { self.new.journal.capacity ≡ self.old.journal.capacity }
+        ensures kept { self.new.journal.keep ≡ self.old.journal.keep }
+    {
+        let at = self.journal.len() as u32;
         self.journal.push(Entry { seat, call, reply });
-        Ok(at)
+        at
     }
 
     /// Computes anew the statuses that the call touched, and those of the slots that depend on them, and lists what the entry at

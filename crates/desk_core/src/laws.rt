@@ -1,4 +1,4 @@
-ghost use Rattle.std.specs.Prelude.{◌≡◌, ◌-◌, ◌<◌, ◌≤◌, ◌↔◌, ◌⊎◌, if◌then◌else◌, List, ℕ, Bool, Option, Result, Err, take, drop, Some, None, true, false, [], ◌∷◌, ◌++◌, length, All, Contains, IsSome};
+ghost use Rattle.std.specs.Prelude.{◌≡◌, ◌-◌, ◌<◌, ◌≤◌, ◌↔◌, ◌⊎◌, if◌then◌else◌, List, ℕ, Bool, Option, Result, take, drop, Some, None, true, false, [], ◌∷◌, ◌++◌, length, All, Contains, IsSome};
 ghost use Rattle.std.specs.List.{last_or};
 ghost use Rattle.desk_core.specs.declared.call.Call.{Call};
 ghost use Rattle.desk_core.specs.declared.call.Call.TheVariants.{Shutdown, Resume};
@@ -6,14 +6,15 @@ ghost use Rattle.desk_core.specs.declared.entry.Entry.{Entry};
 ghost use Rattle.desk_core.specs.declared.change.Change.{Change};
 ghost use Rattle.desk_core.specs.declared.reason.Cause.{Cause};
 ghost use Rattle.desk_core.specs.declared.refusal.Refusal.{Refusal};
-ghost use Rattle.desk_core.specs.declared.refusal.Refusal.TheVariants.{NoMemory};
 ghost use Rattle.desk_core.specs.declared.reply.Reply.{Reply};
 ghost use Rattle.desk_core.specs.Past.{past};
 ghost use Rattle.desk_core.specs.Shut.{is_shut, says_shut};
 ghost use Rattle.desk_core.specs.Heard.{heard};
 ghost use Rattle.desk_core.specs.Status.{status_at, serving_if, shown, AllServe};
 ghost use Rattle.desk_core.specs.Present.{rule_at};
-ghost use Rattle.desk_core.specs.Mutation.{IsAnswered};
+ghost use Rattle.desk_core.specs.Mutation.{IsAnswered, AreAnswered, IsWant};
+ghost use Rattle.desk_core.specs.Desk.{State, HasAnsweredAny, TakesNothingBack};
+ghost use Rattle.desk_core.specs.Left.{Holds};
 ghost use Rattle.desk_core.specs.Reason.{reason_at, status_by_reason};
 ghost use Rattle.desk_core.specs.Named.{IsNamed, NamesEntries};
 ghost use Rattle.desk_core.specs.Reply.{reply_to};
@@ -167,14 +168,21 @@ pub fn tells_changes_alone()
 {}
 
 /// A history, and a change that is asked for, have one outcome, whatever else a registry keeps of them: where two registries with this
-/// history are asked, and memory ran out for neither, they answer the same, and have the same history afterwards.
+/// history are asked, and neither wanted for memory or for room in its store, they answer the same, and have the same history afterwards.
 pub fn one_outcome()
     ensures { (most seat : ℕ) (before after other : List Entry) (call : Option Call)
         (result another : Result Reply Refusal)
         → IsAnswered most seat before after call result
         → IsAnswered most seat before other call another
-        → (result ≡ Err NoMemory) ⊎ (another ≡ Err NoMemory)
-        ⊎ ((result ≡ another) × (after ≡ other)) }
+        → IsWant result ⊎ IsWant another ⊎ ((result ≡ another) × (after ≡ other)) }
+{}
+
+/// Whatever changes a desk with a store answers, a crash takes nothing back: each journal that a crash left, or might have left at any
+/// moment of them, begins with the one that the desk had before them.
+pub fn nothing_is_taken_back()
+    ensures { (old new : State) (calls : List (Option Call)) (results : List (Result Reply Refusal))
+        → AreAnswered HasAnsweredAny old new calls results → Holds old.left old.journal
+        → TakesNothingBack old new }
 {}
 
 /// A watch of a service that is not behind has its next status change among those that are kept: those from its cursor on are a part

@@ -56,6 +56,7 @@ mod slots;
 mod standing;
 mod status;
 mod status_word;
+mod store;
 mod transcript;
 mod watch;
 
@@ -71,8 +72,9 @@ pub use keep::{Capacity, Keep, KeepAll, KeepMany};
 pub use laws::{
     behind_for_good, changes_grow, depends_on_all, events_decide, faultless_names,
     kept_changes_suffice, last_call_decides, last_change_is_shown, legal_fronts, legal_growth,
-    one_outcome, reasons_name_entries, reasons_tell_statuses, slots_and_names,
-    steps_leave_none_out, tells_changes_alone, walks_tell_the_story, watchers_end_up_right,
+    nothing_is_taken_back, one_outcome, reasons_name_entries, reasons_tell_statuses,
+    slots_and_names, steps_leave_none_out, tells_changes_alone, walks_tell_the_story,
+    watchers_end_up_right,
 };
 pub use made::{Effect, Made};
 pub use name::Name;
@@ -86,5 +88,6 @@ pub use reply::Reply;
 pub use ruled::Ruled;
 pub use slot::Slot;
 pub use standing::Standing;
+pub use store::NotStored;
 pub use transcript::Transcript;
 pub use watch::{Behind, Watch};

@@ -12,6 +12,8 @@ pub enum Refusal {
     NoMemory = 3,
     /// The name is not in the catalogue.
     NotListed = 4,
+    /// The store refused the entry.
+    NotStored = 5,
 }
 
 impl fmt::Display for Refusal {
@@ -26,6 +28,7 @@ impl fmt::Display for Refusal {
             Refusal::Full => "the journal is full",
             Refusal::NoMemory => "out of memory",
             Refusal::NotListed => "the name is not in the catalogue",
+            Refusal::NotStored => "not stored",
         })
     }
 }

@@ -23,7 +23,7 @@ impl<P: Probe> Slots<P> {
     ghost use Rattle.desk_core.specs.Past.{past};
     ghost use Rattle.desk_core.specs.Status.{status_at};
     ghost use Rattle.desk_core.specs.Board.{status_in};
-    ghost use Rattle.desk_core.specs.Slots.{was_reset, HasSame, IsHeard, IsApplied, held_at};
+    ghost use Rattle.desk_core.specs.Slots.{was_reset, HasSame, IsHeard, IsApplied, TakesFromSlot, held_at};
     ghost use Rattle.desk_core.specs.Mutation.{rule_of};
     ghost use Rattle.desk_core.specs.Desk.{Keeps};
     ghost use Rattle.desk_core.specs.Silence.{falls_at};
@@ -87,6 +87,7 @@ impl<P: Probe> Slots<P> {
         ensures applied { IsApplied call.now reply self.old.places.items self.new.places.items }
         ensures old { option_map (λ p. (P.rule p, P.memory p)) result
             ≡ held_at self.old.places.items call.now }
+        ensures from { TakesFromSlot call.now }
         ensures places { length self.new.places.items ≡ length self.old.places.items }
     {
         match call {
@@ -117,6 +118,7 @@ impl<P: Probe> Slots<P> {
     fn replace(&mut self, slot: Slot, owned: Owned<P>) -> Option<Owned<P>>
         requires { 15 < length self.old.places.items }
         ensures there { slot < length self.old.places.items }
+        ensures few { slot < 16 }
         ensures old { result ≡ slice_index_or self.old.places.items slot None }
         ensures after { self.new.places.items ≡ slice_set self.old.places.items slot (Some owned) }
     {
@@ -124,6 +126,7 @@ impl<P: Probe> Slots<P> {
     }
 
     fn take(&mut self, slot: Slot) -> Option<Owned<P>>
+        ensures few { slot < 16 }
         ensures old { result ≡ slice_index_or self.old.places.items slot None }
         ensures after { self.new.places.items ≡ slice_set self.old.places.items slot None }
     {

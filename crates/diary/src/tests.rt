@@ -5,7 +5,7 @@ ghost use Rattle.hall.specs.Seats.{IsOf};
 
 use super::*;
 use chronicle::Who;
-use desk_core::{Catalogue, Finding, Keep, KeepMany, Refusal, Reply};
+use desk_core::{Catalogue, Entry, Finding, Keep, KeepMany, NotStored, Refusal, Reply};
 use hall::{Hall, Seat};
 use log_lines::Outlet;
 use probe_core::{Start, Threshold};
@@ -44,6 +44,10 @@ impl Keep for KeepSixteen {
 
     fn kept() -> Option<u32> {
         Some(16)
+    }
+
+    fn store(&mut self, entries: &[Entry]) -> Result<(), NotStored> {
+        Ok(())
     }
 }
 

@@ -31,11 +31,13 @@ pub(crate) fn reason_of(number: u8) -> &'static str {
     const FULL: u8 = Refusal::Full as u8;
     const NO_MEMORY: u8 = Refusal::NoMemory as u8;
     const NOT_LISTED: u8 = Refusal::NotListed as u8;
+    const NOT_STORED: u8 = Refusal::NotStored as u8;
     match number {
         BAD_RULE => "bad rule",
         FULL => "full",
         NO_MEMORY => "no memory",
         NOT_LISTED => "not listed",
+        NOT_STORED => "not stored",
         _ => "for no known reason",
     }
 }

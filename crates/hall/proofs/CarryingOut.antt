@@ -7,7 +7,7 @@ use Rattle.desk_core.specs.declared.entry.Entry.{Entry}
 use Rattle.desk_core.specs.declared.refusal.Refusal.{Refusal}
 use Rattle.desk_core.specs.declared.refusal.Refusal.TheVariants as refusals
 use Rattle.desk_core.specs.declared.reply.Reply.{Reply}
-use Rattle.desk_core.specs.Mutation.{IsAnswered, Taken, NotListed, BadRule, Full, NoMemory, AreAnswered, Ends, Then, entry_of}
+use Rattle.desk_core.specs.Mutation.{IsAnswered, Taken, NotListed, BadRule, Full, NoMemory, NotStored, AreAnswered, Ends, Then, entry_of}
 use Rattle.desk_core.specs.Past.{past}
 use Rattle.desk_core.specs.Seats.{calls_by}
 use Rattle.desk_core.specs.Watch.{IsOlder}
@@ -32,6 +32,7 @@ answered_own most seat before after _ _ (NotListed same) = ap (λ es. calls_by e
 answered_own most seat before after _ _ (BadRule call unlawful same) = ap (λ es. calls_by es seat) same
 answered_own most seat before after _ _ (Full call lawful full same) = ap (λ es. calls_by es seat) same
 answered_own most seat before after _ _ (NoMemory call lawful room same) = ap (λ es. calls_by es seat) same
+answered_own most seat before after _ _ (NotStored call lawful room same) = ap (λ es. calls_by es seat) same
 
 met_own : (old new : SeatState) (call : Option Call) (result : Result Reply Refusal) → IsCarriedOut old new call result
     → own_calls new ≡ past (replied old.number (call ∷ []) (result ∷ [])) ++ own_calls old
@@ -75,6 +76,7 @@ answered_begins most seat before after _ _ (NotListed same) = record { newer = [
 answered_begins most seat before after _ _ (BadRule call unlawful same) = record { newer = []; is = same }
 answered_begins most seat before after _ _ (Full call lawful full same) = record { newer = []; is = same }
 answered_begins most seat before after _ _ (NoMemory call lawful room same) = record { newer = []; is = same }
+answered_begins most seat before after _ _ (NotStored call lawful room same) = record { newer = []; is = same }
 
 met_begins : (old new : SeatState) (call : Option Call) (result : Result Reply Refusal) → IsCarriedOut old new call result → IsOlder old.seen new.seen
 met_begins old new call result met = older_on old.seen met.before new.seen met.begins (answered_begins old.most old.number met.before new.seen call result met.answer)
@@ -92,6 +94,7 @@ answered_full most seat before after _ _ (NotListed same) is = let no : ⊥ = cc
 answered_full most seat before after _ _ (BadRule call unlawful same) is = let no : ⊥ = cc in absurd no
 answered_full most seat before after _ _ (Full call lawful full same) is = omega (arith, full, ap length same)
 answered_full most seat before after _ _ (NoMemory call lawful room same) is = let no : ⊥ = cc in absurd no
+answered_full most seat before after _ _ (NotStored call lawful room same) is = let no : ⊥ = cc in absurd no
 
 one_full : (old new : SeatState) (call : Option Call) (result : Result Reply Refusal) → IsCarriedOut old new call result → result ≡ Err refusals.Full → new.most ≤ length new.seen
 one_full old new call result met is =

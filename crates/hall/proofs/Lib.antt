@@ -1,3 +1,4 @@
+pub mod StoreLemmas
 pub mod Sums
 pub mod Views
 pub mod Turns

@@ -11,7 +11,7 @@ use Rattle.desk_core.specs.Changes.{Shows}
 use Rattle.desk_core.specs.Desk.{State, HasAnswered}
 use Rattle.desk_core.specs.Legal.{IsLegal}
 use Rattle.desk_core.specs.Past.{past}
-use Rattle.desk_core.specs.Mutation.{IsAnswered, Taken, NotListed as Unlisted, BadRule, Full, NoMemory, entry_of}
+use Rattle.desk_core.specs.Mutation.{IsAnswered, Taken, NotListed as Unlisted, BadRule, Full, NoMemory, NotStored, entry_of}
 use Rattle.desk_core.specs.Seats.{calls_by}
 use Rattle.hall.specs.Views.{seat_view, desk_view}
 use Rattle.hall.specs.Steps.{Seated, IsSeat, HasDesk, Follows, number_in, seen_in}
@@ -26,6 +26,7 @@ kept_of : (most seat : ℕ) (before after : List Entry) (call : Call) (refusal :
 kept_of most seat before after call _ (BadRule _ unlawful same) = same
 kept_of most seat before after call _ (Full _ lawful full same) = same
 kept_of most seat before after call _ (NoMemory _ lawful room same) = same
+kept_of most seat before after call _ (NotStored _ lawful room same) = same
 
 -- a seat as contracts see it
 abbrev pub seat_of : TableId → Seated → ℕ → SeatState

@@ -2,6 +2,7 @@ pub mod Views
 pub mod Gates
 pub mod Silence
 pub mod Steps
+pub mod TakenBack
 pub mod Seats
 pub mod Fault
 pub mod Looking

@@ -17,6 +17,8 @@ pub struct Closed<P: Probe, K: Keep = KeepAll> {
     /// The registry, with its journal and its probes.
     pub desk: Desk<P, K>,
     pub catalogue: Catalogue,
+    /// Whether the registry has a store.
+    pub is_stored: bool,
 }
 
 /// A hall that was not closed, since some of its seats were missing.
@@ -33,6 +35,7 @@ impl<P: Probe, K: Keep> Hall<P, K> {
     ghost use Rattle.desk_core.specs.Legal.{IsLegal};
     ghost use Rattle.desk_core.specs.Past.{past};
     ghost use Rattle.hall.specs.Seats.{IsOf, IsSeenIn, own_calls};
+    ghost use Rattle.hall.specs.TakenBack.{NothingTakenBack};
 
     /// The desk of a hall whose seats have all come back. Where one is missing, all is handed back.
     pub fn close(self, seats: Vec<Seat<P, K>>) -> Result<Closed<P, K>, Unclosed<P, K>>
@@ -43,6 +46,8 @@ impl<P: Probe, K: Keep> Hall<P, K> {
         ensures kept { IfOk result (λ closed.
             (closed.catalogue ≡ self.names) × (closed.desk.max_entries ≡ self.most)) }
         ensures legal { IfOk result (λ closed. IsLegal (past closed.desk.journal)) }
+        ensures stored { IfOk result (λ closed. closed.is_stored ≡ closed.desk.is_stored) }
+        ensures taken_back { IfOk result (λ closed. NothingTakenBack closed.desk seats.items) }
         ensures seats { IfOk result (λ closed.
             All (IsSeenIn (past closed.desk.journal)) seats.items) }
         ensures counted { IfOk result (λ closed.
@@ -61,9 +66,12 @@ impl<P: Probe, K: Keep> Hall<P, K> {
         let mut closed = table.close_with(place);
         let slot = closed.take(DESK);
         closed.free();
+        let desk = slot.unwrap();
+        let is_stored = desk.is_stored();
         Ok(Closed {
-            desk: slot.unwrap(),
+            desk,
             catalogue,
+            is_stored,
         })
     }
 }

@@ -38,6 +38,7 @@ mod note;
 mod seat;
 mod silence;
 mod steps;
+mod storing;
 mod view;
 
 pub use answer::Answer;

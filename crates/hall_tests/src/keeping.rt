@@ -3,7 +3,7 @@
 use crate::changes::{Story, Turn, Who};
 use crate::race::Race;
 use crate::rows::{DONE, Found, Row, Step};
-use desk_core::{Behind, Extent, Finding, Keep, Setting};
+use desk_core::{Behind, Entry, Extent, Finding, Keep, NotStored, Setting};
 use health_wire::Serving;
 
 /// The last four.
@@ -17,6 +17,10 @@ impl Keep for KeepFour {
 
     fn kept() -> Option<u32> {
         Some(4)
+    }
+
+    fn store(&mut self, entries: &[Entry]) -> Result<(), NotStored> {
+        Ok(())
     }
 }
 

@@ -27,3 +27,5 @@ mod race;
 mod races;
 #[cfg(test)]
 mod rows;
+#[cfg(test)]
+mod stores;

@@ -78,7 +78,7 @@ where
         seats,
         places,
     } = seating.serve(rt, &hall, places, maker, news);
-    let Ok(Closed { desk, catalogue: _ }) = hall.close(seats) else {
+    let Ok(Closed { desk, .. }) = hall.close(seats) else {
         return Err(RunFault::SeatsMissing);
     };
     Ok(Ran {

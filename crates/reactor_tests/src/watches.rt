@@ -2,7 +2,7 @@
 
 use crate::streams::{Manner, Wire, filled, wire};
 use crate::turns::turn_once;
-use desk_core::{Catalogue, Desk, Keep, Setting, Slot};
+use desk_core::{Catalogue, Desk, Entry, Keep, NotStored, Setting, Slot};
 use probe_core::Manual;
 use reactor::Fate;
 use std::alloc::{AllocError, Global};
@@ -23,6 +23,10 @@ impl Keep for KeepSixteen {
 
     fn kept() -> Option<u32> {
         Some(16)
+    }
+
+    fn store(&mut self, entries: &[Entry]) -> Result<(), NotStored> {
+        Ok(())
     }
 }
 

@@ -1,9 +1,10 @@
 -- A script that is run: its lines one after the other, by one thread over a new registry.
-use Rattle.std.specs.Prelude.{ℕ, ◌≡◌, List, [], ◌∷◌, ◌++◌, length, codes, slice_get, slice_set, Option, Some, Result}
+use Rattle.std.specs.Prelude.{ℕ, ◌≡◌, ◌≢◌, List, [], ◌∷◌, ◌++◌, length, codes, slice_get, slice_set, Option, Some, Result, Err}
 use Rattle.health_wire.specs.declared.serving.Serving.{Serving}
 use Rattle.desk_core.specs.declared.call.Call.{Call}
 use Rattle.desk_core.specs.declared.entry.Entry.{Entry}
 use Rattle.desk_core.specs.declared.refusal.Refusal.{Refusal}
+use Rattle.desk_core.specs.declared.refusal.Refusal.TheVariants.{NotStored}
 use Rattle.desk_core.specs.declared.reply.Reply.{Reply}
 use Rattle.desk_core.specs.Board.{board_of}
 use Rattle.desk_core.specs.Catalogue.{slot_of}
@@ -35,12 +36,14 @@ opening names max = record { names = names; max_entries = max; entries = []; wat
 abbrev pub with_watches : RunState → List WatchState → RunState
 with_watches run watches = record { names = run.names; max_entries = run.max_entries; entries = run.entries; watches = watches }
 
--- how a run comes out of a change with a reply or a refusal: its history is answered as one that seat 0 asks, and all else stays
+-- how a run comes out of a change with a reply or a refusal: its history is answered as one that seat 0 asks, and all else stays. It has
+-- no store that could refuse an entry
 pub record IsChanged (old new : RunState) (call : Option Call) (result : Result Reply Refusal) : Type 0 where
   pub names : new.names ≡ old.names
   pub most : new.max_entries ≡ old.max_entries
   pub watches : new.watches ≡ old.watches
   pub answer : IsAnswered old.max_entries 0 old.entries new.entries call result
+  pub unstored : result ≢ Err NotStored
 
 -- a step of the watch with this number: the run after it, and what the watch is shown
 pub record IsStepped (run : RunState) (number : ℕ) (after : RunState) (status : Option Serving) : Type 0 where

@@ -3,7 +3,7 @@ use Rattle.std.specs.Prelude.{ℕ, List, ◌++◌, codes, decimal, Option, None,
 use Rattle.health_wire.specs.declared.serving.Serving.{Serving}
 use Rattle.health_wire.specs.declared.serving.Serving.TheVariants.{Unknown, NotServing, ServiceUnknown, Serving as IsServing}
 use Rattle.desk_core.specs.declared.refusal.Refusal.{Refusal}
-use Rattle.desk_core.specs.declared.refusal.Refusal.TheVariants.{BadRule, Full, NoMemory, NotListed}
+use Rattle.desk_core.specs.declared.refusal.Refusal.TheVariants.{BadRule, Full, NoMemory, NotListed, NotStored}
 use Rattle.desk_core.specs.declared.reply.Reply.{Reply}
 use Rattle.desk_core.specs.declared.reply.Reply.TheVariants.{Done, Replaced, Missing, WrongKind, Ignored}
 use Rattle.script.specs.declared.outcome.Outcome.{Outcome}
@@ -30,6 +30,7 @@ refused_text BadRule = codes "refused bad rule"
 refused_text Full = codes "refused full"
 refused_text NoMemory = codes "refused no memory"
 refused_text NotListed = codes "refused not listed"
+refused_text NotStored = codes "refused not stored"
 
 -- a change that was taken or refused
 abbrev pub changed_text : Result Reply Refusal → List ℕ

@@ -18,6 +18,7 @@ pub struct Run<P: Probe> {
 }
 
 impl<P: Probe> Model for Run<P> {
+    ghost use Rattle.std.specs.Prelude.{◌≡◌, false};
     ghost use Rattle.desk_core.specs.Past.{past};
     ghost use Rattle.script.specs.Run.{RunState};
 
@@ -29,6 +30,8 @@ impl<P: Probe> Model for Run<P> {
       entries = past run.desk.journal;
       watches = run.watches.items;
     } };
+
+    ghost invariant = { λ run. run.desk.is_stored ≡ false };
 }
 
 impl<P: Probe> Run<P> {

@@ -35,6 +35,7 @@ fn refused_text(refusal: Refusal) -> &'static str
         Refusal::Full => "refused full",
         Refusal::NoMemory => "refused no memory",
         Refusal::NotListed => "refused not listed",
+        Refusal::NotStored => "refused not stored",
     }
 }
 

@@ -91,7 +91,7 @@ where
         Ok(report) => report,
         Err(fault) => return Err(ServeFault::from(fault.why)),
     };
-    let Ok(Closed { desk, catalogue: _ }) = hall.close(seats) else {
+    let Ok(Closed { desk, .. }) = hall.close(seats) else {
         return Err(ServeFault::SeatsMissing);
     };
     Ok(Served {

@@ -7,7 +7,7 @@ use crate::rows::{
     FAR_BEHIND, FORGETTING, FORGETTING_ASLEEP, FULL, HEARING_AGAIN, MANY, ROWS, Step, TOLD, TWO,
 };
 use crate::stage::Stage;
-use desk_core::{Catalogue, Keep, KeepMany};
+use desk_core::{Catalogue, Entry, Keep, KeepMany, NotStored};
 use hall::{Hall, Seat};
 use probe_core::{Start, Threshold};
 use std::alloc::Global;
@@ -27,6 +27,10 @@ impl Keep for KeepSixteen {
 
     fn kept() -> Option<u32> {
         Some(16)
+    }
+
+    fn store(&mut self, entries: &[Entry]) -> Result<(), NotStored> {
+        Ok(())
     }
 }
 

@@ -1,66 +1,138 @@
 use Rattle.std.proofs.Common.{◌<◌, arith, [], ◌∷◌, ◌++◌, length, refl, sym, ap, subst, ◌∙◌}
+use Rattle.tail.specs.Tail.{TailState}
+use Rattle.desk_core.specs.Desk.{State}
+use Rattle.desk_core.specs.Left.{Holds, StandsIf, left_of}
 use Rattle.desk_core.specs.Marks.{HasMarks, IsRuleFor}
 use Rattle.desk_core.specs.Latest.{AreLatest}
 use Rattle.desk_core.proofs.LatestLemmas.{latest_more}
+use Rattle.desk_core.proofs.LeftLemmas.{holds_all, holds_on, spared, stored, refused}
 use Rattle.desk_core.proofs.MarkLemmas.{marks_more}
 use Rattle.desk_core.specs.Mutation.{entry_of}
+use Rattle.desk_core.specs.Changes.{changes_of}
 use Rattle.desk_core.specs.Past.{past}
 use Rattle.desk_core.specs.Reply.{reply_to}
-use Rattle.desk_core.proofs.DeskLemmas.{has_answered, shows_newest, unanswered, is_desk_changed, is_desk_room}
+use Rattle.desk_core.proofs.DeskLemmas.{has_answered, shows_newest, out_of_memory, not_stored, is_desk_changed, is_desk_room, takes_out}
 use Rattle.desk_core.proofs.KeptLemmas.{room_left}
 use Rattle.desk_core.proofs.desk.Desk.change.Goals as goal
 
-pub returns-in_default-reserve-clause-answered : goal.returns-in_default-reserve-clause-answered
-returns-in_default-reserve-clause-answered g c = unanswered _ _ _ _ _ c.self.view_is refl refl c.in_default.ensures.none
+pub returns-in-Some-clause-answered : goal.returns-in-Some-clause-answered
+returns-in-Some-clause-answered g c = c.in-Some.ensures.some c.args.seat
 
-pub invariant_of-self-in_default-append : goal.invariant_of-self-in_default-append
-invariant_of-self-in_default-append g c = (
-  is_desk_room _ _ _ _ _ _ _ _ _ _ _ _ c.self.invariant.0 c.reserve.ensures.same c.in_default-append.ensures.err c.append.ensures.changes
-      (ap (λ cache. cache.statuses) c.append.ensures.cache) (ap (λ cache. cache.dependents) c.append.ensures.cache),
-  c.append.ensures.kept.0 ∙ c.self.invariant.1,
-  c.append.ensures.kept.1 ∙ c.self.invariant.2,
-  subst (λ journal. HasMarks (past journal) c.self.inside.marks.shut c.self.inside.marks.slots) (sym c.in_default-append.ensures.err) c.self.invariant.3,
-  subst (λ journal. AreLatest (past journal) c.self.inside.latest.slots) (sym c.in_default-append.ensures.err) c.self.invariant.4,
-)
+pub returns-in_default-reserve-clause-answered : goal.returns-in_default-reserve-clause-answered
+returns-in_default-reserve-clause-answered g c =
+    let journal = ap (λ (s : State). s.journal) c.self.view_is in
+    let holds = subst (λ (s : State). Holds s.left s.journal) c.self.view_is
+    c.self.invariant.6 in
+    out_of_memory _ _ c.args.seat c.args.call _ journal (ap (λ (s : State). s.max_entries) c.self.view_is) c.in_default.ensures.none c.reply_to-reply.ensures
+    (spared _ _ _ _ (ap (λ (s : State). s.left) c.self.view_is) (ap (λ (s : State). s.is_stored) c.self.view_is) journal holds (λ is. cc))
+
+pub invariant_of-self-in_default-reserve-2 : goal.invariant_of-self-in_default-reserve-2
+invariant_of-self-in_default-reserve-2 g c =
+    let journal = c.reserve-2.ensures.journal in (
+      is_desk_room _ _ _ _ _ _ _ _ _ _ _ _ c.self.invariant.0 c.reserve.ensures.same journal c.reserve-2.ensures.changes
+          (ap (λ cache. cache.statuses) c.reserve-2.ensures.cache) (ap (λ cache. cache.dependents) c.reserve-2.ensures.cache),
+      c.reserve-2.ensures.kept.0 ∙ c.self.invariant.1,
+      c.reserve-2.ensures.kept.1 ∙ c.self.invariant.2,
+      subst (λ js. HasMarks (past js) c.self.inside.marks.shut c.self.inside.marks.slots) (sym journal) c.self.invariant.3,
+      subst (λ js. AreLatest (past js) c.self.inside.latest.slots) (sym journal) c.self.invariant.4,
+      subst (λ js. StandsIf g.K.Keep.stands c.self.inside.store js) (sym journal) c.self.invariant.5,
+      subst (λ js. Holds (left_of g.K.Keep.left c.self.inside.store) js) (sym journal) c.self.invariant.6,
+    )
+
+pub returns-in_default-reserve-2-clause-answered : goal.returns-in_default-reserve-2-clause-answered
+returns-in_default-reserve-2-clause-answered g c =
+    let journal = c.reserve-2.ensures.journal ∙ ap (λ (s : State). s.journal) c.self.view_is in
+    let holds = subst (λ (s : State). Holds s.left s.journal) c.self.view_is
+    c.self.invariant.6 in
+    out_of_memory _ _ c.args.seat c.args.call _ journal (ap (λ (s : State). s.max_entries) c.self.view_is) c.in_default.ensures.none c.reply_to-reply.ensures
+    (spared _ _ _ _ (ap (λ (s : State). s.left) c.self.view_is) (ap (λ (s : State). s.is_stored) c.self.view_is) journal holds (λ is. cc))
+
+pub invariant_of-self-in_default-store_entry : goal.invariant_of-self-in_default-store_entry
+invariant_of-self-in_default-store_entry g c =
+    let journal = c.reserve-2.ensures.journal in (
+      is_desk_room _ _ _ _ _ _ _ _ _ _ _ _ c.self.invariant.0 c.reserve.ensures.same journal c.reserve-2.ensures.changes
+          (ap (λ cache. cache.statuses) c.reserve-2.ensures.cache) (ap (λ cache. cache.dependents) c.reserve-2.ensures.cache),
+      c.reserve-2.ensures.kept.0 ∙ c.self.invariant.1,
+      c.reserve-2.ensures.kept.1 ∙ c.self.invariant.2,
+      subst (λ js. HasMarks (past js) c.self.inside.marks.shut c.self.inside.marks.slots) (sym journal) c.self.invariant.3,
+      subst (λ js. AreLatest (past js) c.self.inside.latest.slots) (sym journal) c.self.invariant.4,
+      subst (λ js. StandsIf g.K.Keep.stands c.store_entry.new.store js) (sym journal)
+          (c.in_default-store_entry.ensures.refused c.self.inside.history.journal.items c.self.invariant.5),
+      subst (λ js. Holds (left_of g.K.Keep.left c.store_entry.new.store) js) (sym journal)
+          (holds_on _ _ c.self.inside.history.journal.items _ c.self.invariant.6 (c.store_entry.ensures.crash c.self.inside.history.journal.items c.self.invariant.5)),
+    )
+
+pub returns-in_default-store_entry-clause-answered : goal.returns-in_default-store_entry-clause-answered
+returns-in_default-store_entry-clause-answered g c =
+    let was = ap (λ (s : State). s.journal) c.self.view_is in
+    let journal = c.reserve-2.ensures.journal ∙ was in
+    let entry = entry_of c.args.seat c.args.call c.reply_to-reply.result in
+    let inside = c.self.inside.history.journal.items in
+    not_stored _ _ c.args.seat c.args.call _ journal (ap (λ (s : State). s.max_entries) c.self.view_is) c.in_default.ensures.none c.reply_to-reply.ensures
+    (refused g.K.Keep.left c.self.inside.store c.store_entry.new.store _ _ entry
+    (sym (ap (λ (s : State). s.left) c.self.view_is)) refl (sym (ap (λ (s : State). s.is_stored) c.self.view_is)) refl c.store_entry.ensures.same
+    inside was (c.store_entry.ensures.crash inside c.self.invariant.5)
+    journal c.self.invariant.6
+    (λ none. let ok = c.in_default-store_entry.ensures.none none in cc))
 
 pub show-shows-requires-clause-few : goal.show-shows-requires-clause-few
 show-shows-requires-clause-few g c =
-    room_left _ _ _ _ c.self.invariant.0.told c.append.ensures.changes c.self.invariant.0.parts.room c.self.invariant.0.parts.limit
-
-pub returns-in_default-append-clause-answered : goal.returns-in_default-append-clause-answered
-returns-in_default-append-clause-answered g c = unanswered _ _ _ _ _ c.self.view_is c.in_default-append.ensures.err refl c.in_default.ensures.none
+    room_left _ _ _ _ c.self.invariant.0.told (ap (λ (t : TailState _). t.items) c.append-at.ensures.changes ∙ c.reserve-2.ensures.changes)
+    c.self.invariant.0.parts.room c.self.invariant.0.parts.limit
 
 pub invariant_of-self-2 : goal.invariant_of-self-2
 invariant_of-self-2 g c =
     let lawful = c.in_default.ensures.none.0 in
     let room : length c.self.inside.history.journal.items < c.self.inside.max_entries = subst (λ state. length state.journal < state.max_entries) (sym c.self.view_is) c.in_default.ensures.none.1 in
+    let entry = entry_of c.args.seat c.args.call c.reply_to-reply.result in
+    let grown = c.append-at.ensures.journal ∙ ap (λ js. js ++ entry ∷ []) c.reserve-2.ensures.journal in
+    let at = c.append-at.ensures.place ∙ ap length c.reserve-2.ensures.journal in
+    let changes = ap (λ (t : TailState _). t.items) c.append-at.ensures.changes ∙ c.reserve-2.ensures.changes in
+    let cache = c.append-at.ensures.cache ∙ c.reserve-2.ensures.cache in
+    let reply = c.reply_to-reply.ensures ∙ ap (λ state. reply_to (past state.journal) c.args.call) (sym c.self.view_is) in
     let desk =
     is_desk_changed _ _ _ _ _ _ _ _ _ _ _ _ _ _ _ _ _ _ _ _ c.args.call c.reply_to-reply.result c.self.invariant.0 c.reserve.ensures.same room lawful
-    (c.reply_to-reply.ensures ∙ ap (λ state. reply_to (past state.journal) c.args.call) (sym c.self.view_is)) c.in-Ok-append.ensures.ok.1 c.show-shows.ensures.journal
-    c.in-Ok-append.ensures.ok.0 c.append.ensures.changes (ap (λ cache. cache.statuses) c.append.ensures.cache) (ap (λ cache. cache.dependents) c.append.ensures.cache)
+    reply grown c.show-shows.ensures.journal at changes (ap (λ cache. cache.statuses) cache) (ap (λ cache. cache.dependents) cache)
     c.apply-old.ensures.applied c.shut_after-self-inside.ensures c.show-shows.ensures.dependents c.show-shows.ensures.statuses c.show-shows.ensures.changes in (
       desk,
-      c.show-shows.ensures.kept.0 ∙ (c.append.ensures.kept.0 ∙ c.self.invariant.1),
-      c.show-shows.ensures.kept.1 ∙ (c.append.ensures.kept.1 ∙ c.self.invariant.2),
-      marks_more c.args.seat c.in-Ok-append.at c.args.call c.reply_to-reply.result c.rule_for-rule.result c.self.inside.history.journal.items
+      c.show-shows.ensures.kept.0 ∙ (c.append-at.ensures.kept ∙ c.reserve-2.ensures.kept.0 ∙ c.self.invariant.1),
+      c.show-shows.ensures.kept.1 ∙ (ap (λ (t : TailState _). t.keep) c.append-at.ensures.changes ∙ c.reserve-2.ensures.kept.1 ∙ c.self.invariant.2),
+      marks_more c.args.seat c.append-at.result c.args.call c.reply_to-reply.result c.rule_for-rule.result c.self.inside.history.journal.items
           c.show-shows.new.self.journal.items c.self.inside.marks.shut c.note.new.self.shut c.self.inside.marks.slots c.note.new.self.slots
-          c.in-Ok-append.ensures.ok.0 (omega (arith, room, c.self.invariant.0.parts.limit))
+          at (omega (arith, room, c.self.invariant.0.parts.limit))
           (subst (λ state. IsRuleFor (past state.journal) c.args.call c.rule_for-rule.result) (sym c.self.view_is) c.rule_for-rule.ensures)
-          (c.reply_to-reply.ensures ∙ ap (λ state. reply_to (past state.journal) c.args.call) (sym c.self.view_is))
-          (c.show-shows.ensures.journal ∙ c.in-Ok-append.ensures.ok.1) c.note.ensures.shut c.note.ensures.slots c.self.invariant.3,
-      latest_more c.args.seat c.in-Ok-append.at _ _ c.args.call c.reply_to-reply.result c.self.inside.history.journal.items c.show-shows.new.self.journal.items _ _
-          c.in-Ok-append.ensures.ok.0 (c.show-shows.ensures.journal ∙ c.in-Ok-append.ensures.ok.1)
-          (c.statuses-before.ensures ∙ ap (λ cache. cache.statuses) c.append.ensures.cache ∙ c.self.invariant.0.cached) (c.statuses.ensures ∙ desk.cached)
+          reply (c.show-shows.ensures.journal ∙ grown) c.note.ensures.shut c.note.ensures.slots c.self.invariant.3,
+      latest_more c.args.seat c.append-at.result _ _ c.args.call c.reply_to-reply.result c.self.inside.history.journal.items c.show-shows.new.self.journal.items _ _
+          at (c.show-shows.ensures.journal ∙ grown)
+          (c.statuses-before.ensures ∙ ap (λ cache. cache.statuses) cache ∙ c.self.invariant.0.cached) (c.statuses.ensures ∙ desk.cached)
           c.note-2.ensures c.self.invariant.4,
+      subst (λ js. StandsIf g.K.Keep.stands c.store_entry.new.store js) (sym (c.show-shows.ensures.journal ∙ grown))
+          (c.in-Ok-store_entry.ensures.stored c.self.inside.history.journal.items c.self.invariant.5),
+      subst (λ js. Holds (left_of g.K.Keep.left c.store_entry.new.store) js) (sym (c.show-shows.ensures.journal ∙ grown))
+          (holds_all _ (left_of g.K.Keep.left c.store_entry.new.store) c.self.inside.history.journal.items _ c.self.invariant.6
+          (c.store_entry.ensures.crash c.self.inside.history.journal.items c.self.invariant.5)
+          (c.in-Ok-store_entry.ensures.durable c.self.inside.history.journal.items c.self.invariant.5)),
     )
 
 pub returns-clause-answered : goal.returns-clause-answered
 returns-clause-answered g c =
+    let was = ap (λ (s : State). s.journal) c.self.view_is in
+    let entry = entry_of c.args.seat c.args.call c.reply_to-reply.result in
+    let inside = c.self.inside.history.journal.items in
+    let grown = c.show-shows.ensures.journal ∙ c.append-at.ensures.journal ∙ ap (λ js. js ++ entry ∷ []) (c.reserve-2.ensures.journal ∙ was) in
     has_answered _ _ c.args.seat c.args.call _ c.in_default.ensures.none.0 c.in_default.ensures.none.1 c.reply_to-reply.ensures
-    (c.show-shows.ensures.journal ∙ c.in-Ok-append.ensures.ok.1 ∙ ap (λ state. state.journal ++ entry_of c.args.seat c.args.call c.reply_to-reply.result ∷ []) c.self.view_is)
-    (ap (λ state. state.max_entries) c.self.view_is)
+    grown (ap (λ state. state.max_entries) c.self.view_is)
+    (stored g.K.Keep.left c.self.inside.store c.store_entry.new.store _ _ entry
+    (sym (ap (λ (s : State). s.left) c.self.view_is)) refl (sym (ap (λ (s : State). s.is_stored) c.self.view_is)) refl c.store_entry.ensures.same
+    inside was (c.store_entry.ensures.crash inside c.self.invariant.5)
+    c.reply_to-reply.result grown c.self.invariant.6 (c.in-Ok-store_entry.ensures.durable inside c.self.invariant.5))
 
 pub returns-clause-shows : goal.returns-clause-shows
 returns-clause-shows g c =
-    shows_newest _ _ _ _ _ _ (c.show-shows.ensures.journal ∙ c.in-Ok-append.ensures.ok.1) (c.append.ensures.changes ∙ c.self.invariant.0.told) (invariant_of-self-2 g c).0.told
+    shows_newest _ _ _ _ _ _ (c.show-shows.ensures.journal ∙ c.append-at.ensures.journal)
+    (ap (λ (t : TailState _). t.items) c.append-at.ensures.changes ∙ c.reserve-2.ensures.changes ∙ c.self.invariant.0.told ∙ ap (λ js. changes_of (past js)) (sym c.reserve-2.ensures.journal)) (invariant_of-self-2 g c).0.told
     c.show-shows.ensures.shows
+
+pub returns-clause-old : goal.returns-clause-old
+returns-clause-old g c =
+    c.apply-old.ensures.old ∙ takes_out _ _ _ _ _ _ c.args.call c.reserve.ensures.same c.self.invariant.0.parts (ap (λ (s : State). s.journal) c.self.view_is) c.apply-old.ensures.from

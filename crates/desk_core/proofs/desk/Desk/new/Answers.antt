@@ -1,5 +1,7 @@
-use Rattle.std.proofs.Common.{rules}
+use Rattle.std.proofs.Common.{[], sym, subst, rules}
+use Rattle.desk_core.specs.Left.{Holds, nothing_left}
 use Rattle.desk_core.proofs.HistoryLemmas.{keeps_none}
+use Rattle.desk_core.proofs.LeftLemmas.{nothing_held}
 use Rattle.desk_core.proofs.DeskLemmas.{is_desk_new}
 use Rattle.desk_core.proofs.desk.Desk.new.Goals as goal
 
@@ -11,4 +13,6 @@ invariant_of-result g c = (
   search rules,
   search rules,
   search rules,
+  search rules,
+  subst (Holds nothing_left) (sym c.new-2.ensures.journal) (nothing_held []),
 )

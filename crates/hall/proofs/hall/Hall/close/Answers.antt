@@ -8,10 +8,11 @@ use Rattle.hall.specs.Steps.{AllBegin}
 use Rattle.hall.specs.Views.{made_by}
 use Rattle.hall.proofs.Ends.{IsWhole, found_desk}
 use Rattle.hall.proofs.Gathered.{end_in, made_in}
+use Rattle.hall.proofs.StoreLemmas.{nothing_taken}
 use Rattle.hall.proofs.hall.Hall.close.Goals as goal
 
-pub unwrap-requires : goal.unwrap-requires
-unwrap-requires g c =
+pub unwrap-desk-requires : goal.unwrap-desk-requires
+unwrap-desk-requires g c =
     let key = c.self.inside.table.shared.key in
     let place = c.gather-place.result in
     let final = c.close_with-closed.ensures.values.2 in
@@ -21,8 +22,8 @@ unwrap-requires g c =
     subst IsSome (sym found.1) refl
 
 -- the desk that was taken out of the slot is that of the whole hall
-closing : (g : _) (c : goal.After-unwrap g)
-    → (whole : IsWhole c.self.inside.table.shared.key.most c.close_with-closed.ensures.values.2.0 c.gather-place.result.me.0.seats) × (c.unwrap.result ≡ whole.desk)
+closing : (g : _) (c : goal.After-is_stored-is_stored g)
+    → (whole : IsWhole c.self.inside.table.shared.key.most c.close_with-closed.ensures.values.2.0 c.gather-place.result.me.0.seats) × (c.unwrap-desk.result ≡ whole.desk)
 closing g c =
     let key = c.self.inside.table.shared.key in
     let place = c.gather-place.result in
@@ -30,7 +31,7 @@ closing g c =
     let all : length place.me.0.seats ≡ key.seats =
     omega (arith, ap length c.gather-place.ensures.seats, length-map c.args.seats.items held_of, c.len.ensures, c.if-len-self.false, c.self.invariant.1) in
     let found = found_desk key final.0 place.id place.me.0 _ c.take-slot.result final.1 c.gather-place.ensures.idle.0 all final.4 c.take-slot.ensures.value in
-    (found.0, ap (λ (d : Option State). unwrap_or d c.unwrap.result) (sym c.unwrap.ensures ∙ found.1))
+    (found.0, ap (λ (d : Option State). unwrap_or d c.unwrap-desk.result) (sym c.unwrap-desk.ensures ∙ found.1))
 
 pub returns-clause-kept : goal.returns-clause-kept
 returns-clause-kept g c =
@@ -42,9 +43,9 @@ returns-clause-kept g c =
 pub returns-clause-seats : goal.returns-clause-seats
 returns-clause-seats g c =
     let done = closing g c in
-    let begin : AllBegin (past c.unwrap.result.journal) (map held_of c.args.seats.items) =
+    let begin : AllBegin (past c.unwrap-desk.result.journal) (map held_of c.args.seats.items) =
     subst (λ (d : State). AllBegin (past d.journal) (map held_of c.args.seats.items)) (sym done.1) (subst (AllBegin (past done.0.desk.journal)) c.gather-place.ensures.seats done.0.begin) in
-    end_in (past c.unwrap.result.journal) c.args.seats.items begin
+    end_in (past c.unwrap-desk.result.journal) c.args.seats.items begin
 
 pub returns-clause-counted : goal.returns-clause-counted
 returns-clause-counted g c =
@@ -57,3 +58,6 @@ returns-clause-counted g c =
       ap made_by c.gather-place.ensures.seats,
       made_in c.args.seats.items,
     )
+
+pub returns-clause-taken_back : goal.returns-clause-taken_back
+returns-clause-taken_back g c = nothing_taken c.unwrap-desk.result c.args.seats.items c.is_stored-is_stored.ensures.kept (returns-clause-seats g c)
