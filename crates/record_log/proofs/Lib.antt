@@ -1,8 +1,10 @@
+mod BeginningLemmas
 mod CrashLemmas
 mod DeviceLemmas
 mod GateLemmas
-mod LawLemmas
-mod LogLemmas
+pub mod LawLemmas
+pub mod LogLemmas
 mod OpeningLemmas
 mod ReadingLemmas
 mod RunLemmas
+mod TakenBackLemmas

@@ -13,7 +13,7 @@ pub(crate) const CLOSED: u8 = 0;
 const CHECKSUM_LEN: usize = 4;
 
 /// The blocks of these entries, and a closed gate.
-pub(crate) fn blocks_of(alloc: Global, batch: &[Vec<u8>]) -> Result<Vec<u8>, AllocError>
+pub fn blocks_of(alloc: Global, batch: &[Vec<u8>]) -> Result<Vec<u8>, AllocError>
     requires short { All (λ entry. length entry.items < 256) batch.now }
     ensures { IfOk result (λ text. text.items ≡ blocks (texts batch.now) ++ 0 ∷ []) }
 {

@@ -31,6 +31,7 @@
 //! ```
 #![tactic(auto)]
 
+mod beginning;
 mod block;
 mod checksum;
 mod device;
@@ -46,6 +47,8 @@ mod rewriting;
 mod was;
 mod writing;
 
+pub use crate::beginning::begins;
+pub use crate::block::blocks_of;
 pub use crate::checksum::crc32;
 pub use crate::device::{Device, DeviceError};
 pub use crate::file_device::FileDevice;

@@ -16,6 +16,9 @@ impl Model for Past {
     ghost also_owns = { λ _. ftrue };
 }
 
+// It owns nothing.
+unsafe impl Send for Past {}
+
 impl Past {
     /// Of an empty file.
     pub(crate) fn new() -> Past

@@ -1,6 +1,6 @@
 ghost use Rattle.std.specs.Prelude.{◌≡◌, ◌<◌, ◌++◌, List, ℕ, All, length, IfOk, OnOk, IsErrOf};
 ghost use Rattle.record_log.specs.Device.{LeavesOnly, IsCounted};
-ghost use Rattle.record_log.specs.Log.{StandsFor, IsDamagedAt, IsReady, IsAsBefore, IsBeforeOrAfter, IsAfterSome, all_of, texts};
+ghost use Rattle.record_log.specs.Log.{StandsFor, IsDamagedAt, IsReady, IsAsBefore, IsBeforeOrAfter, IsAfterSome, all_of, blocks, texts};
 ghost use Rattle.record_log.specs.declared.open_error.OpenError.TheVariants.{Failed, Damaged};
 
 use crate::block::{CLOSED, blocks_of};
@@ -73,6 +73,32 @@ impl<D: Device> RecordLog<D> {
         let text = blocks_of(alloc, batch)?;
         write_gated(&mut self.device, self.end, &text)?;
         self.end += text.len() - 1;
+        Ok(())
+    }
+
+    /// Takes back the entries behind this place, at which the first of them begins. After an `Err`
+    /// the log is to be opened again.
+    pub fn take_back(&mut self, end: usize) -> Result<(), DeviceError>
+        requires ready { (entries more : List (List ℕ)) × (end ≡ length (blocks entries))
+            × IsReady D.contents D.may_leave self.old (entries ++ more) }
+
+        ensures taken_back { OnOk result ((entries more : List (List ℕ))
+            → end ≡ length (blocks entries)
+            → IsReady D.contents D.may_leave self.old (entries ++ more)
+            → IsReady D.contents D.may_leave self.new entries) }
+
+        // A crash within the call leaves all of the entries behind the place or none of them.
+        ensures any_moment { (entries more : List (List ℕ)) → end ≡ length (blocks entries)
+            → IsReady D.contents D.may_leave self.old (entries ++ more)
+            → LeavesOnly D.moment D.left_since self.old.device self.new.device
+            (IsBeforeOrAfter entries more) }
+        ensures failed { IsCounted (D.failures self.old.device) (D.failures self.new.device)
+            result }
+    {
+        if end < self.end {
+            write_synced(&mut self.device, end, &[CLOSED])?;
+        }
+        self.end = end;
         Ok(())
     }
 

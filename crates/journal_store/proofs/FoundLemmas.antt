@@ -1,0 +1,40 @@
+-- What is said of records that stand behind a preface.
+use Rattle.std.proofs.Common.{◌≡◌, ℕ, ◌+◌, ◌<◌, List, [], ◌∷◌, ◌++◌, length, drop, Vec, sym, ◌∙◌, ap, subst, arith}
+use Rattle.std.specs.Prelude.{All}
+use Rattle.std.specs.declared.alloc.Global.{Global}
+use Rattle.std.proofs.lemmas.List.{drop_at, drop-map, length-drop, get_or-drop}
+use Rattle.std.proofs.lemmas.List.Elements.{All-append, All-cons}
+use Rattle.record_log.specs.Log.{texts}
+use Rattle.entry_record.specs.declared.stored.Stored.{Stored}
+use Rattle.journal_store.specs.Preface.{Front, BeginsWith, preface_of, title_of}
+use Rattle.journal_store.specs.Read.{AreFound, AreRead, IsNoEntry}
+use Rattle.journal_store.proofs.PrefaceLemmas.{short_texts, texts_short}
+
+module _ (front : Front) (found : List (Vec ℕ Global)) (taken : ℕ) where
+  -- what is behind a preface
+  behind_is : (begins : BeginsWith front (texts found) taken) → texts (drop taken found) ≡ begins.behind
+  behind_is begins = sym (drop-map (λ (e : Vec ℕ Global). e.items) taken found) ∙ ap (λ (l : List (List ℕ)). drop taken l) begins.whole
+      ∙ drop_at (preface_of front) begins.behind taken (omega (arith, begins.count))
+
+  pub found_read : (stored : List Stored) → BeginsWith front (texts found) taken → AreRead (texts (drop taken found)) stored → AreFound front (texts found) stored
+  found_read stored begins read = of (texts found) begins.whole
+    where
+      of : (records : List (List ℕ)) → records ≡ preface_of front ++ begins.behind → AreFound front records stored
+      of [] is = let no : [] ≡ preface_of front ++ begins.behind = is in absurd cc
+      of (first ∷ records) is = (begins.behind, is, subst (λ (l : List (List ℕ)). AreRead l stored) (behind_is begins) read)
+
+  pub found_short : BeginsWith front (texts found) taken → All (λ bytes. length bytes.items < 256) (drop taken found) → All (λ bytes. length bytes.items < 256) found
+  found_short begins short = texts_short found (subst (All (λ name. length name < 256)) (sym begins.whole)
+      (All-append (λ (name : List ℕ). length name < 256) (preface_of front) begins.behind
+      (All-cons (λ (name : List ℕ). length name < 256) (title_of front.base front.condensed (length front.names)) front.names (omega arith) begins.is.short)
+      (subst (All (λ name. length name < 256)) (behind_is begins) (short_texts (drop taken found) short))))
+
+-- a record behind so many others
+pub none_behind : (found : List (Vec ℕ Global)) (taken number : ℕ) → IsNoEntry (texts (drop taken found)) number → IsNoEntry (texts found) (taken + number)
+none_behind found taken number none = of (texts found) (subst (λ (l : List (List ℕ)). IsNoEntry l number) (sym (drop-map (λ (e : Vec ℕ Global). e.items) taken found)) none)
+  where
+    of : (records : List (List ℕ)) → IsNoEntry (drop taken records) number → IsNoEntry records (taken + number)
+    of records known = record {
+      inside = omega (arith, known.inside, length-drop taken records);
+      none = λ stored ranged is. known.none stored ranged (get_or-drop taken records number [] ∙ is);
+    }

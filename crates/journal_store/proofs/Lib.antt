@@ -1,0 +1,9 @@
+mod FaithfulLemmas
+mod FoundLemmas
+mod KeptLemmas
+mod PrefaceLemmas
+mod ReadLemmas
+mod RecordLemmas
+mod RestoreLemmas
+mod TitleLemmas
+mod Walks

@@ -1,0 +1,30 @@
+use Rattle.std.proofs.Common.{rules, ◌++◌, refl, subst, inl}
+use Rattle.desk_core.specs.Left.{HasLeft}
+use Rattle.journal_store.proofs.KeptLemmas.{IsStored, of_failed, of_both}
+use Rattle.journal_store.proofs.journal_store.JournalStoreKeep.store.Goals as goal
+
+pub returns-in_default-clause-crash : goal.returns-in_default-clause-crash
+returns-in_default-clause-crash g c = λ journal is.
+    let old = c.args.self.now.kept in
+    let new = c.reopen.new.self.kept in
+    subst (λ j. HasLeft old.left new.left j (j ++ c.args.entries.now)) is (of_both old new new c.args.entries.now c.in_ok-reopen.ensures.ok (inl refl))
+
+pub returns-in_err-reopen-clause-crash : goal.returns-in_err-reopen-clause-crash
+returns-in_err-reopen-clause-crash g c = λ journal is.
+    let old = c.args.self.now.kept in
+    let new = c.reopen.new.self.kept in
+    subst (λ j. HasLeft old.left new.left j (j ++ c.args.entries.now)) is (of_failed old new c.args.entries.now c.in_err-reopen.ensures.err)
+
+pub returns-then-is_empty-clause-crash : goal.returns-then-is_empty-clause-crash
+returns-then-is_empty-clause-crash g c = λ journal is.
+    let old = c.args.self.now.kept in
+    let new = c.reopen.new.self.kept in
+    subst (λ j. HasLeft old.left new.left j (j ++ c.args.entries.now)) is (of_both old new new c.args.entries.now c.in_ok-reopen.ensures.ok (inl refl))
+
+pub returns-clause-crash : goal.returns-clause-crash
+returns-clause-crash g c = λ journal is.
+    let old = c.args.self.now.kept in
+    let mid = c.reopen.new.self.kept in
+    let new = c.append.new.self.kept in
+    let stored : IsStored mid c.args.entries.now new = search rules in
+    subst (λ j. HasLeft old.left new.left j (j ++ c.args.entries.now)) is (of_both old mid new c.args.entries.now c.in_ok-reopen.ensures.ok stored)

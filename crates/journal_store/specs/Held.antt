@@ -1,0 +1,11 @@
+-- What a store is to its callers.
+use Rattle.std.specs.Prelude.{ℕ, Bool, List}
+use Rattle.journal_store.specs.Kept.{Kept}
+use Rattle.journal_store.specs.Preface.{Front}
+
+-- what it keeps, whether its file is open, the blocks that were acknowledged, and the preface
+pub record Held : Type 0 where
+  pub kept : Kept
+  pub is_open : Bool
+  pub written : List ℕ
+  pub front : Front

@@ -1,0 +1,9 @@
+pub mod Faithful
+pub mod Fault
+pub mod Held
+pub mod Kept
+pub mod Preface
+pub mod Read
+pub mod Record
+pub mod Restored
+pub mod Steps

@@ -1,0 +1,240 @@
+use crate::anew::open_anew;
+use crate::medium::Medium;
+use crate::preface::Preface;
+use crate::reading::read_found;
+use crate::record_fault::RecordFault;
+use crate::records::batch_of;
+use crate::told::{Step, Told};
+use crate::witness::Witness;
+use desk_core::{Entry, Keep, NotStored};
+use entry_record::Stored;
+use record_log::{RecordLog, blocks_of};
+use std::alloc::Global;
+use std::marker::Model;
+
+/// A journal in a file, as records of its entries behind a preface. It keeps the blocks that were acknowledged, and opens a file that failed anew before
+/// the next change.
+#[derive(Drop)]
+pub struct JournalStore<M: Medium, W: Witness> {
+    alloc: Global,
+    medium: M,
+    witness: W,
+    preface: Preface,
+    log: Option<RecordLog<M::Device>>,
+    is_open: bool,
+    written: Vec<u8>,
+    told: Told,
+}
+
+impl<M: Medium, W: Witness> Model for JournalStore<M, W> {
+    ghost use Rattle.journal_store.specs.Held.{Held};
+    ghost use Rattle.journal_store.specs.Faithful.{IsFaithful};
+
+    ghost Value = { Held };
+
+    ghost view = { λ store. record {
+      kept = store.told.kept;
+      is_open = store.is_open;
+      written = store.written.items;
+      front = store.preface;
+    } };
+
+    ghost invariant = { λ store. IsFaithful store.preface
+        M.Device.contents M.Device.may_leave M.Device.moment M.Device.left_since
+        store.log store.is_open store.written.items store.told.kept };
+}
+
+impl<M: Medium, W: Witness> JournalStore<M, W> {
+    ghost use Rattle.std.specs.Prelude.{◌≡◌, ◌⊎◌, ◌<◌, ◌∷◌, [], ℕ, true, List, All, length, IfOk, IfSome, IsSome, IsErrOf, OnOk, OnErr};
+    ghost use Rattle.record_log.specs.Log.{IsReady, blocks, texts};
+    ghost use Rattle.desk_core.specs.Left.{Holds};
+    ghost use Rattle.journal_store.specs.Faithful.{HasLeftSince, LeavesOneOf};
+    ghost use Rattle.journal_store.specs.Kept.{asked, begun_at, opened_at, settled};
+    ghost use Rattle.journal_store.specs.Preface.{HasNoTitle, IsCutShort, new_of};
+    ghost use Rattle.journal_store.specs.Read.{AreFound, IsNoEntry};
+    ghost use Rattle.journal_store.specs.Record.{AreAdded, AreOf, restored_of};
+    ghost use Rattle.journal_store.specs.declared.preface_fault.PrefaceFault.TheVariants as prefaces;
+    ghost use Rattle.journal_store.specs.declared.record_fault.RecordFault.TheVariants.{NotAnEntry, Preface as NotAPreface};
+
+    /// A store over a log that was opened, and the entries that were found in it. Where nothing was, it begins with a new preface of the
+    /// names of the one that is given, which is written with the first entries.
+    pub fn over(
+        alloc: Global,
+        medium: M,
+        witness: W,
+        log: RecordLog<M::Device>,
+        found: &[Vec<u8>],
+        preface: Preface,
+    ) -> Result<(Self, Vec<Stored>), RecordFault>
+        requires ready { IsReady M.Device.contents M.Device.may_leave log (texts found.now) }
+        ensures read { IfOk result (λ made.
+            AreFound made.0.front (texts found.now) made.1.items) }
+        ensures new { found.now ≡ [] → IfOk result (λ made.
+            made.0.front ≡ new_of preface.names) }
+        ensures kept { IfOk result (λ made. made.0.kept
+            ≡ begun_at (M.Device.moment log.device) (restored_of made.1.items)) }
+        ensures open { IfOk result (λ made. made.0.is_open ≡ true) }
+        ensures holds { IfOk result (λ made.
+            Holds made.0.kept.left (restored_of made.1.items)) }
+        ensures fault { (n : ℕ) → IsErrOf result (NotAnEntry n)
+            → IsNoEntry (texts found.now) n }
+        ensures none { IsErrOf result (NotAPreface prefaces.NoPreface)
+            → HasNoTitle (texts found.now) }
+        ensures cut_short { IsErrOf result (NotAPreface prefaces.CutShort)
+            → IsCutShort (texts found.now) }
+    {
+        let (preface, stored) = read_found(alloc, found, preface)?;
+        let mut written = blocks_of(alloc, found)?;
+        written.truncate(written.len() - 1);
+        let told = Told::new().and(&Step::Begun(&stored)).opened(&log.device);
+        let store = JournalStore {
+            alloc,
+            medium,
+            witness,
+            preface,
+            log: Some(log),
+            is_open: true,
+            written,
+            told,
+        };
+        Ok((store, stored))
+    }
+
+    /// What is in front of the entries of the file, or will be with the first of them.
+    pub fn preface(&self) -> &Preface
+        ensures { result.now ≡ self.now.front }
+    {
+        &self.preface
+    }
+
+    /// The device that the file is on, if there is one.
+    pub fn device(&self) -> Option<&M::Device>
+        ensures open { self.now.is_open ≡ true → IsSome result }
+
+        // Whatever a crash leaves of it now has one of these journals.
+        ensures now { IfSome result (λ device.
+            LeavesOneOf self.now.front (M.Device.may_leave device.now)
+            self.now.kept.left.now) }
+
+        // And whatever one left of it since it was opened.
+        ensures since { IfSome result (λ device.
+            HasLeftSince self.now.front M.Device.moment M.Device.left_since
+            device.now self.now.kept) }
+    {
+        match &self.log {
+            Some(log) => Some(&log.device),
+            None => None,
+        }
+    }
+
+    /// The blocks that were acknowledged.
+    pub fn written(&self) -> &[u8]
+        ensures written { result.now ≡ self.now.written }
+        ensures entries { (records : List (List ℕ)) × (result.now ≡ blocks records)
+            × AreOf self.now.front records self.now.kept.journal }
+    {
+        &self.written
+    }
+
+    /// Opens the file anew, if it is not open. The device that failed is dropped before, so that its lock is free.
+    fn reopen(&mut self) -> Result<(), NotStored>
+        ensures open { OnOk result (self.new.is_open ≡ true) }
+        ensures durable { OnOk result
+            (self.new.kept.left.now ≡ self.new.kept.journal ∷ []) }
+        ensures ok { OnOk result ((self.new.kept ≡ self.old.kept) ⊎ ((moment : ℕ)
+            × (self.new.kept ≡ opened_at (settled (asked self.old.kept []) []) moment))) }
+        ensures err { OnErr result (self.new.kept ≡ asked self.old.kept []) }
+        ensures same { self.old.is_open ≡ true → self.new.kept ≡ self.old.kept }
+    {
+        if self.is_open {
+            return Ok(());
+        }
+        self.told = self.told.and(&Step::Asked(&[]));
+        self.log = None;
+        let log = open_anew(self.alloc, &mut self.medium, &self.written)?;
+        self.told = self.told.and(&Step::Settled(&[])).opened(&log.device);
+        self.log = Some(log);
+        self.is_open = true;
+        Ok(())
+    }
+
+    /// Puts these records of entries into the file.
+    fn append(&mut self, entries: &[Entry], batch: &[Vec<u8>]) -> Result<(), NotStored>
+        requires open { self.old.is_open ≡ true }
+        requires some { 0 < length batch.now }
+        requires short { All (λ bytes. length bytes.items < 256) batch.now }
+        requires of { AreAdded self.old.front self.old.written (texts batch.now) entries.now }
+        ensures ok { OnOk result
+            (self.new.kept ≡ settled (asked self.old.kept entries.now) entries.now) }
+        ensures err { OnErr result ((self.new.kept ≡ self.old.kept)
+            ⊎ (self.new.kept ≡ asked self.old.kept entries.now)) }
+    {
+        let Ok(text) = blocks_of(self.alloc, batch) else {
+            return Err(NotStored);
+        };
+        let before = self.written.len();
+        let Ok(()) = self.written.extend_from_slice(&text[..text.len() - 1]) else {
+            return Err(NotStored);
+        };
+        let Some(mut log) = self.log.take() else {
+            self.written.truncate(before);
+            return Err(NotStored);
+        };
+        self.told = self.told.and(&Step::Asked(entries));
+        let stored = log.append(self.alloc, batch);
+        self.log = Some(log);
+        if stored.is_err() {
+            self.is_open = false;
+            self.written.truncate(before);
+            return Err(NotStored);
+        }
+        self.told = self.told.and(&Step::Settled(entries));
+        Ok(())
+    }
+}
+
+impl<M: Medium, W: Witness> Keep for JournalStore<M, W> {
+    ghost use Rattle.std.specs.Prelude.{◌≡◌, ◌++◌, List, true, Some, OnOk, OnErr};
+    ghost use Rattle.desk_core.specs.declared.entry.Entry.{Entry as JournalEntry};
+    ghost use Rattle.desk_core.specs.Left.{HasLeft, LeavesJournal};
+
+    ghost kept = { Some 65536 };
+
+    ghost stands = { λ store journal. store.kept.journal ≡ journal };
+
+    ghost left = { λ store. store.kept.left };
+
+    fn kept() -> Option<u32> {
+        Some(65_536)
+    }
+
+    fn store(&mut self, entries: &[Entry]) -> Result<(), NotStored>
+        ensures stored { (journal : List JournalEntry) → self.old.kept.journal ≡ journal
+            → OnOk result (self.new.kept.journal ≡ journal ++ entries.now) }
+        ensures durable { (journal : List JournalEntry) → self.old.kept.journal ≡ journal
+            → OnOk result (LeavesJournal self.new.kept.left (journal ++ entries.now)) }
+        ensures refused { (journal : List JournalEntry) → self.old.kept.journal ≡ journal
+            → OnErr result (self.new.kept.journal ≡ journal) }
+        ensures crash { (journal : List JournalEntry) → self.old.kept.journal ≡ journal
+            → HasLeft self.old.kept.left self.new.kept.left journal (journal ++ entries.now) }
+
+        // The device of a file that is open stays the same.
+        ensures opened { self.old.is_open ≡ true
+            → self.new.kept.opened ≡ self.old.kept.opened }
+    {
+        self.reopen()?;
+        if entries.is_empty() {
+            return Ok(());
+        }
+        let Ok(batch) = batch_of(
+            self.alloc,
+            &self.witness,
+            &self.preface,
+            &self.written,
+            entries,
+        ) else {
+            return Err(NotStored);
+        };
+        self.append(entries, &batch)
+    }
+}

@@ -1,0 +1,33 @@
+//! A store that keeps the journal of a desk in a file, and the desk that a file's entries make.
+#![tactic(auto)]
+
+mod anew;
+mod file_medium;
+mod journal_store;
+mod laws;
+mod medium;
+mod preface;
+mod preface_fault;
+mod reading;
+mod record_fault;
+mod records;
+mod restore_fault;
+mod restoring;
+mod title;
+mod told;
+mod witness;
+
+pub use crate::file_medium::{FileMedium, FileStore};
+pub use crate::journal_store::JournalStore;
+pub use crate::laws::one_preface;
+pub use crate::medium::Medium;
+pub use crate::preface::{Preface, read_preface};
+pub use crate::preface_fault::PrefaceFault;
+pub use crate::reading::read_records;
+pub use crate::record_fault::RecordFault;
+pub use crate::restore_fault::RestoreFault;
+pub use crate::restoring::restore;
+pub use crate::witness::Witness;
+
+#[cfg(test)]
+mod tests;

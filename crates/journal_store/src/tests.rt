@@ -1,0 +1,6 @@
+mod bound;
+mod crashes;
+mod files;
+mod histories;
+mod prefaces;
+mod restarts;

@@ -1,0 +1,187 @@
+//! Histories with no order, and a registry of manual services that answers as the definitions say.
+
+ghost use Rattle.std.specs.Prelude.{◌≤◌, length};
+
+use crate::{Medium, Preface, Witness};
+use chronicle::Who;
+use desk_core::{Call, Catalogue, Entry, Finding, Reply, Setting, Slot};
+use probe_core::{Maker, Manual, Rule};
+use record_log::{DeviceError, Memory};
+use std::alloc::{AllocError, Global};
+use std::test::Fail;
+
+/// Numbers with no order, by Marsaglia's xorshift (2003).
+#[derive(Drop)]
+pub(crate) struct Random(pub u64);
+
+impl Random {
+    pub(crate) fn next(&mut self) -> u64 {
+        self.0 ^= self.0 << 13;
+        self.0 ^= self.0 >> 7;
+        self.0 ^= self.0 << 17;
+        self.0
+    }
+
+    /// A call of one of two slots.
+    pub(crate) fn call(&mut self) -> Result<Call, Fail> {
+        let slot = Slot::new((self.next() % 2) as u8).ok_or("no slot")?;
+        Ok(match self.next() % 8 {
+            0 | 1 => Call::Register(slot, Rule::Manual),
+            2 => Call::Retire(slot),
+            3 => Call::Observe(slot, Finding::Fail),
+            4 => Call::Set(slot, Setting::Up),
+            5 => Call::Set(slot, Setting::Down),
+            6 => Call::Shutdown,
+            _ => Call::Resume,
+        })
+    }
+}
+
+impl Random {
+    /// The bytes up to this place, and others after it.
+    pub(crate) fn garbled(
+        &mut self,
+        alloc: Global,
+        text: &[u8],
+        cut: usize,
+    ) -> Result<Vec<u8>, AllocError>
+        requires { cut ≤ length text.now }
+    {
+        let (front, back) = text.split_at(cut);
+        let mut torn = front.to_vec(alloc)?;
+        for _ in back {
+            torn.push((self.next() % 256) as u8)?;
+        }
+        Ok(torn)
+    }
+}
+
+/// Which of two slots are registered, and whether the server is shut down.
+#[derive(Clone, Copy)]
+pub(crate) struct Registry {
+    first: bool,
+    second: bool,
+    is_shut: bool,
+}
+
+impl Registry {
+    pub(crate) const EMPTY: Registry = Registry {
+        first: false,
+        second: false,
+        is_shut: false,
+    };
+
+    fn has(self, slot: Slot) -> bool {
+        if slot.number() == 0 {
+            self.first
+        } else {
+            self.second
+        }
+    }
+
+    fn put(&mut self, slot: Slot, is_there: bool) {
+        if slot.number() == 0 {
+            self.first = is_there;
+        } else {
+            self.second = is_there;
+        }
+    }
+
+    /// The reply to a call, which is made.
+    pub(crate) fn make(&mut self, call: &Call) -> Reply {
+        match *call {
+            Call::Register(slot, _) => {
+                let had = self.has(slot);
+                self.put(slot, true);
+                if had { Reply::Replaced } else { Reply::Done }
+            }
+            Call::Retire(slot) => {
+                let had = self.has(slot);
+                self.put(slot, false);
+                if had { Reply::Done } else { Reply::Missing }
+            }
+            Call::Observe(slot, _) => {
+                if self.has(slot) {
+                    Reply::WrongKind
+                } else {
+                    Reply::Missing
+                }
+            }
+            Call::Set(slot, _) => match (self.has(slot), self.is_shut) {
+                (false, _) => Reply::Missing,
+                (true, true) => Reply::Ignored,
+                (true, false) => Reply::Done,
+            },
+            Call::Shutdown => {
+                self.is_shut = true;
+                Reply::Done
+            }
+            Call::Resume => {
+                self.is_shut = false;
+                Reply::Done
+            }
+        }
+    }
+}
+
+/// So many entries of this seat, one after the other.
+pub(crate) fn history(
+    alloc: Global,
+    random: &mut Random,
+    seat: u16,
+    count: usize,
+) -> Result<Vec<Entry>, Fail> {
+    let mut registry = Registry::EMPTY;
+    let mut entries = Vec::new(alloc);
+    for _ in 0..count {
+        let call = random.call()?;
+        let reply = registry.make(&call);
+        entries.push(Entry { seat, call, reply })?;
+    }
+    Ok(entries)
+}
+
+/// At each seat is the session of its number, at the same time.
+#[derive(Drop)]
+pub(crate) struct Sessions;
+
+impl Witness for Sessions {
+    fn witness(&self, seat: u16) -> (u64, Who) {
+        (1_764_000_000_000_000, Who::Session(u32::from(seat)))
+    }
+}
+
+/// A preface of the empty name and `a`.
+pub(crate) fn preface(alloc: Global) -> Result<Preface, Fail> {
+    let mut names = Vec::with_capacity(alloc, 2)?;
+    names.push(String::new(alloc))?;
+    names.push(String::from_str(alloc, "a")?)?;
+    Ok(Preface::new(alloc, &Catalogue::new(alloc, names)?)?)
+}
+
+/// A file, which each device that is opened anew has.
+#[derive(Drop)]
+pub(crate) struct Spare {
+    pub alloc: Global,
+    pub file: Vec<u8>,
+}
+
+impl Medium for Spare {
+    type Device = Memory;
+
+    fn reopen(&mut self) -> Result<Memory, DeviceError> {
+        Ok(Memory::new(self.alloc, self.file.as_slice().to_vec(self.alloc)?)?)
+    }
+}
+
+/// Makes manual probes.
+pub(crate) struct Manuals;
+
+impl Maker<Manual> for Manuals {
+    fn make(&self, rule: Rule) -> Result<Manual, AllocError> {
+        match rule {
+            Rule::Manual => Ok(Manual::new()),
+            Rule::Threshold(..) | Rule::Depends(_) => Err(AllocError),
+        }
+    }
+}
