@@ -1,0 +1,7 @@
+pub mod ProbeLemmas
+pub mod AlikeLemmas
+pub mod DigestLemmas
+pub mod MemoryLemmas
+pub mod ShortLemmas
+pub mod FinishLemmas
+pub mod FewestLemmas

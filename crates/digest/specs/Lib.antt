@@ -1,0 +1,4 @@
+pub mod Alike
+pub mod Digest
+pub mod Next
+pub mod Short
