@@ -12,7 +12,8 @@ impl Finding {
     ghost use Rattle.std.specs.Prelude.{◌≡◌};
     ghost use Rattle.desk_core.specs.Heard.{event_of_finding};
 
-    pub(crate) fn event(self) -> Event
+    /// What a probe hears of it.
+    pub fn event(self) -> Event
         ensures { result ≡ event_of_finding self }
     {
         match self {
@@ -33,7 +34,8 @@ impl Setting {
     ghost use Rattle.std.specs.Prelude.{◌≡◌};
     ghost use Rattle.desk_core.specs.Heard.{event_of_setting};
 
-    pub(crate) fn event(self) -> Event
+    /// What a probe hears of it.
+    pub fn event(self) -> Event
         ensures { result ≡ event_of_setting self }
     {
         match self {

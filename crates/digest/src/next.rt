@@ -1,13 +1,12 @@
 //! What one change makes of the probes.
 
 ghost use Rattle.std.specs.Prelude.{◌≡◌, ℕ, None, length, slice_index_or, unwrap_or};
-ghost use Rattle.desk_core.specs.Heard.{event_of_finding, event_of_setting};
 ghost use Rattle.desk_core.specs.Shut.{says_shut};
 ghost use Rattle.desk_core.specs.Slots.{noted, was_reset};
 ghost use Rattle.digest.specs.Next.{probe_next};
 
 use crate::known::Known;
-use desk_core::{Call, Finding, Setting};
+use desk_core::Call;
 use probe_core::Event;
 
 /// What a change makes of the probes of all slots.
@@ -21,18 +20,12 @@ pub(crate) fn note_call(slots: &mut [Option<Known>], is_shut: bool, call: &Call)
         Call::Retire(slot) => slots[usize::from(slot.number())] = None,
         Call::Observe(slot, finding) => {
             if !is_shut {
-                hear(
-                    &mut slots[usize::from(slot.number())],
-                    event_of_finding(finding),
-                );
+                hear(&mut slots[usize::from(slot.number())], finding.event());
             }
         }
         Call::Set(slot, setting) => {
             if !is_shut {
-                hear(
-                    &mut slots[usize::from(slot.number())],
-                    event_of_setting(setting),
-                );
+                hear(&mut slots[usize::from(slot.number())], setting.event());
             }
         }
         Call::Shutdown => {}
@@ -74,23 +67,5 @@ pub(crate) fn shut_after(is_shut: bool, call: &Call) -> bool
         Call::Shutdown => true,
         Call::Resume => false,
         Call::Register(..) | Call::Retire(_) | Call::Observe(..) | Call::Set(..) => is_shut,
-    }
-}
-
-fn event_of_finding(finding: Finding) -> Event
-    ensures { result ≡ event_of_finding finding }
-{
-    match finding {
-        Finding::Pass => Event::Pass,
-        Finding::Fail => Event::Fail,
-    }
-}
-
-fn event_of_setting(setting: Setting) -> Event
-    ensures { result ≡ event_of_setting setting }
-{
-    match setting {
-        Setting::Up => Event::Up,
-        Setting::Down => Event::Down,
     }
 }

@@ -31,8 +31,9 @@ abbrev pub LogHasLeft : {D : Type 0} → Front → (D → ℕ) → (D → ℕ �
 LogHasLeft front moment left_since None kept = Unit {0}
 LogHasLeft front moment left_since (Some log) kept = HasLeftSince front moment left_since log.device kept
 
--- These blocks are of the records of the journal, behind the preface's. A log that is open is ready behind them, and a crash leaves the journal and no other. One
--- that failed leaves one of the journals that a crash may leave. The same holds of each moment since the device was opened
+-- These blocks are of the records of the journal, behind the preface's. A log that is open is ready behind them, and a crash leaves the
+-- journal and no other. One that failed leaves one of the journals that a crash may leave. The same holds of each moment since the device
+-- was opened
 pub record IsFaithful {D : Type 0} (front : Front) (contents : D → List ℕ) (may_leave : D → List ℕ → Type 0) (moment : D → ℕ) (left_since : D → ℕ → List ℕ → Type 0) (log : Option (RecordLog D)) (is_open : Bool) (written : List ℕ) (kept : Kept) : Type 0 where
   pub records : List (List ℕ)
   pub whole : written ≡ blocks records

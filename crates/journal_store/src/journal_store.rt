@@ -12,8 +12,8 @@ use record_log::{RecordLog, blocks_of};
 use std::alloc::Global;
 use std::marker::Model;
 
-/// A journal in a file, as records of its entries behind a preface. It keeps the blocks that were acknowledged, and opens a file that failed anew before
-/// the next change.
+/// A journal in a file, as records of its entries behind a preface. It keeps the blocks that were acknowledged, and opens a file that
+/// failed anew before the next change.
 #[derive(Drop)]
 pub struct JournalStore<M: Medium, W: Witness> {
     alloc: Global,
