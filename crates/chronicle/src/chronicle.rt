@@ -5,6 +5,7 @@ use crate::newest::{Newest, NewestRecords};
 use crate::record::Record;
 use crate::refused::Refused;
 use crate::ring::Ring;
+use crate::sitting::Sitting;
 use crate::time::{TimeText, time_text};
 use crate::who::Who;
 use std::alloc::{AllocError, Global};
@@ -15,6 +16,9 @@ const KEPT_ENTRIES: u32 = 65_536;
 
 /// How many refusals are kept.
 const KEPT_REFUSALS: u32 = 1_024;
+
+/// How many seats there can be.
+const SEATS: u16 = 1_024;
 
 const SETUP: u32 = 0;
 
@@ -46,6 +50,8 @@ pub struct Chronicle {
     refused: AtomicU64,
     /// The number of the newest session.
     sessions: AtomicU32,
+    /// Who sits at each seat.
+    sitting: Vec<Sitting>,
 }
 
 /// The record of an entry.
@@ -77,6 +83,15 @@ fn who_in(kept: Record) -> Option<Who>
     }
 }
 
+/// Nobody at each seat.
+fn sittings(alloc: Global) -> Result<Vec<Sitting>, AllocError> {
+    let mut sittings = Vec::with_capacity(alloc, usize::from(SEATS))?;
+    for _ in 0..SEATS {
+        sittings.push(Sitting::new())?;
+    }
+    Ok(sittings)
+}
+
 impl Chronicle {
     /// Room for what is known of the newest 65,536 entries and of the newest 1,024 refusals. It takes all memory that it needs.
     pub fn new(alloc: Global) -> Result<Chronicle, AllocError> {
@@ -86,6 +101,7 @@ impl Chronicle {
             refusals: Ring::new(alloc, KEPT_REFUSALS)?,
             refused: AtomicU64::new(0),
             sessions: AtomicU32::new(0),
+            sitting: sittings(alloc)?,
         })
     }
 
@@ -135,6 +151,19 @@ impl Chronicle {
             Ok(number) => number.saturating_add(1),
             Err(_) => u32::MAX,
         }
+    }
+
+    /// Takes down who makes the entries of this seat from now on, and at this time. Only the thread that uses the seat does.
+    pub fn sit(&self, seat: u16, micros: u64, who: Who) {
+        if let Some(sitting) = self.sitting.get(usize::from(seat)) {
+            sitting.put(record_of(micros, who));
+        }
+    }
+
+    /// When the next entry of this seat is made, and by whom, if that was taken down.
+    pub fn sitting(&self, seat: u16) -> Option<(u64, Who)> {
+        let record = self.sitting.get(usize::from(seat))?.record();
+        Some((record.micros, who_in(record)?))
     }
 
     /// Takes down that a change was refused, at this time, to whoever asked for it, and for this reason, which the caller numbers.

@@ -24,6 +24,7 @@ mod newest;
 mod record;
 mod refused;
 mod ring;
+mod sitting;
 mod slot;
 mod time;
 mod who;

@@ -27,6 +27,15 @@ pub struct Overview<'a> {
     pub stops: &'a AtomicU64,
 }
 
+impl Overview<'_> {
+    /// Takes down that the session makes the entries of this seat from now on.
+    pub(crate) fn sit(&self, seat: u16) {
+        let who = Who::Session(self.session);
+        let chronicle = self.expectations.chronicle();
+        chronicle.sit(seat, self.micros, who);
+    }
+}
+
 /// Contracts see nothing of what it is told: its loops share that.
 impl<'a> Server for Overview<'a> {
     ghost use Rattle.std.specs.Prelude.{◌≡◌};

@@ -103,6 +103,7 @@ fn turn_by<R: Wait, P: Probe, K: Keep, M: Maker<P>>(
         seat.old seat.new
         (session_of connection.old) (session_of connection.new) moved }
 {
+    overview.sit(seat.number());
     let mut door = HallDoor::new(context.rt, context.hall, seat);
     turn_over(
         alloc,

@@ -4,7 +4,7 @@ use crate::expectations::Expectations;
 use crate::found::{Found, find, is_any_awake};
 use crate::guard::Guard;
 use crate::steps::{go_on_all, look_all, take_wishes, tell_periods};
-use chronicle::wall_micros;
+use chronicle::{Who, wall_micros};
 use desk_core::{Entry, Keep, Slot};
 use hall::{Hall, Seat};
 use probe_core::Probe;
@@ -116,6 +116,8 @@ impl Watchdog {
         go_on_all(seat.number(), guards, found, entries, at);
         tell_periods(guards, expectations);
         let micros = wall_micros(clock);
+        let chronicle = expectations.chronicle();
+        chronicle.sit(seat.number(), micros, Who::Expiry);
         let shows = look_all(rt, hall, seat, guards, expectations, at, micros);
         Ok(Round { at, shows })
     }

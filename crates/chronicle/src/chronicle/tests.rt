@@ -43,6 +43,28 @@ fn tells_when_entries_were_made_and_who_asked(rt: HostRuntime) -> Result<(), Fai
 }
 
 #[test]
+fn tells_who_sits_at_a_seat(rt: HostRuntime) -> Result<(), Fail> {
+    let chronicle = Chronicle::new(rt.alloc())?;
+    same(&chronicle.sitting(7), &None, &"nobody")?;
+    let sitting = [
+        (0, 1, Who::Expiry),
+        (1, 0, Who::Setup),
+        (7, u64::MAX, Who::Session(3)),
+        (1_023, 2, Who::Session(u32::MAX)),
+        (7, 3, Who::Session(4)),
+    ];
+    for (seat, micros, who) in sitting {
+        chronicle.sit(seat, micros, who);
+        same(&chronicle.sitting(seat), &Some((micros, who)), &seat)?;
+    }
+    same(&chronicle.sitting(0), &Some((1, Who::Expiry)), &0)?;
+    same(&chronicle.sitting(8), &None, &8)?;
+    // There is no such seat.
+    chronicle.sit(1_024, 1, Who::Expiry);
+    same(&chronicle.sitting(1_024), &None, &1_024)
+}
+
+#[test]
 fn a_note_gives_way_to_that_of_an_entry_65536_later(rt: HostRuntime) -> Result<(), Fail> {
     let chronicle = Chronicle::new(rt.alloc())?;
     chronicle.note(9, 1, Who::Setup);
