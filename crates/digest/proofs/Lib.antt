@@ -5,3 +5,4 @@ pub mod MemoryLemmas
 pub mod ShortLemmas
 pub mod FinishLemmas
 pub mod FewestLemmas
+pub mod ReplyLemmas

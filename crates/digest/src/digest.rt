@@ -1,4 +1,5 @@
 use crate::known::Known;
+use crate::lawful::{is_lawful_call, reply_to};
 use crate::next::{note_call, shut_after};
 use crate::short::{push, push_known};
 use desk_core::{Call, Entry, Slot};
@@ -30,7 +31,7 @@ impl Model for Digest {
 }
 
 impl Digest {
-    ghost use Rattle.std.specs.Prelude.{◌≡◌, ◌+◌, ◌*◌, ◌^◌, ◌<◌, ◌≤◌, ◌∷◌, [], List, length, All, IfOk};
+    ghost use Rattle.std.specs.Prelude.{◌≡◌, ◌↔◌, ◌+◌, ◌*◌, ◌^◌, ◌<◌, ◌≤◌, ◌∷◌, [], List, true, false, length, All, IfOk};
     ghost use Rattle.std.specs.Vec.{vec_len};
     ghost use Rattle.desk_core.specs.declared.entry.Entry.{Entry};
     ghost use Rattle.desk_core.specs.Legal.{IsLegal};
@@ -71,6 +72,30 @@ impl Digest {
         note_call(&mut self.slots, self.is_shut, &entry.call);
         self.is_shut = shut_after(self.is_shut, &entry.call);
         self.count = self.count.saturating_add(1);
+    }
+
+    /// Takes one more entry in, if it is legal behind those before it. Says whether it is.
+    pub fn take_in(&mut self, entry: &Entry) -> bool
+        ensures taken { (history : List Entry) → IsDigest self.old history → result ≡ true
+            → length history + 1 < 2 ^ 64 → IsDigest self.new (entry.now ∷ history) }
+        ensures refused { (history : List Entry) → IsDigest self.old history → result ≡ false
+            → IsLegal (entry.now ∷ history) → ⊥ }
+        ensures same { result ≡ false → self.new ≡ self.old }
+    {
+        if !self.allows(entry) {
+            return false;
+        }
+        self.note(entry);
+        true
+    }
+
+    /// Whether an entry is legal behind those that were taken in.
+    fn allows(&self, entry: &Entry) -> bool
+        ensures { (history : List Entry) → IsDigest self.now history
+            → (result ≡ true) ↔ IsLegal (entry.now ∷ history) }
+    {
+        is_lawful_call(&entry.call)
+            && entry.reply == reply_to(&self.slots, self.is_shut, &entry.call)
     }
 
     /// How many entries were taken in.

@@ -26,6 +26,7 @@
 
 mod digest;
 mod known;
+mod lawful;
 mod laws;
 mod next;
 mod short;

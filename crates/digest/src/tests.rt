@@ -322,3 +322,45 @@ fn out_of_memory_is_an_error(rt: HostRuntime) -> Result<(), Fail> {
     same(&refused, &true, &"no memory")?;
     same(&digest.entries(alloc)?.len(), &1_000, &"memory")
 }
+
+/// An entry has the reply that the history before it gives, and its rule may be registered there.
+#[test]
+fn only_a_legal_entry_is_taken_in(rt: HostRuntime) -> Result<(), Fail> {
+    let slot = Slot::new(1).ok_or("no slot")?;
+    let mut digest = failed(1)?;
+    for (call, reply, expected) in [
+        (Call::Observe(slot, Finding::Pass), Reply::Done, true),
+        (Call::Observe(slot, Finding::Pass), Reply::Ignored, false),
+        (Call::Set(slot, Setting::Up), Reply::WrongKind, true),
+        (Call::Set(slot, Setting::Up), Reply::Done, false),
+        (
+            Call::Register(slot, Rule::Depends(2)),
+            Reply::Replaced,
+            false,
+        ),
+        (Call::Register(slot, Rule::Depends(1)), Reply::Done, false),
+        (
+            Call::Register(slot, Rule::Depends(1)),
+            Reply::Replaced,
+            true,
+        ),
+        (Call::Shutdown, Reply::Done, true),
+        (Call::Retire(slot), Reply::Missing, false),
+        (Call::Retire(slot), Reply::Done, true),
+        (Call::Retire(slot), Reply::Missing, true),
+    ] {
+        let before = digest.len();
+        let taken = digest.take_in(&Entry {
+            seat: 3,
+            call,
+            reply,
+        });
+        same(&taken, &expected, &(call, reply))?;
+        same(
+            &digest.len(),
+            &before.saturating_add(u64::from(expected)),
+            &call,
+        )?;
+    }
+    Ok(())
+}

@@ -1,13 +1,13 @@
 -- What is said of records that stand behind a preface.
-use Rattle.std.proofs.Common.{◌≡◌, ℕ, ◌+◌, ◌<◌, List, [], ◌∷◌, ◌++◌, length, drop, Vec, sym, ◌∙◌, ap, subst, arith}
+use Rattle.std.proofs.Common.{◌≡◌, ℕ, ◌+◌, ◌<◌, List, [], ◌∷◌, ◌++◌, length, take, drop, Vec, sym, ◌∙◌, ap, subst, arith}
 use Rattle.std.specs.Prelude.{All}
 use Rattle.std.specs.declared.alloc.Global.{Global}
-use Rattle.std.proofs.lemmas.List.{drop_at, drop-map, length-drop, get_or-drop}
-use Rattle.std.proofs.lemmas.List.Elements.{All-append, All-cons}
+use Rattle.std.proofs.lemmas.List.{drop_at, drop-drop, drop-map, length-drop, get_or-drop}
+use Rattle.std.proofs.lemmas.List.Elements.{All-append, All-cons, All-drop, All-take}
 use Rattle.record_log.specs.Log.{texts}
 use Rattle.entry_record.specs.declared.stored.Stored.{Stored}
 use Rattle.journal_store.specs.Preface.{Front, BeginsWith, preface_of, title_of}
-use Rattle.journal_store.specs.Read.{AreFound, AreRead, IsNoEntry}
+use Rattle.journal_store.specs.Read.{AreFound, AreRead, HasTooFew, IsNoEntry}
 use Rattle.journal_store.proofs.PrefaceLemmas.{short_texts, texts_short}
 
 module _ (front : Front) (found : List (Vec ℕ Global)) (taken : ℕ) where
@@ -38,3 +38,18 @@ none_behind found taken number none = of (texts found) (subst (λ (l : List (Lis
       inside = omega (arith, known.inside, length-drop taken records);
       none = λ stored ranged is. known.none stored ranged (get_or-drop taken records number [] ∙ is);
     }
+
+-- records in front of copies of those that stand behind so many
+pub copied_short : (found batch new : List (Vec ℕ Global)) (taken n k : ℕ) → All (λ bytes. length bytes.items < 256) batch → All (λ bytes. length bytes.items < 256) (drop taken found)
+    → texts new ≡ texts batch ++ texts (take k (drop (taken + n) found)) → All (λ bytes. length bytes.items < 256) new
+copied_short found batch new taken n k first behind whole =
+    let P : List ℕ → Type 0 = λ name. length name < 256 in
+    let Q : Vec ℕ Global → Type 0 = λ bytes. length bytes.items < 256 in
+    texts_short new (subst (All P) (sym whole) (All-append P (texts batch) (texts (take k (drop (taken + n) found))) (short_texts batch first)
+    (short_texts (take k (drop (taken + n) found)) (All-take Q k (drop (taken + n) found) (subst (All Q) (drop-drop n taken found) (All-drop Q n (drop taken found) behind))))))
+
+-- a preface that says that more of the entries stand for older ones than there are
+pub too_few : (front : Front) (found : List (Vec ℕ Global)) (taken : ℕ) (stored : List Stored) → BeginsWith front (texts found) taken → AreRead (texts (drop taken found)) stored → length stored < front.condensed
+    → HasTooFew (texts found)
+too_few front found taken stored begins read missing =
+    record { front = front; behind = begins.behind; stored = stored; whole = begins.whole; read = subst (λ (l : List (List ℕ)). AreRead l stored) (behind_is front found taken begins) read; missing = missing }

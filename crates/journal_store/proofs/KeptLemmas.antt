@@ -87,6 +87,11 @@ pub same_journal : (old new : Kept) → IsReopened old new → new.journal ≡ o
 same_journal old new (inl is) = ap (λ k. k.journal) is
 same_journal old new (inr (moment, is)) = ap (λ k. k.journal) is ∙ append-nil old.journal
 
+-- what a crash leaves stays while a file is written anew
+pub same_left : (old new : Kept) → (new ≡ old) ⊎ ((moment : ℕ) × (new ≡ opened_at old moment)) → new.left ≡ old.left
+same_left old new (inl is) = ap (λ k. k.left) is
+same_left old new (inr (moment, is)) = ap (λ k. k.left) is
+
 -- a file that was opened, and entries that were stored in it
 pub of_both : (old mid new : Kept) (entries : List Entry) → IsReopened old mid → IsStored mid entries new → HasLeft old.left new.left old.journal (old.journal ++ entries)
 of_both old mid new entries first second =

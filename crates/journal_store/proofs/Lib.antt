@@ -1,9 +1,14 @@
+mod AgainLemmas
+mod DigestedLemmas
 mod FaithfulLemmas
 mod FoundLemmas
+mod HoldLemmas
 mod KeptLemmas
 mod PrefaceLemmas
 mod ReadLemmas
 mod RecordLemmas
 mod RestoreLemmas
+mod SeatLemmas
+mod StandingLemmas
 mod TitleLemmas
 mod Walks

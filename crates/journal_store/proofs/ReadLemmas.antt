@@ -1,5 +1,5 @@
 -- What is said of records that were read.
-use Rattle.std.proofs.Common.{◌≡◌, ℕ, ◌+◌, ◌<◌, ◌≤◌, List, [], ◌∷◌, ◌++◌, length, get_or, take, Vec, refl, sym, ◌∙◌, ap, subst, arith, length-append}
+use Rattle.std.proofs.Common.{◌≡◌, ℕ, suc, ◌+◌, ◌<◌, ◌≤◌, List, [], ◌∷◌, ◌++◌, length, get_or, take, Vec, refl, sym, ◌∙◌, ap, subst, arith, length-append}
 use Rattle.std.specs.Prelude.{All}
 use Rattle.std.specs.declared.alloc.Global.{Global}
 use Rattle.std.specs.Int.{w16, w64, to_le_bytes}
@@ -77,6 +77,13 @@ module _ (found : List (Vec ℕ Global)) (i : ℕ) (at : Vec ℕ Global) (stored
 
   pub one_short : All (λ bytes. length bytes.items < 256) (take i found) → All (λ bytes. length bytes.items < 256) (take (i + 1) found)
   one_short so_far = All-more (λ (bytes : Vec ℕ Global). length bytes.items < 256) found i at inside so_far (subst (λ l. length l < 256) (sym item) (few one))
+
+-- as many were read as there are
+pub read_many : (records : List (List ℕ)) (stored : List Stored) → AreRead records stored → length records ≡ length stored
+read_many [] [] read = refl
+read_many [] (s ∷ stored) read = absurd read
+read_many (r ∷ records) [] read = absurd read
+read_many (r ∷ records) (s ∷ stored) read = ap suc (read_many records stored read.2)
 
 -- records that were read are of the entries that a restart makes of them
 pub are_records : (records : List (List ℕ)) (stored : List Stored) → AreRead records stored → AreRecords records (restored_of stored)

@@ -1,7 +1,7 @@
 -- What is said of the records of entries.
 use Rattle.std.proofs.Common.{◌≡◌, ℕ, ◌+◌, ◌<◌, List, [], ◌∷◌, ◌++◌, length, get_or, take, inl, inr, refl, sym, ◌∙◌, ap, subst, arith, append_assoc}
 use Rattle.std.proofs.lemmas.List.{take_more}
-use Rattle.record_log.specs.Log.{blocks}
+use Rattle.record_log.specs.Log.{StandsFor, blocks}
 use Rattle.record_log.proofs.LawLemmas.{one}
 use Rattle.desk_core.specs.declared.entry.Entry.{Entry}
 use Rattle.entry_record.specs.declared.stored.Stored.{Stored}
@@ -29,6 +29,10 @@ pub one_list : (these those : List (List ℕ)) → blocks these ≡ blocks those
 one_list these those same =
     one (blocks these ++ 0 ∷ []) these those (inl (record { gate = 0; rest = []; shut = omega arith; whole = ap (λ l. blocks these ++ l) (ap (λ (n : ℕ). n ∷ []) (omega arith)) }))
     (inl (record { gate = 0; rest = []; shut = omega arith; whole = ap (λ l. l ++ 0 ∷ []) same }))
+
+-- the records of a file that has these blocks and a closed gate
+pub the_records : (file : List ℕ) (records found : List (List ℕ)) → file ≡ blocks records ++ 0 ∷ [] → StandsFor file found → found ≡ records
+the_records file records found is stands = one file found records stands (inl (record { gate = 0; rest = []; shut = omega arith; whole = is }))
 
 -- what was found is of the entries that a restart makes of it
 pub are_of : (front : Front) (records : List (List ℕ)) (stored : List Stored) → AreFound front records stored → AreOf front records (restored_of stored)

@@ -24,16 +24,16 @@ module _ (most : ℕ) (old new : List Entry) (stored : Stored) where
   abbrev longer : List Entry
   longer = old ++ restored stored ∷ []
 
-  module _ (reply : Reply) (answered : IsAnswered most 65535 (past old) (past new) (Some call) (Ok reply)) where
-    taken : IsLawfulCall call × (reply ≡ reply_to (past old) call) × (past new ≡ entry_of 65535 call reply ∷ past old)
+  module _ (reply : Reply) (answered : IsAnswered most 0 (past old) (past new) (Some call) (Ok reply)) where
+    taken : IsLawfulCall call × (reply ≡ reply_to (past old) call) × (past new ≡ entry_of 0 call reply ∷ past old)
     taken = of answered
       where
-        of : IsAnswered most 65535 (past old) (past new) (Some call) (Ok reply) → IsLawfulCall call × (reply ≡ reply_to (past old) call) × (past new ≡ entry_of 65535 call reply ∷ past old)
+        of : IsAnswered most 0 (past old) (past new) (Some call) (Ok reply) → IsLawfulCall call × (reply ≡ reply_to (past old) call) × (past new ≡ entry_of 0 call reply ∷ past old)
         of (Taken _ _ lawful room is grown) = (lawful, is, grown)
 
     -- with the stored reply it is the stored entry
     pub made : reply ≡ stored.entry.reply → new ≡ longer
-    made same = sym (reverse-reverse new) ∙ ap (λ l. reverse l) (taken.2 ∙ ap (λ r. entry_of 65535 call r ∷ past old) same ∙ sym (past_more old (restored stored))) ∙ reverse-reverse longer
+    made same = sym (reverse-reverse new) ∙ ap (λ l. reverse l) (taken.2 ∙ ap (λ r. entry_of 0 call r ∷ past old) same ∙ sym (past_more old (restored stored))) ∙ reverse-reverse longer
 
     pub legal : reply ≡ stored.entry.reply → IsLegal (past old) → IsLegal (past longer)
     legal same before = subst IsLegal (sym (past_more old (restored stored))) (before, sym same ∙ taken.1, taken.0)
@@ -43,22 +43,22 @@ module _ (most : ℕ) (old new : List Entry) (stored : Stored) where
     another not is = let whole = subst IsLegal (past_more old (restored stored)) is in not (taken.1 ∙ sym whole.1)
 
   -- a rule that is not lawful
-  pub unlawful : (refusal : Refusal) → refusal ≡ refusals.BadRule → IsAnswered most 65535 (past old) (past new) (Some call) (Err refusal) → IsLegal (past longer) → ⊥
-  unlawful refusal is answered whole = of (subst (λ r. IsAnswered most 65535 (past old) (past new) (Some call) (Err r)) is answered) (subst IsLegal (past_more old (restored stored)) whole).2
+  pub unlawful : (refusal : Refusal) → refusal ≡ refusals.BadRule → IsAnswered most 0 (past old) (past new) (Some call) (Err refusal) → IsLegal (past longer) → ⊥
+  unlawful refusal is answered whole = of (subst (λ r. IsAnswered most 0 (past old) (past new) (Some call) (Err r)) is answered) (subst IsLegal (past_more old (restored stored)) whole).2
     where
-      of : IsAnswered most 65535 (past old) (past new) (Some call) (Err refusals.BadRule) → IsLawfulCall call → ⊥
+      of : IsAnswered most 0 (past old) (past new) (Some call) (Err refusals.BadRule) → IsLawfulCall call → ⊥
       of (BadRule _ not stays) lawful = not lawful
 
   -- where there is room and no store, there is no other refusal than for want of memory
-  pub impossible : (refusal : Refusal) → length old < most → (refusal ≡ refusals.NotStored → ⊥) → IsAnswered most 65535 (past old) (past new) (Some call) (Err refusal)
+  pub impossible : (refusal : Refusal) → length old < most → (refusal ≡ refusals.NotStored → ⊥) → IsAnswered most 0 (past old) (past new) (Some call) (Err refusal)
       → (refusal ≡ refusals.Full) ⊎ (refusal ≡ refusals.NotListed) ⊎ (refusal ≡ refusals.NotStored) → ⊥
-  impossible refusal room stored answered (inl is) = of (subst (λ r. IsAnswered most 65535 (past old) (past new) (Some call) (Err r)) is answered)
+  impossible refusal room stored answered (inl is) = of (subst (λ r. IsAnswered most 0 (past old) (past new) (Some call) (Err r)) is answered)
     where
-      of : IsAnswered most 65535 (past old) (past new) (Some call) (Err refusals.Full) → ⊥
+      of : IsAnswered most 0 (past old) (past new) (Some call) (Err refusals.Full) → ⊥
       of (Full _ lawful full stays) = omega (arith, room, full, length-reverse old)
-  impossible refusal room stored answered (inr (inl is)) = of (subst (λ r. IsAnswered most 65535 (past old) (past new) (Some call) (Err r)) is answered)
+  impossible refusal room stored answered (inr (inl is)) = of (subst (λ r. IsAnswered most 0 (past old) (past new) (Some call) (Err r)) is answered)
     where
-      of : IsAnswered most 65535 (past old) (past new) (Some call) (Err refusals.NotListed) → ⊥
+      of : IsAnswered most 0 (past old) (past new) (Some call) (Err refusals.NotListed) → ⊥
       of one = elim one [ ]
   impossible refusal room stored answered (inr (inr is)) = stored is
 

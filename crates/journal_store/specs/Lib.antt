@@ -1,3 +1,4 @@
+pub mod Again
 pub mod Faithful
 pub mod Fault
 pub mod Held
@@ -6,4 +7,6 @@ pub mod Preface
 pub mod Read
 pub mod Record
 pub mod Restored
+pub mod Standing
 pub mod Steps
+pub mod Turned

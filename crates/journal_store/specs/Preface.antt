@@ -2,6 +2,8 @@
 -- at most 255 bytes. A file with no record at all has no preface and no entry.
 use Rattle.std.specs.Prelude.{◌≡◌, ℕ, ◌+◌, ◌^◌, ◌<◌, ◌≤◌, List, [], ◌∷◌, ◌++◌, length, All, codes}
 use Rattle.std.specs.Int.{w32, w64, to_le_bytes}
+use Rattle.journal_store.specs.declared.preface_fault.PrefaceFault.{PrefaceFault}
+use Rattle.journal_store.specs.declared.preface_fault.PrefaceFault.TheVariants.{Memory, NoPreface, CutShort, TooLong}
 
 -- the catalogue's names in its order; how many entries of the whole history are not in the file one by one, but for those that stand for
 -- them; and how many of the first entries in the file stand for older ones
@@ -42,6 +44,13 @@ pub record IsCutShort (found : List (List ℕ)) : Type 0 where
   pub records : List (List ℕ)
   pub begins : found ≡ title_of base condensed names ∷ records
   pub missing : length records < names
+
+-- it does not begin with a preface, for this fault
+abbrev pub IsFaulty : List (List ℕ) → PrefaceFault → Type 0
+IsFaulty found Memory = Unit {0}
+IsFaulty found NoPreface = HasNoTitle found
+IsFaulty found CutShort = IsCutShort found
+IsFaulty found TooLong = Unit {0}
 
 -- it begins with this preface, which takes so many records
 pub record BeginsWith (front : Front) (found : List (List ℕ)) (taken : ℕ) : Type 0 where

@@ -17,6 +17,15 @@ abbrev pub AreFound : Front → List (List ℕ) → List Stored → Type 0
 AreFound front [] stored = stored ≡ []
 AreFound front (first ∷ records) stored = (behind : List (List ℕ)) × (first ∷ records ≡ preface_of front ++ behind) × AreRead behind stored
 
+-- what was found has fewer entries than stand for older ones by its preface
+pub record HasTooFew (found : List (List ℕ)) : Type 0 where
+  pub front : Front
+  pub behind : List (List ℕ)
+  pub stored : List Stored
+  pub whole : found ≡ preface_of front ++ behind
+  pub read : AreRead behind stored
+  pub missing : length stored < front.condensed
+
 -- the record of this number has the bytes of no entry
 pub record IsNoEntry (records : List (List ℕ)) (number : ℕ) : Type 0 where
   pub inside : number < length records

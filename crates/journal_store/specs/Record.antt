@@ -1,12 +1,13 @@
 -- What the records in a journal's file say of its entries.
 use Rattle.std.specs.Prelude.{◌≡◌, ◌⊎◌, ℕ, List, [], ◌∷◌, ◌++◌, map}
-use Rattle.record_log.specs.Log.{StandsFor}
+use Rattle.record_log.specs.Log.{StandsFor, blocks}
 use Rattle.desk_core.specs.declared.entry.Entry.{Entry}
 use Rattle.desk_core.specs.Mutation.{entry_of}
 use Rattle.entry_record.specs.Format.{bytes_of}
 use Rattle.entry_record.specs.Range.{IsStored}
 use Rattle.entry_record.specs.declared.stored.Stored.{Stored}
-use Rattle.journal_store.specs.Preface.{Front, preface_of}
+use Rattle.journal_store.specs.Preface.{Front, IsFront, preface_of}
+use Rattle.journal_store.specs.Standing.{StandFor}
 
 -- a record is of this entry: it has its call and its reply, beside a seat, a time and who asked. Seats are those of one run, so they are
 -- not compared
@@ -35,15 +36,35 @@ abbrev pub AreAdded : Front → List ℕ → List (List ℕ) → List Entry → 
 AreAdded front [] batch entries = (behind : List (List ℕ)) × (batch ≡ preface_of front ++ behind) × AreRecords behind entries
 AreAdded front (byte ∷ written) batch entries = AreRecords batch entries
 
--- a file with this preface, as a crash may leave it, has this journal
-pub record HasJournal (front : Front) (file : List ℕ) (journal : List Entry) : Type 0 where
+-- records behind a preface hold this journal, where a run began with the first preface: their entries stand for it
+pub record HoldJournal (start front : Front) (records : List (List ℕ)) (journal : List Entry) : Type 0 where
+  pub fits : IsFront front
+  pub entries : List Entry
+  pub are : AreOf front records entries
+  pub stand : StandFor start front entries journal
+
+-- a text is of the blocks of such records
+pub record IsTextOf (start front : Front) (text : List ℕ) (journal : List Entry) : Type 0 where
+  pub records : List (List ℕ)
+  pub whole : text ≡ blocks records
+  pub hold : HoldJournal start front records journal
+
+-- the same with a closed gate behind the blocks
+pub record IsFileOf (start front : Front) (file : List ℕ) (journal : List Entry) : Type 0 where
+  pub records : List (List ℕ)
+  pub whole : file ≡ blocks records ++ 0 ∷ []
+  pub hold : HoldJournal start front records journal
+
+-- a file, as a crash may leave it, has this journal, where a run began with this preface
+pub record HasJournal (start : Front) (file : List ℕ) (journal : List Entry) : Type 0 where
+  pub front : Front
   pub records : List (List ℕ)
   pub stands : StandsFor file records
-  pub entries : AreOf front records journal
+  pub hold : HoldJournal start front records journal
 
--- the entry that a restart makes of a stored one: it is of no seat of the new run
+-- the entry that a restart makes of a stored one: it is of the first seat of the new run, which makes a setup too
 abbrev pub restored : Stored → Entry
-restored stored = entry_of 65535 stored.entry.call stored.entry.reply
+restored stored = entry_of 0 stored.entry.call stored.entry.reply
 
 -- the journal that a restart makes of the entries of a file
 abbrev pub restored_of : List Stored → List Entry

@@ -6,6 +6,6 @@ use Rattle.journal_store.specs.Record.{restored_of}
 
 -- what it keeps behind the step
 abbrev pub behind : Kept → Step → Kept
-behind kept (Begun stored) = begun kept (restored_of stored.now)
+behind kept (Begun front stored) = begun kept front.now (restored_of stored.now)
 behind kept (Asked entries) = asked kept entries.now
 behind kept (Settled entries) = settled kept entries.now

@@ -1,9 +1,11 @@
-use crate::anew::open_anew;
+use crate::anew::open_either;
 use crate::medium::Medium;
 use crate::preface::Preface;
 use crate::reading::read_found;
 use crate::record_fault::RecordFault;
 use crate::records::batch_of;
+use crate::shortening::shortened;
+use crate::text::Text;
 use crate::told::{Step, Told};
 use crate::witness::Witness;
 use desk_core::{Entry, Keep, NotStored};
@@ -12,17 +14,26 @@ use record_log::{RecordLog, blocks_of};
 use std::alloc::Global;
 use std::marker::Model;
 
+/// How long the blocks of a file are at least before it is written anew.
+const LEAST: usize = 16 << 20;
+
+/// How many of the newest entries stay in a file that is written anew.
+const NEWEST: usize = 65_536;
+
 /// A journal in a file, as records of its entries behind a preface. It keeps the blocks that were acknowledged, and opens a file that
-/// failed anew before the next change.
+/// failed anew before the next change. A file that has grown long is written anew, with short entries in place of the older ones.
 #[derive(Drop)]
 pub struct JournalStore<M: Medium, W: Witness> {
     alloc: Global,
     medium: M,
     witness: W,
-    preface: Preface,
+    text: Text,
+    // The file may have this in its place: it was to be written anew, and that failed.
+    other: Option<Text>,
+    least: usize,
+    newest: usize,
     log: Option<RecordLog<M::Device>>,
     is_open: bool,
-    written: Vec<u8>,
     told: Told,
 }
 
@@ -35,26 +46,26 @@ impl<M: Medium, W: Witness> Model for JournalStore<M, W> {
     ghost view = { λ store. record {
       kept = store.told.kept;
       is_open = store.is_open;
-      written = store.written.items;
-      front = store.preface;
+      written = store.text.written.items;
+      front = store.text.preface;
     } };
 
-    ghost invariant = { λ store. IsFaithful store.preface
+    ghost invariant = { λ store. IsFaithful
         M.Device.contents M.Device.may_leave M.Device.moment M.Device.left_since
-        store.log store.is_open store.written.items store.told.kept };
+        store.log store.is_open store.text store.other store.told.kept };
 }
 
 impl<M: Medium, W: Witness> JournalStore<M, W> {
     ghost use Rattle.std.specs.Prelude.{◌≡◌, ◌⊎◌, ◌<◌, ◌∷◌, [], ℕ, true, List, All, length, IfOk, IfSome, IsSome, IsErrOf, OnOk, OnErr};
-    ghost use Rattle.record_log.specs.Log.{IsReady, blocks, texts};
+    ghost use Rattle.record_log.specs.Log.{IsReady, texts};
     ghost use Rattle.desk_core.specs.Left.{Holds};
     ghost use Rattle.journal_store.specs.Faithful.{HasLeftSince, LeavesOneOf};
     ghost use Rattle.journal_store.specs.Kept.{asked, begun_at, opened_at, settled};
-    ghost use Rattle.journal_store.specs.Preface.{HasNoTitle, IsCutShort, new_of};
-    ghost use Rattle.journal_store.specs.Read.{AreFound, IsNoEntry};
-    ghost use Rattle.journal_store.specs.Record.{AreAdded, AreOf, restored_of};
-    ghost use Rattle.journal_store.specs.declared.preface_fault.PrefaceFault.TheVariants as prefaces;
-    ghost use Rattle.journal_store.specs.declared.record_fault.RecordFault.TheVariants.{NotAnEntry, Preface as NotAPreface};
+    ghost use Rattle.journal_store.specs.Preface.{IsFaulty, new_of};
+    ghost use Rattle.journal_store.specs.Read.{AreFound, HasTooFew, IsNoEntry};
+    ghost use Rattle.journal_store.specs.Record.{AreAdded, IsTextOf, restored_of};
+    ghost use Rattle.journal_store.specs.declared.preface_fault.PrefaceFault.{PrefaceFault as Fault};
+    ghost use Rattle.journal_store.specs.declared.record_fault.RecordFault.TheVariants.{NotAnEntry, Preface as NotAPreface, TooFew};
 
     /// A store over a log that was opened, and the entries that were found in it. Where nothing was, it begins with a new preface of the
     /// names of the one that is given, which is written with the first entries.
@@ -71,40 +82,65 @@ impl<M: Medium, W: Witness> JournalStore<M, W> {
             AreFound made.0.front (texts found.now) made.1.items) }
         ensures new { found.now ≡ [] → IfOk result (λ made.
             made.0.front ≡ new_of preface.names) }
-        ensures kept { IfOk result (λ made. made.0.kept
-            ≡ begun_at (M.Device.moment log.device) (restored_of made.1.items)) }
         ensures open { IfOk result (λ made. made.0.is_open ≡ true) }
+        ensures kept { IfOk result (λ made. made.0.kept
+            ≡ begun_at (M.Device.moment log.device) made.0.front (restored_of made.1.items)) }
         ensures holds { IfOk result (λ made.
             Holds made.0.kept.left (restored_of made.1.items)) }
         ensures fault { (n : ℕ) → IsErrOf result (NotAnEntry n)
             → IsNoEntry (texts found.now) n }
-        ensures none { IsErrOf result (NotAPreface prefaces.NoPreface)
-            → HasNoTitle (texts found.now) }
-        ensures cut_short { IsErrOf result (NotAPreface prefaces.CutShort)
-            → IsCutShort (texts found.now) }
+        ensures preface { (fault : Fault) → IsErrOf result (NotAPreface fault)
+            → IsFaulty (texts found.now) fault }
+        ensures too_few { IsErrOf result TooFew → HasTooFew (texts found.now) }
     {
         let (preface, stored) = read_found(alloc, found, preface)?;
         let mut written = blocks_of(alloc, found)?;
         written.truncate(written.len() - 1);
-        let told = Told::new().and(&Step::Begun(&stored)).opened(&log.device);
+        let told = Told::new()
+            .and(&Step::Begun(&preface, &stored))
+            .opened(&log.device);
         let store = JournalStore {
             alloc,
             medium,
             witness,
-            preface,
+            text: Text {
+                preface,
+                written,
+                limit: LEAST,
+            },
+            other: None,
+            least: LEAST,
+            newest: NEWEST,
             log: Some(log),
             is_open: true,
-            written,
             told,
         };
         Ok((store, stored))
+    }
+
+    /// The same store, whose file is written anew once its blocks are longer than this and twice as long as after the last time.
+    pub fn with_least(mut self, least: usize) -> Self
+        ensures { result ≡ self }
+    {
+        self.least = least;
+        self.text.limit = least;
+        self
+    }
+
+    /// The same store, in whose file so many of the newest entries stay.
+    #[cfg(test)]
+    pub(crate) fn with_newest(mut self, newest: usize) -> Self
+        ensures { result ≡ self }
+    {
+        self.newest = newest;
+        self
     }
 
     /// What is in front of the entries of the file, or will be with the first of them.
     pub fn preface(&self) -> &Preface
         ensures { result.now ≡ self.now.front }
     {
-        &self.preface
+        &self.text.preface
     }
 
     /// The device that the file is on, if there is one.
@@ -113,13 +149,12 @@ impl<M: Medium, W: Witness> JournalStore<M, W> {
 
         // Whatever a crash leaves of it now has one of these journals.
         ensures now { IfSome result (λ device.
-            LeavesOneOf self.now.front (M.Device.may_leave device.now)
+            LeavesOneOf self.now.kept.start (M.Device.may_leave device.now)
             self.now.kept.left.now) }
 
         // And whatever one left of it since it was opened.
         ensures since { IfSome result (λ device.
-            HasLeftSince self.now.front M.Device.moment M.Device.left_since
-            device.now self.now.kept) }
+            HasLeftSince M.Device.moment M.Device.left_since device.now self.now.kept) }
     {
         match &self.log {
             Some(log) => Some(&log.device),
@@ -130,10 +165,10 @@ impl<M: Medium, W: Witness> JournalStore<M, W> {
     /// The blocks that were acknowledged.
     pub fn written(&self) -> &[u8]
         ensures written { result.now ≡ self.now.written }
-        ensures entries { (records : List (List ℕ)) × (result.now ≡ blocks records)
-            × AreOf self.now.front records self.now.kept.journal }
+        ensures entries { IsTextOf self.now.kept.start self.now.front result.now
+            self.now.kept.journal }
     {
-        &self.written
+        &self.text.written
     }
 
     /// Opens the file anew, if it is not open. The device that failed is dropped before, so that its lock is free.
@@ -144,16 +179,22 @@ impl<M: Medium, W: Witness> JournalStore<M, W> {
         ensures ok { OnOk result ((self.new.kept ≡ self.old.kept) ⊎ ((moment : ℕ)
             × (self.new.kept ≡ opened_at (settled (asked self.old.kept []) []) moment))) }
         ensures err { OnErr result (self.new.kept ≡ asked self.old.kept []) }
-        ensures same { self.old.is_open ≡ true → self.new.kept ≡ self.old.kept }
+        ensures same { self.old.is_open ≡ true → self.new ≡ self.old }
     {
         if self.is_open {
             return Ok(());
         }
         self.told = self.told.and(&Step::Asked(&[]));
         self.log = None;
-        let log = open_anew(self.alloc, &mut self.medium, &self.written)?;
+        let log = open_either(
+            self.alloc,
+            &mut self.medium,
+            &mut self.text,
+            &mut self.other,
+        )?;
         self.told = self.told.and(&Step::Settled(&[])).opened(&log.device);
         self.log = Some(log);
+        self.other = None;
         self.is_open = true;
         Ok(())
     }
@@ -168,16 +209,18 @@ impl<M: Medium, W: Witness> JournalStore<M, W> {
             (self.new.kept ≡ settled (asked self.old.kept entries.now) entries.now) }
         ensures err { OnErr result ((self.new.kept ≡ self.old.kept)
             ⊎ (self.new.kept ≡ asked self.old.kept entries.now)) }
+        ensures open { OnOk result (self.new.is_open ≡ true) }
+        ensures front { self.new.front ≡ self.old.front }
     {
         let Ok(text) = blocks_of(self.alloc, batch) else {
             return Err(NotStored);
         };
-        let before = self.written.len();
-        let Ok(()) = self.written.extend_from_slice(&text[..text.len() - 1]) else {
+        let before = self.text.written.len();
+        let Ok(()) = self.text.written.extend_from_slice(&text[..text.len() - 1]) else {
             return Err(NotStored);
         };
         let Some(mut log) = self.log.take() else {
-            self.written.truncate(before);
+            self.text.written.truncate(before);
             return Err(NotStored);
         };
         self.told = self.told.and(&Step::Asked(entries));
@@ -185,11 +228,46 @@ impl<M: Medium, W: Witness> JournalStore<M, W> {
         self.log = Some(log);
         if stored.is_err() {
             self.is_open = false;
-            self.written.truncate(before);
+            self.text.written.truncate(before);
             return Err(NotStored);
         }
         self.told = self.told.and(&Step::Settled(entries));
         Ok(())
+    }
+
+    /// Writes the file anew if it has grown long. Where that fails, the file is as it was, or is to be opened anew: it may have the one
+    /// text or the other.
+    fn write_anew_if_long(&mut self)
+        requires open { self.old.is_open ≡ true }
+        ensures kept { (self.new.kept ≡ self.old.kept) ⊎ ((moment : ℕ)
+            × (self.new.kept ≡ opened_at self.old.kept moment)) }
+        ensures same { self.new.front ≡ self.old.front → self.new.kept ≡ self.old.kept }
+    {
+        if self.text.written.len() <= self.text.limit {
+            return;
+        }
+        self.text.put_off();
+        let Some(renewed) = shortened(
+            self.alloc,
+            &self.text.preface,
+            &self.text.written,
+            self.newest,
+        ) else {
+            return;
+        };
+        let Some(old) = self.log.take() else {
+            return;
+        };
+        let replaced = self.medium.replace(old, &renewed.file);
+        let text = renewed.text(self.least);
+        let Ok(log) = replaced else {
+            self.is_open = false;
+            self.other = Some(text);
+            return;
+        };
+        self.told = self.told.opened(&log.device);
+        self.log = Some(log);
+        self.text = text;
     }
 }
 
@@ -218,8 +296,8 @@ impl<M: Medium, W: Witness> Keep for JournalStore<M, W> {
         ensures crash { (journal : List JournalEntry) → self.old.kept.journal ≡ journal
             → HasLeft self.old.kept.left self.new.kept.left journal (journal ++ entries.now) }
 
-        // The device of a file that is open stays the same.
-        ensures opened { self.old.is_open ≡ true
+        // The device of a file that is open stays the same, unless the file is written anew, behind another preface.
+        ensures opened { self.old.is_open ≡ true → self.new.front ≡ self.old.front
             → self.new.kept.opened ≡ self.old.kept.opened }
     {
         self.reopen()?;
@@ -229,12 +307,14 @@ impl<M: Medium, W: Witness> Keep for JournalStore<M, W> {
         let Ok(batch) = batch_of(
             self.alloc,
             &self.witness,
-            &self.preface,
-            &self.written,
+            &self.text.preface,
+            &self.text.written,
             entries,
         ) else {
             return Err(NotStored);
         };
-        self.append(entries, &batch)
+        self.append(entries, &batch)?;
+        self.write_anew_if_long();
+        Ok(())
     }
 }

@@ -2,6 +2,7 @@
 #![tactic(auto)]
 
 mod anew;
+mod condensing;
 mod file_medium;
 mod journal_store;
 mod laws;
@@ -13,13 +14,15 @@ mod record_fault;
 mod records;
 mod restore_fault;
 mod restoring;
+mod shortening;
+mod text;
 mod title;
 mod told;
 mod witness;
 
 pub use crate::file_medium::{FileMedium, FileStore};
 pub use crate::journal_store::JournalStore;
-pub use crate::laws::one_preface;
+pub use crate::laws::{one_preface, read_again, standing};
 pub use crate::medium::Medium;
 pub use crate::preface::{Preface, read_preface};
 pub use crate::preface_fault::PrefaceFault;

@@ -1,10 +1,25 @@
-use record_log::{Device, DeviceError};
+use record_log::{Device, DeviceError, RecordLog};
 
-/// Where a journal's file is, to be opened again after its device failed. No clause says what is found there: it is compared with what
-/// was acknowledged.
+/// Where a journal's file is, to be opened again after its device failed, and to be written anew. No clause says what is found there: it
+/// is compared with what was acknowledged.
 pub trait Medium: Drop {
+    ghost use Rattle.std.specs.Prelude.{◌≡◌, ◌++◌, ◌∷◌, [], ℕ, List, IfOk};
+    ghost use Rattle.record_log.specs.Log.{IsReady, blocks};
+
     type Device: Device;
 
     /// Opens the file anew.
     fn reopen(&mut self) -> Result<Self::Device, DeviceError>;
+
+    /// Puts a file of these blocks, with a closed gate behind them, in the place of a log's. A crash leaves the one or the other. After an
+    /// `Err` the file is to be opened anew: it may be either.
+    fn replace(
+        &mut self,
+        old: RecordLog<Self::Device>,
+        file: &[u8],
+    ) -> Result<RecordLog<Self::Device>, DeviceError>
+        requires whole { (records : List (List ℕ)) × (file.now ≡ blocks records ++ 0 ∷ []) }
+        ensures ready { (records : List (List ℕ)) → file.now ≡ blocks records ++ 0 ∷ []
+            → IfOk result (λ log.
+            IsReady Self.Device.contents Self.Device.may_leave log records) };
 }

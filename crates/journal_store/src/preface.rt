@@ -41,7 +41,7 @@ impl Model for Preface {
 }
 
 impl Preface {
-    ghost use Rattle.std.specs.Prelude.{◌≡◌, ◌<◌, All, length, IfOk};
+    ghost use Rattle.std.specs.Prelude.{◌≡◌, ◌+◌, ◌<◌, ◌≤◌, All, length, IfOk, IfSome};
     ghost use Rattle.record_log.specs.Log.{texts};
     ghost use Rattle.journal_store.specs.Preface.{IsFront, new_of, preface_of};
 
@@ -83,13 +83,37 @@ impl Preface {
 
     /// The same of a new file.
     pub(crate) fn renewed(self) -> Preface
-        ensures { result ≡ new_of self.names }
+        ensures new { result ≡ new_of self.names }
+        ensures fits { IsFront result }
     {
         Preface {
             names: self.names,
             base: 0,
             condensed: 0,
         }
+    }
+
+    /// Of a file in which so many short entries take the place of the first so many. None where there are too many to count, or no memory.
+    pub(crate) fn next(&self, alloc: Global, taken: usize, short: usize) -> Option<Preface>
+        requires { short ≤ taken }
+        ensures names { IfSome result (λ next. next.names ≡ self.now.names) }
+        ensures condensed { IfSome result (λ next. short ≡ next.condensed) }
+        ensures base { IfSome result (λ next. next.base + short ≡ self.now.base + taken) }
+        ensures fits { IfSome result (λ next. IsFront next) }
+    {
+        let Ok(condensed) = u32::try_from(short) else {
+            return None;
+        };
+        let base = self.base.checked_add((taken - short) as u64)?;
+        let mut names = Vec::new(alloc);
+        let Ok(()) = put_copies(alloc, &mut names, &self.names) else {
+            return None;
+        };
+        Some(Preface {
+            names,
+            base,
+            condensed,
+        })
     }
 
     /// The records of the preface.
@@ -128,7 +152,7 @@ fn put_name(
 }
 
 /// Puts copies of these names behind the records.
-fn put_copies(
+pub(crate) fn put_copies(
     alloc: Global,
     records: &mut Vec<Vec<u8>>,
     names: &[Vec<u8>],

@@ -10,6 +10,8 @@ pub enum RecordFault {
     Preface(PrefaceFault),
     /// The record of this number, counted from 0, is no entry's.
     NotAnEntry(usize),
+    /// There are fewer entries than stand for older ones by the preface.
+    TooFew,
 }
 
 impl From<AllocError> for RecordFault {
@@ -56,6 +58,7 @@ impl fmt::Display for RecordFault {
             RecordFault::Memory => f.write_str("out of memory"),
             RecordFault::Preface(fault) => write!(f, "{fault}"),
             RecordFault::NotAnEntry(number) => write!(f, "record {number} is no entry"),
+            RecordFault::TooFew => f.write_str("entries are missing"),
         }
     }
 }

@@ -12,8 +12,8 @@ use entry_record::Stored;
 use probe_core::{Maker, Probe};
 use std::alloc::{AllocError, Global};
 
-/// The seat of the entries that an earlier run made.
-const EARLIER: u16 = 65_535;
+/// The seat of the entries that an earlier run made: the first of the new run, as of a setup.
+pub(crate) const EARLIER: u16 = 0;
 
 /// The registry that the entries of a file make, over the store that has them. It takes so many entries in all; where it has as many or
 /// more, it is full.

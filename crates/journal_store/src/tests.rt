@@ -4,3 +4,4 @@ mod files;
 mod histories;
 mod prefaces;
 mod restarts;
+mod rewritings;

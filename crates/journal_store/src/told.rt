@@ -1,6 +1,7 @@
 ghost use Rattle.std.specs.Borrow.{ftrue};
 ghost use Rattle.journal_store.specs.Kept.{Kept};
 
+use crate::preface::Preface;
 use desk_core::Entry;
 use entry_record::Stored;
 use std::marker::Model;
@@ -8,8 +9,8 @@ use std::marker::Model;
 /// What happens to a store.
 #[derive(Drop)]
 pub(crate) enum Step<'a> {
-    /// It begins with these entries.
-    Begun(&'a [Stored]),
+    /// It begins with a file of this preface and these entries.
+    Begun(&'a Preface, &'a [Stored]),
     /// It is asked to keep these behind those that it has.
     Asked(&'a [Entry]),
     /// It has them, and no crash takes them back.

@@ -30,6 +30,8 @@ pub struct FileDevice {
     opened: Option<Vec<u8>>,
     past: Past,
     failures: usize,
+    /// The system's, of the call that failed.
+    error: Option<io::Error>,
     ghost read: { ForSome opened (λ bytes. bytes.items ≡ contents_of past.states) },
     ghost bounded: { length (contents_of past.states) < 2 ^ 63 },
 }
@@ -65,19 +67,37 @@ impl FileDevice {
     }
 
     /// A file with these bytes, all of them on the disk.
-    pub(crate) fn over(file: File, bytes: Vec<u8>) -> FileDevice
+    fn over(file: File, bytes: Vec<u8>) -> FileDevice
         ensures bytes { file_bytes result ≡ bytes.items }
         ensures durable { IsDurable (file_bytes result) (file_may_leave result) }
     {
-        let mut past = Past::new();
-        past.note(&[0], &bytes);
-        past.note(&[], &[]);
+        let past = Past::of(&bytes);
         FileDevice {
             file,
             opened: Some(bytes),
             past,
             failures: 0,
+            error: None,
         }
+    }
+
+    /// A file of this text, all of it on the disk, which is not to be read.
+    pub(crate) fn written(file: File, text: &[u8]) -> FileDevice
+        ensures bytes { file_bytes result ≡ text.now }
+        ensures durable { IsDurable (file_bytes result) (file_may_leave result) }
+    {
+        FileDevice {
+            file,
+            opened: None,
+            past: Past::of(text),
+            failures: 0,
+            error: None,
+        }
+    }
+
+    /// The error of the system's call that failed, if one did.
+    pub fn error(&self) -> Option<io::Error> {
+        self.error
     }
 }
 
@@ -153,12 +173,19 @@ impl Device for FileDevice {
         self.past.note(&[at as u64], bytes);
         match written {
             Ok(()) => Ok(()),
-            Err(_) => Err(failed(&mut self.failures)),
+            Err(error) => {
+                self.error = Some(error);
+                Err(failed(&mut self.failures))
+            }
         }
     }
 
     fn sync(&mut self) -> Result<(), DeviceError> {
-        if self.failures > 0 || self.file.sync_data().is_err() {
+        if self.failures > 0 {
+            return Err(failed(&mut self.failures));
+        }
+        if let Err(error) = self.file.sync_data() {
+            self.error = Some(error);
             return Err(failed(&mut self.failures));
         }
         self.past.note(&[], &[]);

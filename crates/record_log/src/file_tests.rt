@@ -2,7 +2,7 @@
 
 ghost use Rattle.std.specs.Prelude.{◌<◌, All, length, IfOk};
 
-use crate::{FileDevice, FileError, OpenError, RecordLog, write_anew};
+use crate::{FileDevice, FileError, OpenError, RecordLog, blocks_of, write_anew, write_text_anew};
 use std::alloc::{AllocError, Global};
 use std::fs;
 use std::test::Fail;
@@ -107,6 +107,33 @@ fn a_damaged_file_stays_as_it_is(rt: HostRuntime) -> Result<(), Fail> {
     fs::write(&rt, path, &file)?;
     expect_damage(&rt, path)?;
     same(&fs::read(&rt, path)?, &file, &"as it is")?;
+    fs::remove_file(&rt, path)?;
+    Ok(())
+}
+
+/// Puts the text of one entry in the place of a file. Says whether it is there.
+fn put_three(rt: &HostRuntime, path: &str) -> Result<bool, Fail> {
+    let alloc = rt.alloc();
+    let text = blocks_of(alloc, &three(alloc)?)?;
+    let mut log = log_at(rt, path)?;
+    log.open(alloc)?;
+    let is_put = write_text_anew(rt, path, log, &text).is_ok();
+    let left = fs::read(rt, path)?;
+    same(&(left == text), &is_put, &"its text")?;
+    Ok(is_put)
+}
+
+/// Where the new file cannot be written, the old one is as it was.
+#[test]
+fn a_text_is_put_in_the_place_of_a_file(rt: HostRuntime) -> Result<(), Fail> {
+    let (path, beside) = ("/tmp/record-log-text", "/tmp/record-log-text.new");
+    make_two(&rt, path)?;
+    let before = fs::read(&rt, path)?;
+    fs::create_dir(&rt, beside)?;
+    same(&put_three(&rt, path)?, &false, &"a folder is there")?;
+    same(&fs::read(&rt, path)?, &before, &"as it was")?;
+    fs::remove_dir(&rt, beside)?;
+    same(&put_three(&rt, path)?, &true, &"put")?;
     fs::remove_file(&rt, path)?;
     Ok(())
 }

@@ -58,7 +58,7 @@ pub use crate::memory::Memory;
 pub use crate::open_error::OpenError;
 pub use crate::reading::{ReadError, read_entries};
 pub use crate::record_log::RecordLog;
-pub use crate::rewriting::write_anew;
+pub use crate::rewriting::{write_anew, write_text_anew};
 
 #[cfg(test)]
 mod crash_tests;

@@ -1,5 +1,5 @@
 //! All that a file was since it was opened, of which clauses speak and no memory holds anything.
-ghost use Rattle.std.specs.Prelude.{◌≡◌, List, []};
+ghost use Rattle.std.specs.Prelude.{◌≡◌, List, [], ◌∷◌};
 ghost use Rattle.std.specs.Borrow.{ftrue};
 ghost use Rattle.record_log.specs.Crashes.{State};
 ghost use Rattle.record_log.specs.Noted.{after};
@@ -27,6 +27,16 @@ impl Past {
         Past {
             marker: PhantomData,
         }
+    }
+
+    /// Of a file with these bytes, all of them on the disk.
+    pub(crate) fn of(bytes: &[u8]) -> Past
+        ensures { result.states ≡ after [] [] (after (0 ∷ []) bytes.now []) }
+    {
+        let mut past = Past::new();
+        past.note(&[0], bytes);
+        past.note(&[], &[]);
+        past
     }
 
     /// Notes a write of these bytes at the place that is given, or a sync where none is.

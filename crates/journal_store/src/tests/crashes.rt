@@ -4,7 +4,7 @@ ghost use Rattle.std.specs.Prelude.{◌≡◌, IfOk};
 ghost use Rattle.desk_core.specs.Left.{Holds};
 ghost use Rattle.journal_store.specs.Record.{restored_of};
 
-use super::histories::{Manuals, Random, Sessions, Spare, history, preface};
+use super::histories::{Manuals, Random, Replacing, Sessions, Spare, history, preface};
 use crate::{JournalStore, Witness, restore};
 use desk_core::{Call, Entry, Keep, Reply};
 use entry_record::Stored;
@@ -35,10 +35,7 @@ pub(crate) fn store_over(
     device.stop_after(calls);
     let mut log = RecordLog::new(device);
     let found = log.open(alloc)?;
-    let medium = Spare {
-        alloc,
-        file: spare.to_vec(alloc)?,
-    };
+    let medium = Spare::new(alloc, spare, Replacing::Works)?;
     let preface = preface(alloc)?;
     Ok(JournalStore::over(alloc, medium, Sessions, log, &found, preface)?)
 }
@@ -66,12 +63,7 @@ fn expect_file(alloc: Global, file: &[u8], entries: &[Entry], count: usize) -> R
         expect_stored(&stored[number], entries.get(number), number)?;
     }
     for number in 0..desk.journal_kept().len() {
-        expect_entry(
-            &desk.journal_kept()[number],
-            65_535,
-            entries.get(number),
-            number,
-        )?;
+        expect_entry(&desk.journal_kept()[number], 0, entries.get(number), number)?;
     }
     Ok(())
 }

@@ -1,12 +1,14 @@
 //! Histories with no order, and a registry of manual services that answers as the definitions say.
 
-ghost use Rattle.std.specs.Prelude.{◌≤◌, length};
+ghost use Rattle.std.specs.Prelude.{◌≡◌, ◌≤◌, ◌++◌, ◌∷◌, [], ℕ, List, length, IfOk};
+ghost use Rattle.record_log.specs.Log.{IsReady, blocks};
+ghost use Rattle.record_log.specs.MemoryView.{memory_bytes, memory_may_leave};
 
 use crate::{Medium, Preface, Witness};
 use chronicle::Who;
 use desk_core::{Call, Catalogue, Entry, Finding, Reply, Setting, Slot};
 use probe_core::{Maker, Manual, Rule};
-use record_log::{DeviceError, Memory};
+use record_log::{DeviceError, Memory, RecordLog};
 use std::alloc::{AllocError, Global};
 use std::test::Fail;
 
@@ -159,18 +161,84 @@ pub(crate) fn preface(alloc: Global) -> Result<Preface, Fail> {
     Ok(Preface::new(alloc, &Catalogue::new(alloc, names)?)?)
 }
 
+/// Whether a file is put in the place of another, or that fails, with the old file there or the new one.
+#[derive(Clone, Copy, Debug, PartialEq, Eq)]
+pub(crate) enum Replacing {
+    Works,
+    LeavesOld,
+    LeavesNew,
+}
+
 /// A file, which each device that is opened anew has.
 #[derive(Drop)]
 pub(crate) struct Spare {
-    pub alloc: Global,
-    pub file: Vec<u8>,
+    alloc: Global,
+    file: Vec<u8>,
+    replacing: Replacing,
+}
+
+impl Spare {
+    ghost use Rattle.std.specs.Prelude.{IsErr};
+
+    pub(crate) fn new(
+        alloc: Global,
+        file: &[u8],
+        replacing: Replacing,
+    ) -> Result<Spare, AllocError> {
+        Ok(Spare {
+            alloc,
+            file: file.to_vec(alloc)?,
+            replacing,
+        })
+    }
+
+    /// A file could not be put in its place, and this one is there.
+    fn failed(&mut self, left: &[u8]) -> Result<RecordLog<Memory>, DeviceError>
+        ensures { IsErr result }
+    {
+        self.file = left.to_vec(self.alloc)?;
+        Err(DeviceError::Failed)
+    }
 }
 
 impl Medium for Spare {
+    ghost use Rattle.std.specs.Prelude.{◌≡◌, ◌++◌, ◌∷◌, [], ℕ, List, IfOk};
+    ghost use Rattle.record_log.specs.Log.{IsReady, blocks};
+    ghost use Rattle.record_log.specs.MemoryView.{memory_bytes, memory_may_leave};
+
     type Device = Memory;
 
     fn reopen(&mut self) -> Result<Memory, DeviceError> {
+        self.replacing = Replacing::Works;
         Ok(Memory::new(self.alloc, self.file.as_slice().to_vec(self.alloc)?)?)
+    }
+
+    fn replace(
+        &mut self,
+        old: RecordLog<Memory>,
+        file: &[u8],
+    ) -> Result<RecordLog<Memory>, DeviceError>
+        requires whole { (records : List (List ℕ)) × (file.now ≡ blocks records ++ 0 ∷ []) }
+        ensures ready { (records : List (List ℕ)) → file.now ≡ blocks records ++ 0 ∷ []
+            → IfOk result (λ log. IsReady memory_bytes memory_may_leave log records) }
+    {
+        match self.replacing {
+            Replacing::Works => log_over(self.alloc, file),
+            Replacing::LeavesOld => self.failed(old.device.bytes()),
+            Replacing::LeavesNew => self.failed(file),
+        }
+    }
+}
+
+/// A log of a file in memory.
+fn log_over(alloc: Global, file: &[u8]) -> Result<RecordLog<Memory>, DeviceError>
+    ensures { (records : List (List ℕ)) → file.now ≡ blocks records ++ 0 ∷ []
+        → IfOk result (λ log. IsReady memory_bytes memory_may_leave log records) }
+{
+    let mut log = RecordLog::new(Memory::new(alloc, file.to_vec(alloc)?)?);
+    match log.open(alloc) {
+        Ok(_) => Ok(log),
+        Err(_) => Err(DeviceError::Failed),
     }
 }
 

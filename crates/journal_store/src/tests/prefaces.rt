@@ -1,6 +1,6 @@
 //! What stands in front of the entries of a file.
 
-use super::histories::{Random, Sessions, Spare, history, preface};
+use super::histories::{Random, Replacing, Sessions, Spare, history, preface};
 use crate::{JournalStore, PrefaceFault, read_preface};
 use desk_core::Keep;
 use record_log::{Memory, RecordLog, read_entries};
@@ -83,10 +83,7 @@ fn a_crash_leaves_all_of_a_setup_or_nothing(rt: HostRuntime) -> Result<(), Fail>
         device.stop_after(calls);
         let mut log = RecordLog::new(device);
         let found = log.open(alloc)?;
-        let medium = Spare {
-            alloc,
-            file: Vec::new(alloc),
-        };
+        let medium = Spare::new(alloc, &[], Replacing::Works)?;
         let (mut store, stored) = JournalStore::over(
             alloc,
             medium,

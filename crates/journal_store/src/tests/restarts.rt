@@ -1,12 +1,13 @@
 //! A desk over a store that fails, and files whose entries are none.
 
-use super::histories::{Manuals, Random, Sessions, Spare, history, preface};
+use super::histories::{Manuals, Random, Replacing, Sessions, Spare, history, preface};
+use crate::records::batch_of;
 use crate::{JournalStore, RecordFault, RestoreFault, restore};
 use chronicle::Who;
 use desk_core::{Call, Desk, Entry, Refusal, Reply, Setting, Slot};
 use entry_record::Stored;
 use probe_core::Manual;
-use record_log::{Memory, RecordLog};
+use record_log::{Memory, RecordLog, blocks_of};
 use std::alloc::Global;
 use std::test::Fail;
 use test_support::same;
@@ -24,10 +25,7 @@ fn new_desk(
     device.stop_after(calls);
     let mut log = RecordLog::new(device);
     let found = log.open(alloc)?;
-    let medium = Spare {
-        alloc,
-        file: spare.to_vec(alloc)?,
-    };
+    let medium = Spare::new(alloc, spare, Replacing::Works)?;
     let (store, stored) = JournalStore::over(
         alloc,
         medium,
@@ -76,7 +74,7 @@ fn a_desk_goes_on_once_its_file_is_opened_anew(rt: HostRuntime) -> Result<(), Fa
 }
 
 /// Entries as a file has them.
-fn stored_as(alloc: Global, entries: &[Entry]) -> Result<Vec<Stored>, Fail> {
+pub(crate) fn stored_as(alloc: Global, entries: &[Entry]) -> Result<Vec<Stored>, Fail> {
     let mut stored = Vec::new(alloc);
     for entry in entries {
         stored.push(Stored {
@@ -136,6 +134,27 @@ fn a_longer_history_is_restored_whole_and_is_full(rt: HostRuntime) -> Result<(),
         same(&desk.shutdown(1), &expected, &max_entries)?;
     }
     Ok(())
+}
+
+/// What is told of a file of so many entries, two of which stand for older ones by its preface.
+fn fault_of(alloc: Global, count: usize) -> Result<Option<RecordFault>, Fail> {
+    let next = preface(alloc)?.next(alloc, 7, 2).ok_or("no preface")?;
+    let entries = history(alloc, &mut Random(2), 0, count)?;
+    let records = batch_of(alloc, &Sessions, &next, &[], &entries)?;
+    let file = blocks_of(alloc, &records)?;
+    let mut log = RecordLog::new(Memory::new(alloc, file)?);
+    let found = log.open(alloc)?;
+    let medium = Spare::new(alloc, &[], Replacing::Works)?;
+    let made = JournalStore::over(alloc, medium, Sessions, log, &found, next);
+    Ok(made.err())
+}
+
+#[test]
+fn a_file_of_too_few_entries_is_refused(rt: HostRuntime) -> Result<(), Fail> {
+    let alloc = rt.alloc();
+    same(&fault_of(alloc, 0)?, &Some(RecordFault::TooFew), &"none")?;
+    same(&fault_of(alloc, 1)?, &Some(RecordFault::TooFew), &"one")?;
+    same(&fault_of(alloc, 2)?, &None, &"two")
 }
 
 /// Records that are no entry's: no bytes, a byte too few, and one too many.

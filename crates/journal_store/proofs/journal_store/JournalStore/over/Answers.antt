@@ -1,4 +1,4 @@
-use Rattle.std.proofs.Common.{rules, arith, ◌≡◌, ◌-◌, ◌++◌, ◌∷◌, [], length, take}
+use Rattle.std.proofs.Common.{rules, arith, ◌≡◌, ◌-◌, ◌++◌, ◌∷◌, [], length, take, refl}
 use Rattle.std.proofs.lemmas.Grind.{common_steps}
 use Rattle.record_log.specs.Log.{blocks, texts}
 use Rattle.journal_store.specs.Kept.{begun_at}
@@ -11,8 +11,10 @@ invariant_of-store g c =
     let D = g.M.Device.Device in
     let records = texts c.args.found.now in
     let stored = c.in_ok-preface.stored.items in
-    let text = c.in_ok-written.written.items in
-    let is : text ≡ blocks records ++ 0 ∷ [] = search rules in
-    let front : c.truncate.new.self.items ≡ take (length text - 1) text = grind (arith, common_steps) in
-    let at : c.opened-told.result.kept ≡ begun_at (D.moment c.args.log.device) (restored_of stored) = search rules in
-    begins c.in_ok-preface.preface D.contents D.may_leave D.moment D.left_since g.met.M.Device.Device.only_now c.args.log records stored text _ _ c.requires.ready c.in_ok-preface.ensures.read is front at
+    let front = c.in_ok-preface.preface in
+    let file = c.in_ok-written.written.items in
+    let is : file ≡ blocks records ++ 0 ∷ [] = search rules in
+    let cut : c.truncate.new.self.items ≡ take (length file - 1) file = grind (arith, common_steps) in
+    let at : c.opened-told.result.kept ≡ begun_at (D.moment c.args.log.device) front (restored_of stored) = search rules in
+    let enough = c.in_ok-preface.ensures.enough in
+    begins D.contents D.may_leave D.moment D.left_since g.met.M.Device.Device.only_now c.args.log front records stored file _ _ c.requires.ready c.in_ok-preface.ensures.fits c.in_ok-preface.ensures.read enough is cut refl at

@@ -1,6 +1,6 @@
-use Rattle.std.proofs.Common.{rules, ◌++◌, refl, subst, inl}
+use Rattle.std.proofs.Common.{rules, ◌≡◌, ◌++◌, refl, sym, subst, inl}
 use Rattle.desk_core.specs.Left.{HasLeft}
-use Rattle.journal_store.proofs.KeptLemmas.{IsStored, of_failed, of_both}
+use Rattle.journal_store.proofs.KeptLemmas.{IsStored, of_failed, of_both, same_left}
 use Rattle.journal_store.proofs.journal_store.JournalStoreKeep.store.Goals as goal
 
 pub returns-in_default-clause-crash : goal.returns-in_default-clause-crash
@@ -21,10 +21,21 @@ returns-then-is_empty-clause-crash g c = λ journal is.
     let new = c.reopen.new.self.kept in
     subst (λ j. HasLeft old.left new.left j (j ++ c.args.entries.now)) is (of_both old new new c.args.entries.now c.in_ok-reopen.ensures.ok (inl refl))
 
-pub returns-clause-crash : goal.returns-clause-crash
-returns-clause-crash g c = λ journal is.
+pub returns-in_err-append-clause-crash : goal.returns-in_err-append-clause-crash
+returns-in_err-append-clause-crash g c = λ journal is.
     let old = c.args.self.now.kept in
     let mid = c.reopen.new.self.kept in
     let new = c.append.new.self.kept in
     let stored : IsStored mid c.args.entries.now new = search rules in
     subst (λ j. HasLeft old.left new.left j (j ++ c.args.entries.now)) is (of_both old mid new c.args.entries.now c.in_ok-reopen.ensures.ok stored)
+
+pub returns-clause-crash : goal.returns-clause-crash
+returns-clause-crash g c = λ journal is.
+    let old = c.args.self.now.kept in
+    let mid = c.reopen.new.self.kept in
+    let appended = c.append.new.self.kept in
+    let new = c.write_anew_if_long.new.self.kept in
+    let stored : IsStored mid c.args.entries.now appended = search rules in
+    let left : new.left ≡ appended.left = same_left appended new c.write_anew_if_long.ensures.kept in
+    subst (λ j. HasLeft old.left new.left j (j ++ c.args.entries.now)) is
+    (subst (λ l. HasLeft old.left l old.journal (old.journal ++ c.args.entries.now)) (sym left) (of_both old mid appended c.args.entries.now c.in_ok-reopen.ensures.ok stored))
