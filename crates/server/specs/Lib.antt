@@ -1,2 +1,4 @@
+pub mod Again
 pub mod CrewServer
 pub mod Setup
+pub mod Storing

@@ -40,12 +40,17 @@
 //! ```
 #![tactic(auto)]
 
+mod again;
+mod again_fault;
 mod crew_server;
 mod serve_fault;
 mod served;
 mod setup;
 mod socket;
+mod storing;
 
+pub use again::hall_again;
+pub use again_fault::AgainFault;
 pub use crew_server::{Capacity, serve};
 pub use serve_fault::ServeFault;
 pub use served::Served;

@@ -1,0 +1,20 @@
+use Rattle.std.proofs.Common.{rules, ◌≡◌, ◌++◌, ◌∷◌, [], Ok, true, arith}
+use Rattle.server.proofs.AgainLemmas.{all_made, made_more, none_made}
+use Rattle.server.proofs.again.make_all_again.Goals as goal
+
+pub loop-number-init : goal.loop-number-init
+loop-number-init g c = record { made = none_made c.args.seat.now _ c.in_ok-results.ensures.items; ours = c.requires.ours }
+
+pub loop-number-preserved : goal.loop-number-preserved
+loop-number-preserved g c =
+    let yes : c.make_again.result ≡ Ok true = search rules in
+    let pushed : c.push.new.self.items ≡ c.loop-number.results.items ++ Ok c.index-entries-number.result.reply ∷ [] = search rules in
+    record {
+      made = made_more c.args.seat.now c.loop-number.seat c.make_again.new.seat c.args.entries.now c.loop-number.number c.index-entries-number.result
+          c.loop-number.results.items c.push.new.self.items c.loop-number-test.true c.index-entries-number.is c.loop-number.invariant.made (c.make_again.ensures.made yes) pushed;
+      ours = c.make_again.ensures.ours;
+    }
+
+pub returns-clause-met : goal.returns-clause-met
+returns-clause-met g c =
+    all_made c.args.seat.now c.loop-number.seat c.args.entries.now c.loop-number.number c.loop-number.results.items (omega (arith, c.loop-number-test.false)) c.loop-number.invariant.made
