@@ -8,8 +8,11 @@ import sys
 import tempfile
 import time
 
-HERE, HEALTHD = (os.environ[name] for name in ("HERE", "HEALTHD"))
+HERE = os.path.dirname(os.path.realpath(__file__))
+HEALTHD = os.environ.get("HEALTHD", f"{HERE}/../healthd")
 CHECK = os.path.splitext(os.path.basename(sys.argv[0]))[0]
+# Whether what holds is told, and not only what does not.
+TELLS = True
 LOGGED = re.compile(r"\d{4}-\d\d-\d\dT[\d:.]+Z ")
 SCRIPT = "catalogue a db -\nregister a manual\nregister db threshold 2\nregister - depends a db\n"
 
@@ -25,9 +28,11 @@ WATCH_END = b"2f\r\n\x80\0\0\0\x2agrpc-status:14\r\ngrpc-message:watch ended\r\n
 
 
 def holds(name, fact, why=""):
-    print(f"ok {CHECK} {name}" if fact else f"FAILED {CHECK} {name}: {why}", flush=True)
     if not fact:
+        print(f"FAILED {CHECK} {name}: {why}", flush=True)
         sys.exit(1)
+    if TELLS:
+        print(f"ok {CHECK} {name}", flush=True)
 
 
 def measured(name, seconds, most):
@@ -108,7 +113,7 @@ class Server:
             return file.readlines()
 
     def connect(self, timeout=10):
-        return socket.create_connection(("127.0.0.1", self.port), timeout)
+        return connect(self.port, timeout)
 
     def check(self, timeout=10):
         """A Check of `a`, as the bytes of the whole answer."""
@@ -212,6 +217,10 @@ def lines_of(path, count):
         if len(lines) >= count or time.monotonic() > ends:
             return lines
         time.sleep(0.02)
+
+
+def connect(port, timeout=10):
+    return socket.create_connection(("127.0.0.1", port), timeout)
 
 
 def read_all(client):

@@ -1,6 +1,0 @@
-use Rattle.std.specs.List.{All}
-use Rattle.hall.specs.Seats.{IsOf}
-use Rattle.bench.proofs.serve.seating.seat_loops.Given as goal
-
-abbrev pub invariant-loop-server : goal.invariant-loop-server
-invariant-loop-server g l = All (IsOf l.hall) l.seats.items × All (λ seated. IsOf l.hall seated.seat) l.loops.items
