@@ -46,7 +46,7 @@ pub(crate) fn push_number(alloc: Global, text: &mut String, number: u32) -> Resu
 }
 
 /// Adds when an entry was made and who asked for it.
-fn push_note(alloc: Global, text: &mut String, note: &Option<Note>) -> Result<(), AllocError>
+pub fn push_note(alloc: Global, text: &mut String, note: &Option<Note>) -> Result<(), AllocError>
     ensures { OnOk result (string_bytes text.new ≡ string_bytes text.old ++ note_text note.now) }
 {
     match note {
@@ -74,7 +74,7 @@ fn push_who(alloc: Global, text: &mut String, who: Who) -> Result<(), AllocError
 }
 
 /// Adds what came of an entry.
-fn push_done(
+pub fn push_done(
     alloc: Global,
     text: &mut String,
     catalogue: &Catalogue,

@@ -102,7 +102,7 @@ mod writing;
 pub use answer::Answer;
 pub use client::{ControlClient, connect, connect_within};
 pub use description::Description;
-pub use entry_text::call_text;
+pub use entry_text::{call_text, push_done, push_note};
 pub use expected::Expected;
 pub use laws::{one_meeting, one_request};
 pub use line::{LINE_ROOM, MAX_LINE_LEN, is_one_line, is_silent};

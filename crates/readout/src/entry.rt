@@ -5,15 +5,15 @@ use std::alloc::{AllocError, Global};
 /// An entry of the journal, in the words of an answer.
 #[derive(Clone, Copy, Serialize)]
 struct Entry<'a> {
-    entry: u32,
+    entry: Option<u32>,
     time: Option<&'a str>,
     who: Option<&'a str>,
     call: &'a str,
     reply: &'a str,
 }
 
-/// An entry as an object of JSON on one line, without LF, by the answer to the line `entry N`. There is none where the answer has
-/// another form, as `forgotten` and `none yet` have.
+/// An entry as an object of JSON on one line, without LF, by the answer to the line `entry N`, or by a line of a journal's file, which may
+/// have `-` in place of the number. There is none where the answer has another form, as `forgotten` and `none yet` have.
 pub fn entry_json(alloc: Global, answer: &str) -> Result<Option<String>, AllocError> {
     let Some(entry) = read_entry(answer) else {
         return Ok(None);
@@ -29,12 +29,20 @@ fn read_entry(answer: &str) -> Option<Entry<'_>> {
     let (who, rest) = read_who(rest)?;
     let (call, reply) = rest.rsplit_once(": ")?;
     Some(Entry {
-        entry: read_number(place)?,
+        entry: read_place(place)?,
         time: known(time),
         who: known(who),
         call,
         reply,
     })
+}
+
+/// The place of an entry, or that it has none.
+fn read_place(word: &str) -> Option<Option<u32>> {
+    match known(word) {
+        Some(number) => Some(Some(read_number(number)?)),
+        None => Some(None),
+    }
 }
 
 /// Who asked for an entry, as `session 3`, and what stands behind.

@@ -2,7 +2,7 @@ use crate::entry_json;
 use std::test::Fail;
 use test_support::same;
 
-static ENTRIES: [(&str, &str); 8] = [
+static ENTRIES: [(&str, &str); 9] = [
     (
         "4711 2026-11-26T01:45:09.123456Z session 3 down api: done",
         r#"{"entry":4711,"time":"2026-11-26T01:45:09.123456Z","who":"session 3","call":"down api","reply":"done"}"#,
@@ -22,6 +22,10 @@ static ENTRIES: [(&str, &str); 8] = [
     (
         "7 - session 4294967295 stop: stopping",
         r#"{"entry":7,"time":null,"who":"session 4294967295","call":"stop","reply":"stopping"}"#,
+    ),
+    (
+        "- 2026-11-26T01:45:08.000000Z setup up a: done",
+        r#"{"entry":null,"time":"2026-11-26T01:45:08.000000Z","who":"setup","call":"up a","reply":"done"}"#,
     ),
     // The reply is behind the last `: `. A name may hold `:`.
     (

@@ -1,0 +1,5 @@
+mod damage;
+mod files;
+mod lines;
+mod memory;
+mod samples;
