@@ -125,6 +125,7 @@ fn options_of(places: Places<'_>) -> Option<RunOptions<'_>> {
         control: Some(Place::Path(places.control)),
         report: Some(Place::Path(places.report)),
         script: Source::File(places.script),
+        journal: None,
         threads: Some(2),
         bounds,
         is_quiet: true,

@@ -7,7 +7,7 @@ use std::test::Fail;
 use test_support::same;
 
 /// The words behind the program's name, and why they are refused, if they are. `--help` and `--version` refuse to run anything.
-static ROWS: [(&[&str], Option<ErrorKind>); 74] = [
+static ROWS: [(&[&str], Option<ErrorKind>); 79] = [
     (&["body", "0000000000"], None),
     (&["body"], Some(ErrorKind::MissingRequiredArgument)),
     (&["replay"], None),
@@ -212,6 +212,11 @@ static ROWS: [(&[&str], Option<ErrorKind>); 74] = [
         Some(ErrorKind::ValueValidation),
     ),
     (&["history", "--help"], Some(ErrorKind::DisplayHelp)),
+    (&["journal", "/j"], None),
+    (&["journal", "--json", "/j"], None),
+    (&["journal"], Some(ErrorKind::MissingRequiredArgument)),
+    (&["journal", "/j", "/k"], Some(ErrorKind::UnknownArgument)),
+    (&["journal", "--help"], Some(ErrorKind::DisplayHelp)),
 ];
 
 fn expect_kind(alloc: Global, words: &[&str], expected: Option<ErrorKind>) -> Result<(), Fail> {
@@ -313,6 +318,14 @@ const HISTORY_HELP_PARTS: [&str; 7] = [
     "healthd history --control /run/healthd.sock --last 20",
 ];
 
+/// What the help of `journal` has to say: what it prints, and of which file.
+const JOURNAL_HELP_PARTS: [&str; 4] = [
+    "<PATH>",
+    "--json",
+    "also while a server writes",
+    "healthd journal /var/lib/healthd/journal",
+];
+
 fn expect_help(alloc: Global, name: &str, parts: &[&str]) -> Result<(), Fail> {
     let words = ["healthd", name, "--help"];
     let Err(help) = command(alloc)?.try_get_matches_from(words.as_slice()) else {
@@ -331,7 +344,8 @@ fn tells_the_options_of_each_command(rt: HostRuntime) -> Result<(), Fail> {
     expect_help(rt.alloc(), "ask", &ASK_HELP)?;
     expect_help(rt.alloc(), "tell", &TELL_HELP_PARTS)?;
     expect_help(rt.alloc(), "status", &STATUS_HELP_PARTS)?;
-    expect_help(rt.alloc(), "history", &HISTORY_HELP_PARTS)
+    expect_help(rt.alloc(), "history", &HISTORY_HELP_PARTS)?;
+    expect_help(rt.alloc(), "journal", &JOURNAL_HELP_PARTS)
 }
 
 fn expect_refusal(alloc: Global, error: &clap::Error, begin: &str) -> Result<(), Fail> {

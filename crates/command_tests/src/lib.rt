@@ -36,6 +36,8 @@ mod run_options;
 #[cfg(test)]
 mod serve;
 #[cfg(test)]
+mod show_journal;
+#[cfg(test)]
 mod tell;
 #[cfg(test)]
 mod tell_failure;

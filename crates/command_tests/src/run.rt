@@ -3,6 +3,8 @@ use commands::cause::Cause;
 use commands::run::{listening_line, script_bytes, set_up};
 use commands::run_failure::RunFailure;
 use commands::run_options::Source;
+use desk_core::KeepMany;
+use probe_core::Manual;
 use std::alloc::Global;
 use std::io;
 use std::rt::Files;
@@ -53,7 +55,7 @@ fn expect_failure<R: Wait>(
     script: &[u8],
     expected: &str,
 ) -> Result<(), Fail> {
-    let told = match set_up(rt, alloc, &Manuals, script, 1) {
+    let told = match set_up::<R, Manual, KeepMany, Manuals>(rt, alloc, &Manuals, script, 1) {
         Ok(_) => String::new(alloc),
         Err(failure) => format!(in alloc; "{failure}")?,
     };

@@ -1,4 +1,5 @@
 use commands::cause::Cause;
+use commands::journal_cause::JournalCause;
 use commands::run_failure::{RunFailure, script_failure};
 use commands::run_options::Source;
 use control::Place;
@@ -68,6 +69,26 @@ fn tells_each_fault_with_its_cause(rt: HostRuntime) -> Result<(), Fail> {
         (
             RunFailure::Bind(Place::Path("/run/healthd"), cause(98)),
             "bind /run/healthd: address in use",
+        ),
+        (
+            RunFailure::Journal("/j", JournalCause::System(cause(28))),
+            "journal /j: no storage space",
+        ),
+        (
+            RunFailure::Journal("/j", JournalCause::InUse),
+            "journal /j: in use",
+        ),
+        (
+            RunFailure::Journal("/j", JournalCause::NotAFile),
+            "journal /j: not a file",
+        ),
+        (
+            RunFailure::Journal("/j", JournalCause::AnotherCatalogue),
+            "journal /j: another catalogue",
+        ),
+        (
+            RunFailure::Journal("/j", JournalCause::Damaged(4_096)),
+            "journal /j: damaged at byte 4096",
         ),
         (RunFailure::TooFewFiles, "too few open files"),
         (

@@ -7,19 +7,28 @@ use std::net::SocketAddr;
 use std::test::Fail;
 use test_support::same;
 
-/// The words behind `run`, and what is read of them: where it listens, the script, the threads, the connections, the Watches, and whether
-/// there is no log.
+/// The words behind `run`, and what is read of them: where it listens, the script, the journal, the threads, the connections, the Watches, and
+/// whether there is no log.
 type Row<'a> = (
     &'a [&'a str],
-    (&'a str, Source<'a>, Option<u16>, u32, u32, bool),
+    (
+        &'a str,
+        Source<'a>,
+        Option<&'a str>,
+        Option<u16>,
+        u32,
+        u32,
+        bool,
+    ),
 );
 
-const ROWS: [Row<'static>; 9] = [
+const ROWS: [Row<'static>; 10] = [
     (
         &[],
         (
             "127.0.0.1:8080",
             Source::StandardInput,
+            None,
             None,
             10_000,
             9_000,
@@ -32,6 +41,7 @@ const ROWS: [Row<'static>; 9] = [
             "0.0.0.0:80",
             Source::File("/etc/healthd"),
             None,
+            None,
             10_000,
             9_000,
             false,
@@ -42,6 +52,7 @@ const ROWS: [Row<'static>; 9] = [
         (
             "[::1]:0",
             Source::StandardInput,
+            None,
             Some(64),
             10_000,
             9_000,
@@ -53,6 +64,7 @@ const ROWS: [Row<'static>; 9] = [
         (
             "127.0.0.1:8080",
             Source::StandardInput,
+            None,
             Some(1),
             1_000_000,
             900_000,
@@ -61,15 +73,39 @@ const ROWS: [Row<'static>; 9] = [
     ),
     (
         &["--connections", "19"],
-        ("127.0.0.1:8080", Source::StandardInput, None, 19, 17, false),
+        (
+            "127.0.0.1:8080",
+            Source::StandardInput,
+            None,
+            None,
+            19,
+            17,
+            false,
+        ),
     ),
     (
         &["--connections", "1"],
-        ("127.0.0.1:8080", Source::StandardInput, None, 1, 0, false),
+        (
+            "127.0.0.1:8080",
+            Source::StandardInput,
+            None,
+            None,
+            1,
+            0,
+            false,
+        ),
     ),
     (
         &["--connections", "5", "--watches", "5"],
-        ("127.0.0.1:8080", Source::StandardInput, None, 5, 5, false),
+        (
+            "127.0.0.1:8080",
+            Source::StandardInput,
+            None,
+            None,
+            5,
+            5,
+            false,
+        ),
     ),
     (
         &["--watches", "0"],
@@ -77,8 +113,21 @@ const ROWS: [Row<'static>; 9] = [
             "127.0.0.1:8080",
             Source::StandardInput,
             None,
+            None,
             10_000,
             0,
+            false,
+        ),
+    ),
+    (
+        &["--journal", "/var/lib/healthd/journal"],
+        (
+            "127.0.0.1:8080",
+            Source::StandardInput,
+            Some("/var/lib/healthd/journal"),
+            None,
+            10_000,
+            9_000,
             false,
         ),
     ),
@@ -87,6 +136,7 @@ const ROWS: [Row<'static>; 9] = [
         (
             "127.0.0.1:8080",
             Source::StandardInput,
+            None,
             None,
             10_000,
             9_000,
@@ -106,13 +156,14 @@ fn words_of<'a>(alloc: Global, options: &[&'a str]) -> Result<Vec<&'a str>, Fail
 fn expect_read(alloc: Global, row: &Row<'_>) -> Result<(), Fail> {
     let words = words_of(alloc, row.0)?;
     let matches = command(alloc)?.try_get_matches_from(words.as_slice())?;
-    let (listen, script, threads, connections, watches, is_quiet) = row.1;
+    let (listen, script, journal, threads, connections, watches, is_quiet) = row.1;
     let expected = match (listen.parse(), Bounds::new(connections, watches)) {
         (Ok(listen), Some(bounds)) => Some(Ok(RunOptions {
             listen,
             control: None,
             report: None,
             script,
+            journal,
             threads,
             bounds,
             is_quiet,

@@ -1,18 +1,20 @@
 -- What a setup leaves behind whose changes were all made.
-use Rattle.std.proofs.Common.{◌≡◌, IfNone, ℕ, suc, ◌<◌, ◌≤◌, Option, None, List, [], ◌∷◌, ◌++◌, length, Result, refl, sym, ap, subst, ◌∙◌, arith}
-use Rattle.std.specs.List.{All}
+use Rattle.std.proofs.Common.{◌≡◌, IfNone, ℕ, suc, ◌<◌, ◌≤◌, Option, None, Some, List, [], ◌∷◌, ◌++◌, length, Result, Ok, Err, refl, sym, ap, subst, ◌∙◌, arith}
+use Rattle.std.specs.List.{All, slice_index_or}
 use Rattle.std.proofs.lemmas.Bool.Decides.{nat_tests}
-use Rattle.std.proofs.lemmas.List.{length-set}
-use Rattle.std.proofs.lemmas.List.FromFn.{length-map-range_with_len}
-use Rattle.std.proofs.lemmas.List.Elements.{All-head, All-push, All-tail}
+use Rattle.std.proofs.lemmas.List.Elements.{All-cons, All-head, All-map, All-push, All-tail}
 use Rattle.desk_core.specs.declared.call.Call.{Call}
 use Rattle.desk_core.specs.declared.entry.Entry.{Entry}
 use Rattle.desk_core.specs.declared.refusal.Refusal.{Refusal}
 use Rattle.desk_core.specs.declared.reply.Reply.{Reply}
-use Rattle.desk_core.specs.Mutation.{AreAnswered, Ends, Then, IsAnswered, Taken, NotListed, BadRule, Full, NoMemory, NotStored}
+use Rattle.desk_core.specs.Mutation.{AreAnswered, Ends, Then, IsAnswered, Taken, NotListed, BadRule, Full, NoMemory, NotStored, entry_of}
 use Rattle.hall.specs.Seats.{HallState, SeatState, IsCarriedOut, new_seats}
 use Rattle.hall.specs.CarriedOut.{replied}
+use Rattle.server.specs.Again.{changes_of, replies_of}
 use Rattle.server.specs.Setup.{SetUpState, AreSetUp}
+use Rattle.durable.specs.Journal.{AreOfFirst}
+use Rattle.commands.specs.Journaled.{IsSetupOf}
+use Rattle.server.proofs.OwnLemmas.{seats_dealt}
 use Rattle.live_run.specs.declared.run_fault.RunFault.{RunFault}
 use Rattle.live_run.specs.declared.run_fault.RunFault.TheVariants as faults
 use Rattle.live_run.specs.declared.refused_line.RefusedLine.{RefusedLine}
@@ -27,33 +29,30 @@ use Rattle.commands.specs.declared.run_failure.RunFailure.TheVariants.{Refused}
 use Rattle.live_server.specs.Loop.{EventServer}
 use Rattle.live_server.specs.declared.places.Limits.{Limits}
 use Rattle.live_server.specs.Loop.{empty_table, held_by}
-use Rattle.commands.specs.Run.{AreLoopsOf, AreMadeAlone, EndsSetUp, IsWhollySetUp}
+use Rattle.commands.specs.Run.{AreLoopsOf, AreMadeAlone, EndsSetUp, HasReply, IsWhollySetUp}
 
--- a change that was made has one entry
+-- a change that got a reply has one entry
 one_made : (n most seat : ℕ) (before after : List Entry) (call : Option Call) (result : Result Reply Refusal) (calls : List (Option Call)) (results : List (Result Reply Refusal))
-    → IsAnswered most seat before after call result → IsMade result → length (replied n (call ∷ calls) (result ∷ results)) ≡ suc (length (replied n calls results))
-one_made n most seat before after _ _ calls results (Taken call reply lawful room reply_is is) made = refl
-one_made n most seat before after _ _ calls results (NotListed same) made = let no : ⊥ = cc in absurd no
-one_made n most seat before after _ _ calls results (BadRule call unlawful same) made = let no : ⊥ = cc in absurd no
-one_made n most seat before after _ _ calls results (Full call lawful full same) made = let no : ⊥ = cc in absurd no
-one_made n most seat before after _ _ calls results (NoMemory call lawful room same) made = let no : ⊥ = cc in absurd no
-one_made n most seat before after _ _ calls results (NotStored call lawful room same) made = let no : ⊥ = cc in absurd no
+    → IsAnswered most seat before after call result → HasReply result → length (replied n (call ∷ calls) (result ∷ results)) ≡ suc (length (replied n calls results))
+one_made n most seat before after _ _ calls results (Taken call reply lawful room reply_is is) has = refl
+one_made n most seat before after _ _ calls results (NotListed same) has = absurd has
+one_made n most seat before after _ _ calls results (BadRule call unlawful same) has = absurd has
+one_made n most seat before after _ _ calls results (Full call lawful full same) has = absurd has
+one_made n most seat before after _ _ calls results (NoMemory call lawful room same) has = absurd has
+one_made n most seat before after _ _ calls results (NotStored call lawful room same) has = absurd has
 
 -- so there are as many entries as results
-pub all_made : (n : ℕ) (old new : SeatState) (calls : List (Option Call)) (results : List (Result Reply Refusal)) → AreAnswered IsCarriedOut old new calls results
-    → All IsMade results → length (replied n calls results) ≡ length results
-all_made n old new calls results (Ends seat) made = refl
-all_made n old new calls results (Then old' between new' call result calls' results' met rest) made =
-    one_made n old.most old.number met.before between.seen call result calls' results' met.answer (All-head IsMade result results' made)
-    ∙ ap suc (all_made n between new calls' results' rest (All-tail IsMade result results' made))
+all_made : (n : ℕ) (old new : SeatState) (calls : List (Option Call)) (results : List (Result Reply Refusal)) → AreAnswered IsCarriedOut old new calls results
+    → All HasReply results → length (replied n calls results) ≡ length results
+all_made n old new calls results (Ends seat) has = refl
+all_made n old new calls results (Then old' between new' call result calls' results' met rest) has =
+    one_made n old.most old.number met.before between.seen call result calls' results' met.answer (All-head HasReply result results' has)
+    ∙ ap suc (all_made n between new calls' results' rest (All-tail HasReply result results' has))
 
--- all seats are there that were dealt out
-pub seats_dealt : (hall : HallState) (most count : ℕ) (calls : List (Option Call)) (results : List (Result Reply Refusal)) (seats : List SeatState)
-    → AreSetUp calls results (new_seats hall.table most count) seats → length seats ≡ count
-seats_dealt hall most count calls results seats set =
-    ap length set.others
-    ∙ (length-set (new_seats hall.table most count) 0 set.first
-    ∙ length-map-range_with_len (λ number. record { table = hall.table; most = most; number = number; seen = [] }) 0 count)
+-- a change that was made got a reply
+has_reply : (result : Result Reply Refusal) → IsMade result → HasReply result
+has_reply (Ok reply) made = tt
+has_reply (Err refusal) made = let no : ⊥ = cc in absurd no
 
 -- a hall that was set up with so many entries and seats
 set_up_with : (calls : List (Option Call)) (made : SetUpState) (most count : ℕ) → made.hall.most ≡ most → made.hall.seats ≡ count
@@ -84,7 +83,7 @@ pub wholly_set_up : (calls : List (Option Call)) (made : SetUpState) (most count
     → AreSetUp calls made.results (new_seats made.hall.table most count) made.seats → All IsMade made.results → IsWhollySetUp calls made
 wholly_set_up calls made most count most_is seats_are set changes = record {
   set_up = set_up_with calls made most count most_is seats_are set;
-  changes = changes;
+  replies = λ place other below. has_reply (slice_index_or made.results place other) (changes place other below);
   all = seats_dealt made.hall most count calls made.results made.seats set ∙ sym seats_are;
 }
 
@@ -93,7 +92,7 @@ pub all_entries : (calls : List (Option Call)) (made : SetUpState) (journal : Li
     → length journal ≡ length made.results
 all_entries calls made journal whole is =
     let met = whole.set_up.met whole.set_up.first in
-    ap length is ∙ all_made 0 _ whole.set_up.first calls made.results met.done whole.changes
+    ap length is ∙ all_made 0 _ whole.set_up.first calls made.results met.done whole.replies
 
 -- loops that have a seat each behind the first are not refused
 no_fault : (loops seats : ℕ) → 1 ≤ loops → loops < seats → run_fault loops seats ≡ None
@@ -119,3 +118,23 @@ pub one_loop_more : (limits : Limits) (old new : List EventServer) (server : Eve
     → held_by server ≡ empty_table limits → AreLoopsOf limits new
 one_loop_more limits old new server pushed all empty =
     subst (AreLoopsOf limits) (sym pushed) (All-push (λ server. held_by server ≡ empty_table limits) old server all empty)
+
+-- a hall whose first seat has made the changes of a journal's entries again
+pub wholly_again : (journal : List Entry) (made : SetUpState) (count : ℕ) → made.hall.seats ≡ count
+    → AreSetUp (changes_of journal) made.results (new_seats made.hall.table made.hall.most count) made.seats → made.results ≡ replies_of journal → IsWhollySetUp (changes_of journal) made
+wholly_again journal made count seats_are set replies = record {
+  set_up = subst (λ n. AreSetUp (changes_of journal) made.results (new_seats made.hall.table made.hall.most n) made.seats) (sym seats_are) set;
+  replies = subst (All HasReply) (sym replies) (All-map HasReply (λ entry. Ok entry.reply) journal (λ place other below. tt));
+  all = seats_dealt made.hall made.hall.most count (changes_of journal) made.results made.seats set ∙ sym seats_are;
+}
+
+-- the entries of a setup are of the first seat
+first_replied : (calls : List (Option Call)) (results : List (Result Reply Refusal)) → AreOfFirst (replied 0 calls results)
+first_replied [] results = λ place other below. absurd (omega (arith, below))
+first_replied (call ∷ calls) [] = λ place other below. absurd (omega (arith, below))
+first_replied (Some call ∷ calls) (Ok reply ∷ results) = All-cons (λ entry. entry.seat ≡ 0) (entry_of 0 call reply) (replied 0 calls results) refl (first_replied calls results)
+first_replied (None ∷ calls) (Ok reply ∷ results) = first_replied calls results
+first_replied (call ∷ calls) (Err refusal ∷ results) = first_replied calls results
+
+pub setup_first : (bytes : List ℕ) (entries : List Entry) → IsSetupOf bytes entries → AreOfFirst entries
+setup_first bytes entries is = subst AreOfFirst (sym is.entries_are) (first_replied (line_changes is.script.names is.script.lines) is.results)

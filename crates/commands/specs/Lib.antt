@@ -3,6 +3,7 @@ pub mod AskFailure
 pub mod Bounds
 pub mod Expect
 pub mod Fault
+pub mod Journaled
 pub mod Replay
 pub mod Expected
 pub mod Run

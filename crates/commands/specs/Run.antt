@@ -1,5 +1,5 @@
 -- How the command `run` sets its hall up, and how much its loops may hold.
-use Rattle.std.specs.Prelude.{ℕ, ◌≡◌, List, [], length, string_bytes, Option, Result}
+use Rattle.std.specs.Prelude.{ℕ, ◌≡◌, List, [], length, string_bytes, Option, Result, Ok, Err}
 use Rattle.std.specs.List.{All}
 use Rattle.desk_core.specs.declared.call.Call.{Call}
 use Rattle.desk_core.specs.declared.entry.Entry.{Entry}
@@ -19,15 +19,21 @@ use Rattle.live_run.specs.declared.refused_line.RefusedLine.{RefusedLine}
 use Rattle.live_run.specs.RefusedLine.{IsFirstRefused, IsMade}
 use Rattle.commands.specs.declared.bounds.Bounds.{Bounds}
 use Rattle.commands.specs.declared.run_failure.RunFailure.{RunFailure}
-use Rattle.commands.specs.declared.run_failure.RunFailure.TheVariants.{Read, Script, Refused, Bind, TooFewFiles, HandedOver, EventLoop, Write, OutOfMemory}
+use Rattle.commands.specs.declared.run_failure.RunFailure.TheVariants.{Read, Script, Refused, Bind, Journal, TooFewFiles, HandedOver, EventLoop, Write, OutOfMemory}
 
--- a hall whose first seat alone has made changes: these, and each as it was asked for
+-- a change got a reply
+abbrev pub HasReply : Result Reply Refusal → Type 0
+HasReply (Ok reply) = Unit {0}
+HasReply (Err refusal) = ⊥
+
+-- a hall whose first seat alone has made changes: these, each of which got a reply
 pub record IsWhollySetUp (calls : List (Option Call)) (made : SetUpState) : Type 0 where
   pub set_up : AreSetUp calls made.results (new_seats made.hall.table made.hall.most made.hall.seats) made.seats
-  pub changes : All IsMade made.results
+  pub replies : All HasReply made.results
   pub all : length made.seats ≡ made.hall.seats
 
--- the bytes are a script to run, and the hall has its names, may have its most entries, has so many seats, and is set up by its lines
+-- the bytes are a script to run, and the hall has its names, may have its most entries, has so many seats, and is set up by its lines, each of
+-- whose changes was made as it was asked for
 pub record IsSetUpBy (bytes : List ℕ) (seats : ℕ) (made : SetUpState) : Type 0 where
   pub script : ScriptParts
   pub is : IsScript Run bytes script
@@ -35,6 +41,7 @@ pub record IsSetUpBy (bytes : List ℕ) (seats : ℕ) (made : SetUpState) : Type
   pub most : made.hall.most ≡ script.max
   pub seats_are : made.hall.seats ≡ seats
   pub whole : IsWhollySetUp (line_changes script.names script.lines) made
+  pub changes : All IsMade made.results
 
 -- a registry whose history may have so many entries comes to these results where one thread makes these changes, one after the other,
 -- from the empty history on
@@ -57,6 +64,7 @@ EndsSetUp bytes (Read source cause) = ⊥
 EndsSetUp bytes (Script fault text) = IsScriptFault Run bytes fault × IsExplanation bytes fault (string_bytes text)
 EndsSetUp bytes (Refused line) = IsRefusedLine bytes line
 EndsSetUp bytes (Bind addr cause) = ⊥
+EndsSetUp bytes (Journal path cause) = ⊥
 EndsSetUp bytes TooFewFiles = ⊥
 EndsSetUp bytes HandedOver = ⊥
 EndsSetUp bytes (EventLoop cause) = ⊥

@@ -4,7 +4,7 @@ use Rattle.script.specs.declared.script_fault.ScriptFault.{ScriptFault}
 use Rattle.script.specs.declared.script_fault.ScriptFault.TheVariants.{NoMemory}
 use Rattle.script.specs.Explanation.{IsExplanation}
 use Rattle.commands.specs.declared.run_failure.RunFailure.{RunFailure}
-use Rattle.commands.specs.declared.run_failure.RunFailure.TheVariants.{Read, Script, Refused, Bind, TooFewFiles, HandedOver, EventLoop, Write, OutOfMemory}
+use Rattle.commands.specs.declared.run_failure.RunFailure.TheVariants.{Read, Script, Refused, Bind, Journal, TooFewFiles, HandedOver, EventLoop, Write, OutOfMemory}
 
 -- the failure of a run whose bytes have this fault as a script: the fault with what is said of it, or out of memory
 abbrev pub IsScriptFailure : List ℕ → ScriptFault → RunFailure → Type 0
@@ -12,6 +12,7 @@ IsScriptFailure bytes fault (Read source cause) = ⊥
 IsScriptFailure bytes fault (Script told text) = (told ≡ fault) × (fault ≢ NoMemory) × IsExplanation bytes fault (string_bytes text)
 IsScriptFailure bytes fault (Refused line) = ⊥
 IsScriptFailure bytes fault (Bind place cause) = ⊥
+IsScriptFailure bytes fault (Journal path cause) = ⊥
 IsScriptFailure bytes fault TooFewFiles = ⊥
 IsScriptFailure bytes fault HandedOver = ⊥
 IsScriptFailure bytes fault (EventLoop cause) = ⊥

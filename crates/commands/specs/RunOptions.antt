@@ -1,5 +1,6 @@
 -- Which option of the command line is read where.
 use Rattle.std.specs.Prelude.{◌≡◌, ◌<◌, ◌⊎◌, ℕ, Bool, true, false, List, Option, None, Some, Result, codes, unwrap_or, []}
+use Rattle.std.specs.Borrow.{Bor}
 use Rattle.clap.specs.Words.{first_value, one_text, ReadsOne}
 use Rattle.clap.specs.declared.parser.matches.Found.{Found}
 use Rattle.control.specs.declared.place.Place.{Place}
@@ -15,6 +16,11 @@ use Rattle.commands.specs.declared.run_options.Source.TheVariants.{StandardInput
 abbrev pub path_of : Source → Option (List ℕ)
 path_of StandardInput = None
 path_of (File path) = Some path.now
+
+-- a text, where there is one
+abbrev pub text_of : Option (Bor (List ℕ)) → Option (List ℕ)
+text_of None = None
+text_of (Some text) = Some text.now
 
 -- the option of this name is read as this value, as its type reads a text: none where there is no such option, or its text is none
 pub record IsReadAs {T E : Type 0} (gives : List ℕ → Result T E → Type 0) (found : Found) (name : List ℕ) (value : Option T) : Type 0 where

@@ -87,6 +87,15 @@ For example
 
 With --follow, history ends with exit status 0 where the server ends.";
 
+const JOURNAL_HELP: &str = "\
+Each entry is a line as healthd history has it: its place in the history, when it was made and by \
+whom, the change, and what it came to. A file that was written anew begins with entries that stand \
+for older ones: they have - in place of theirs. The file is only read, also while a server writes \
+it. For example
+
+  healthd journal /var/lib/healthd/journal
+  healthd journal /var/lib/healthd/journal --json";
+
 /// The command line. A command that is not listed here is refused with clap's text.
 pub fn command<'a>(alloc: Global) -> Result<Command<'a>, AllocError> {
     with_scripts(alloc)?
@@ -94,7 +103,8 @@ pub fn command<'a>(alloc: Global) -> Result<Command<'a>, AllocError> {
         .subcommand(ask(alloc)?)?
         .subcommand(tell(alloc)?)?
         .subcommand(status(alloc)?)?
-        .subcommand(history(alloc)?)
+        .subcommand(history(alloc)?)?
+        .subcommand(journal_file(alloc)?)
 }
 
 /// The program, with the commands that read all that they are told from their words and from standard input.
@@ -167,6 +177,7 @@ fn run<'a>(alloc: Global) -> Result<Command<'a>, AllocError> {
         .arg(control(alloc))?
         .arg(report(alloc))?
         .arg(script)?
+        .arg(journal(alloc))?
         .arg(threads)?
         .arg(connections(alloc))?
         .arg(watches(alloc))?
@@ -196,6 +207,15 @@ fn report<'a>(alloc: Global) -> Arg<'a> {
         .value_name("PLACE")
         .help(
             "Where findings are reported, as by healthd tell, and nothing else is changed: a loopback address and a port, or a path of a Unix socket that its owner's group may open too, e.g. /run/healthd-report.sock; without it findings are reported at the control place",
+        )
+}
+
+fn journal<'a>(alloc: Global) -> Arg<'a> {
+    Arg::new(alloc, "journal")
+        .long("journal")
+        .value_name("PATH")
+        .help(
+            "The file that the history is kept in, which a restart goes on from, e.g. /var/lib/healthd/journal; without it a restart begins with the script again",
         )
 }
 
@@ -443,4 +463,16 @@ fn port<'a>(alloc: Global) -> Arg<'a> {
 /// The port that a command is given, which it has to be.
 pub fn port_in(matches: &ArgMatches<'_>) -> u16 {
     matches.get_one::<u16>("port").unwrap_or(0)
+}
+
+fn journal_file<'a>(alloc: Global) -> Result<Command<'a>, AllocError> {
+    let path = Arg::new(alloc, "PATH")
+        .help("The file of the journal, e.g. /var/lib/healthd/journal")
+        .required(true);
+    let json = json(alloc, "Print an object of JSON for each entry, one a line");
+    Command::new(alloc, "journal")
+        .about("Print the changes that are in the file of a journal, the oldest first")
+        .after_help(JOURNAL_HELP)
+        .arg(path)?
+        .arg(json)
 }

@@ -6,8 +6,7 @@ ghost use Rattle.script.specs.declared.script_fault.ScriptFault.TheVariants.{NoM
 ghost use Rattle.commands.specs.Expected.{IsExpectedBy, IsUnexpected};
 
 use crate::run_failure::{RunFailure, failure_by};
-use chronicle::{Who, wall_micros};
-use desk_core::KeepMany;
+use desk_core::Keep;
 use diary::{Diary, Setup};
 use live_run::{Gauges, RefusedLine, WatchdogLoop};
 use live_server::News;
@@ -121,21 +120,19 @@ impl Watching {
 }
 
 /// How many entries the setup made.
-pub(crate) fn entries_of<P: Probe>(made: &SetUpHall<P, KeepMany>) -> u32 {
+pub(crate) fn entries_of<P: Probe, K: Keep>(made: &SetUpHall<P, K>) -> u32 {
     u32::try_from(made.results().len()).unwrap_or(u32::MAX)
 }
 
 /// A watchdog over a hall that is set up, from whose last entry on this is expected.
-pub fn watch_over<'a, R: Net + Clock, P: Probe>(
+pub fn watch_over<'a, R: Net + Clock, P: Probe, K: Keep>(
     rt: &R,
     alloc: Global,
-    made: &SetUpHall<P, KeepMany>,
+    made: &SetUpHall<P, K>,
     expected: &[Expected],
+    expectations: Arc<Expectations>,
 ) -> Result<Watching, RunFailure<'a>> {
-    let expectations = Arc::new(alloc, Expectations::new(alloc)?)?;
     let behind = entries_of(made);
-    let chronicle = expectations.chronicle();
-    chronicle.note_all(behind, wall_micros(rt), Who::Setup);
     for Expected { slot, seconds } in expected {
         let wish = Wish {
             seconds: *seconds,

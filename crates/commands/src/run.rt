@@ -1,5 +1,5 @@
 ghost use Rattle.std.specs.Net.Text.{socket_text};
-ghost use Rattle.std.specs.Prelude.{◌≡◌, ◌↔◌, ◌≤◌, ◌<◌, ◌++◌, [], List, Option, None, Some, IfOk, IfErr, IfSome, IsSome, codes, decimal, drop, length, string_bytes, vec_len};
+ghost use Rattle.std.specs.Prelude.{◌≡◌, ◌↔◌, ◌≤◌, ◌<◌, ◌+◌, ◌++◌, [], List, Option, None, Some, IfOk, IfErr, IfSome, IsSome, true, codes, decimal, drop, length, string_bytes, vec_len};
 ghost use Rattle.desk_core.specs.declared.call.Call.{Call};
 ghost use Rattle.desk_core.specs.Past.{past};
 ghost use Rattle.hall.specs.Seats.{new_seats};
@@ -18,12 +18,14 @@ use crate::bounds::{Bounds, MAX_LOOPS};
 use crate::expected::{entries_of, expected_in, first_failure, waking, watch_over};
 use crate::files::{bounds_within, reserved};
 use crate::input::read_script_bytes;
+use crate::journaled::set_up_over;
 use crate::run_failure::{RunFailure, failure_by, script_failure};
 use crate::run_options::{RunOptions, Source};
 use crate::supervisor::Supervisor;
+use chronicle::{Who, wall_micros};
 use control::{Access, ControlListener, Place, Rights, Terms};
 use control_server::{ControlServer, MAX_SESSIONS, SESSION_SEATS};
-use desk_core::KeepMany;
+use desk_core::{Keep, KeepAll, KeepMany};
 use diary::{Held, Setup};
 use handover::{HandedOver, Notifier};
 use live_run::{Gauges, Ran, RefusedLine, RunFault, SessionPlaces, first_refused, run_live};
@@ -33,6 +35,7 @@ use probe_core::{Maker, Probe};
 use script::{Expected, Mode, read_script};
 use server::{SetUpHall, hall_of};
 use std::alloc::{AllocError, Global};
+use std::fs::File;
 use std::net::{Net, SocketAddr, TcpListener, TcpStream};
 use std::rt::Files;
 use std::sync::{Arc, Wait};
@@ -53,12 +56,13 @@ where
         + Print
         + Eprint
         + AllocGlobal
-        + Files
+        + Files<File = File>
         + Clock
         + Wait
         + Threads
         + Sync
         + Net<Listener = TcpListener, Stream = TcpStream>,
+    R::Dir: Send + Sync,
 {
     let alloc = rt.alloc();
     let bytes = script_bytes(rt, alloc, options.script)?;
@@ -66,19 +70,162 @@ where
     let bounds = bounded(rt, alloc, options, threads)?;
     let options = RunOptions { bounds, ..options };
     let loops = bounds.loops(threads);
-    let made = set_up(rt, alloc, maker, &bytes, loops + 1 + 2 * SESSION_SEATS);
-    let (made, expected) = match expected_in(alloc, &bytes)? {
+    match options.journal {
+        None => run_from_script(rt, maker, &bytes, options, loops, supervisor),
+        Some(path) => run_from_journal(rt, maker, &bytes, options, loops, path, supervisor),
+    }
+}
+
+/// How many seats a hall has for so many loops: one more that sets it up, and those of both places for sessions.
+fn seats_for(loops: u16) -> u16
+    requires few { loops ≤ 64 }
+    ensures { result ≡ loops + 65 }
+{
+    loops + 1 + 2 * SESSION_SEATS
+}
+
+/// The same, where a restart begins with the script again.
+fn run_from_script<'a, R, P: Probe + Send, M: Maker<P> + Sync>(
+    rt: &R,
+    maker: &M,
+    bytes: &[u8],
+    options: RunOptions<'a>,
+    loops: u16,
+    supervisor: Supervisor,
+) -> Result<(), RunFailure<'a>>
+where
+    R: Print
+        + AllocGlobal
+        + Files
+        + Clock
+        + Wait
+        + Threads
+        + Sync
+        + Net<Listener = TcpListener, Stream = TcpStream>,
+    requires some { 1 ≤ loops }
+    requires few { loops ≤ 64 }
+    requires served { loops ≤ options.bounds.connections }
+{
+    let alloc = rt.alloc();
+    let made = set_up::<R, P, KeepMany, M>(rt, alloc, maker, bytes, seats_for(loops));
+    let (made, expected) = match expected_in(alloc, bytes)? {
         Ok(expected) => (made?, expected),
         Err(line) => return Err(first_failure(made.err(), line)),
     };
+    let expectations = Arc::new(alloc, Expectations::new(alloc)?)?;
+    let chronicle = expectations.chronicle();
+    chronicle.note_all(entries_of(&made), wall_micros(rt), Who::Setup);
+    let setting = Setting {
+        options,
+        loops,
+        expected: &expected,
+        expectations,
+    };
+    run_set_up(rt, alloc, maker, made, setting, supervisor)
+}
+
+/// The same, where a restart goes on from the file at this path. What the script expects is looked at before the file is, so that no setup
+/// is put there which a line `expect` ends.
+fn run_from_journal<'a, R, P: Probe + Send, M: Maker<P> + Sync>(
+    rt: &R,
+    maker: &M,
+    bytes: &[u8],
+    options: RunOptions<'a>,
+    loops: u16,
+    path: &'a str,
+    supervisor: Supervisor,
+) -> Result<(), RunFailure<'a>>
+where
+    R: Print
+        + AllocGlobal
+        + Files<File = File>
+        + Clock
+        + Wait
+        + Threads
+        + Sync
+        + Net<Listener = TcpListener, Stream = TcpStream>,
+    R::Dir: Send + Sync,
+    requires some { 1 ≤ loops }
+    requires few { loops ≤ 64 }
+    requires served { loops ≤ options.bounds.connections }
+{
+    let alloc = rt.alloc();
+    let expected = match expected_in(alloc, bytes)? {
+        Ok(expected) => expected,
+        Err(line) => {
+            let made = set_up::<R, P, KeepAll, M>(rt, alloc, maker, bytes, 1);
+            return Err(first_failure(made.err(), line));
+        }
+    };
+    let expectations = Arc::new(alloc, Expectations::new(alloc)?)?;
+    let seats = seats_for(loops);
+    let made = set_up_over(rt, alloc, maker, bytes, seats, path, &expectations)?;
+    let setting = Setting {
+        options,
+        loops,
+        expected: &expected,
+        expectations,
+    };
+    run_set_up(rt, alloc, maker, made, setting, supervisor)
+}
+
+/// What a server is told that runs over a hall that is set up.
+#[derive(Drop)]
+pub struct Setting<'a, 'b> {
+    pub options: RunOptions<'a>,
+    pub loops: u16,
+    /// What the script expects.
+    pub expected: &'b [Expected],
+    pub expectations: Arc<Expectations>,
+}
+
+/// Runs a server over a hall that is set up, until it is told to end.
+fn run_set_up<'a, R, P: Probe + Send, K: Keep + Send, M: Maker<P> + Sync>(
+    rt: &R,
+    alloc: Global,
+    maker: &M,
+    made: SetUpHall<P, K>,
+    setting: Setting<'a, '_>,
+    supervisor: Supervisor,
+) -> Result<(), RunFailure<'a>>
+where
+    R: Print
+        + Files
+        + Clock
+        + Wait
+        + Threads
+        + Sync
+        + Net<Listener = TcpListener, Stream = TcpStream>,
+    requires set_up { (calls : List (Option Call)) × IsWhollySetUp calls made }
+    requires some { 1 ≤ setting.loops }
+    requires enough { setting.loops < made.hall.seats }
+    requires served { setting.loops ≤ setting.options.bounds.connections }
+{
     let Begun {
         servers,
         news,
         places,
-    } = begin(rt, alloc, &made, options, loops, &expected, supervisor)?;
+    } = begin(rt, alloc, &made, setting, supervisor)?;
     let ran = serve_to_end(rt, alloc, made, servers, places, maker, &news)?;
     remove_sockets(rt, &ran);
-    print_line(rt, &journal_line(alloc, &ran)?)
+    let line = journal_line(alloc, &ran)?;
+    // Whoever reads the line may have the journal's file.
+    drop(store_of(ran));
+    print_line(rt, &line)
+}
+
+/// The store that a run leaves, which has its whole history, if it had one.
+fn store_of<P: Probe, K: Keep>(ran: Ran<P, K>) -> Option<K>
+    ensures stands { IfSome result (λ store. K.stands store ran.desk.journal) }
+    ensures left { IfSome result (λ store. K.left store ≡ ran.desk.left) }
+    ensures some { ran.desk.is_stored ≡ true → IsSome result }
+{
+    let Ran {
+        servers: _,
+        places: _,
+        desk,
+    } = ran;
+    desk.into_store()
 }
 
 /// The bounds of a run with so many threads, as far as the files allow that the process may have open. Where they allow less, standard
@@ -115,32 +262,37 @@ pub struct Begun {
 }
 
 /// Listens at all places with so many loops, for a hall that is set up, and prints the lines that tell so.
-pub fn begin<'a, R, P: Probe>(
+pub fn begin<'a, R, P: Probe, K: Keep>(
     rt: &R,
     alloc: Global,
-    made: &SetUpHall<P, KeepMany>,
-    options: RunOptions<'a>,
-    loops: u16,
-    expected: &[Expected],
+    made: &SetUpHall<P, K>,
+    setting: Setting<'a, '_>,
     supervisor: Supervisor,
 ) -> Result<Begun, RunFailure<'a>>
 where
     R: Print + Files + Clock + Net<Listener = TcpListener, Stream = TcpStream>,
     requires set_up { (calls : List (Option Call)) × IsWhollySetUp calls made.now }
-    requires some { 1 ≤ loops }
-    requires served { loops ≤ options.bounds.connections }
-    ensures each { IfOk result (λ begun. vec_len begun.servers ≡ loops) }
-    ensures limits { IfOk result (λ begun. AreLoopsOf (limits_in options.entry.bounds)
+    requires some { 1 ≤ setting.loops }
+    requires served { setting.loops ≤ setting.options.bounds.connections }
+    ensures each { IfOk result (λ begun. vec_len begun.servers ≡ setting.entry.loops) }
+    ensures limits { IfOk result (λ begun. AreLoopsOf (limits_in setting.entry.options.bounds)
         begun.servers.items) }
     ensures controlled { IfOk result (λ begun. IsSome begun.places.control ↔ IsSome
-        options.entry.control) }
+        setting.entry.options.control) }
     ensures reported { IfOk result (λ begun. IsSome begun.places.report ↔ IsSome
-        options.entry.report) }
+        setting.entry.options.report) }
     ensures terms { IfOk result (λ begun. HaveTerms made.now.hall.most begun.places) }
     // where there are no sessions and nothing is expected, no watchdog makes changes
-    ensures unwatched { options.entry.control ≡ None → options.entry.report ≡ None → expected.now ≡ []
+    ensures unwatched { setting.entry.options.control ≡ None
+        → setting.entry.options.report ≡ None → setting.entry.expected.now ≡ []
         → IfOk result (λ begun. begun.places.watchdog ≡ None) }
 {
+    let Setting {
+        options,
+        loops,
+        expected,
+        expectations,
+    } = setting;
     let Supervisor {
         mut sockets,
         notifier,
@@ -152,7 +304,7 @@ where
     let report = sessions_at(rt, alloc, made, options.report, Access::Group)?;
     // Each loop has the socket too, and closes it at the end, so that clients which come late are refused.
     let (servers, news) = event_loops(rt, alloc, &listener, options.bounds.limits(), loops)?;
-    let watching = watch_over(rt, alloc, made, expected)?;
+    let watching = watch_over(rt, alloc, made, expected, expectations)?;
     let news = waking(news, &watching)?;
     let control_line = place_line(alloc, "control", &control)?;
     let report_line = place_line(alloc, "report", &report)?;
@@ -232,13 +384,13 @@ pub fn script_bytes<'a, R: Input + Files>(
 }
 
 /// A hall that the script has set up, with so many seats. It keeps the newest of its entries and status changes.
-pub fn set_up<'a, R: Wait, P: Probe, M: Maker<P>>(
+pub fn set_up<'a, R: Wait, P: Probe, K: Keep, M: Maker<P>>(
     rt: &R,
     alloc: Global,
     maker: &M,
     bytes: &[u8],
     seats: u16,
-) -> Result<SetUpHall<P, KeepMany>, RunFailure<'a>>
+) -> Result<SetUpHall<P, K>, RunFailure<'a>>
     requires some { 1 ≤ seats }
     requires not_too_many { seats ≤ 1024 }
     ensures ok { IfOk result (IsSetUpBy bytes.now seats) }
@@ -257,7 +409,7 @@ pub fn set_up<'a, R: Wait, P: Probe, M: Maker<P>>(
 }
 
 /// The failure of a setup of which a change was not made. The hall is closed, which shows that nobody else has changed it.
-fn refused<'a, P: Probe>(made: SetUpHall<P, KeepMany>, line: RefusedLine) -> RunFailure<'a>
+fn refused<'a, P: Probe, K: Keep>(made: SetUpHall<P, K>, line: RefusedLine) -> RunFailure<'a>
     requires whole { length made.seats ≡ made.hall.seats }
     requires some { 1 ≤ made.hall.seats }
     ensures value { result ≡ Refused line }
@@ -273,9 +425,9 @@ fn refused<'a, P: Probe>(made: SetUpHall<P, KeepMany>, line: RefusedLine) -> Run
 }
 
 /// The socket that calls come to, for a hall that is set up: the first that was handed over, or else one that listens at the address.
-fn listener_of<'a, R, P: Probe>(
+fn listener_of<'a, R, P: Probe, K: Keep>(
     rt: &R,
-    made: &SetUpHall<P, KeepMany>,
+    made: &SetUpHall<P, K>,
     addr: SocketAddr,
     sockets: &mut HandedOver,
 ) -> Result<TcpListener, RunFailure<'a>>
@@ -293,9 +445,9 @@ where
 }
 
 /// A socket that listens and does not wait, for a hall that is set up.
-pub fn listen<'a, R, P: Probe>(
+pub fn listen<'a, R, P: Probe, K: Keep>(
     rt: &R,
-    _made: &SetUpHall<P, KeepMany>,
+    _made: &SetUpHall<P, K>,
     addr: SocketAddr,
 ) -> Result<TcpListener, RunFailure<'a>>
 where
@@ -314,10 +466,10 @@ fn bind_failure<'a>(error: io::Error, place: Place<'a>) -> RunFailure<'a> {
 }
 
 /// A socket that listens at a place for sessions, if there is one, for a hall that is set up.
-pub fn sessions_at<'a, R: Files + Net, P: Probe>(
+pub fn sessions_at<'a, R: Files + Net, P: Probe, K: Keep>(
     rt: &R,
     alloc: Global,
-    _made: &SetUpHall<P, KeepMany>,
+    _made: &SetUpHall<P, K>,
     place: Option<Place<'a>>,
     access: Access,
 ) -> Result<Option<ControlListener>, RunFailure<'a>>
@@ -343,7 +495,11 @@ fn address_of<'a>(listener: &TcpListener, asked: SocketAddr) -> Result<SocketAdd
 }
 
 /// What a diary is told of a hall that is set up, and serves here within these bounds.
-fn setup_of<P: Probe>(made: &SetUpHall<P, KeepMany>, address: SocketAddr, bounds: Bounds) -> Setup {
+fn setup_of<P: Probe, K: Keep>(
+    made: &SetUpHall<P, K>,
+    address: SocketAddr,
+    bounds: Bounds,
+) -> Setup {
     Setup {
         address,
         entries: entries_of(made),
@@ -415,7 +571,7 @@ fn session_line(alloc: Global, word: &str, place: Place<'_>) -> Result<String, A
 }
 
 /// The line that tells how many entries the history has.
-fn journal_line<P: Probe>(alloc: Global, ran: &Ran<P, KeepMany>) -> Result<String, AllocError>
+fn journal_line<P: Probe, K: Keep>(alloc: Global, ran: &Ran<P, K>) -> Result<String, AllocError>
     ensures { IfOk result (λ line. string_bytes line ≡ codes "journal " ++ decimal
         (length ran.now.desk.journal)) }
 {
@@ -506,15 +662,15 @@ fn tallies_of(alloc: Global, servers: &[EventServer]) -> Result<Vec<Arc<Tally>>,
 }
 
 /// Serves until `news` tells that all is to end, and gives back what is left of the hall then.
-pub fn serve_to_end<'a, R, P: Probe + Send, M: Maker<P> + Sync>(
+pub fn serve_to_end<'a, R, P: Probe + Send, K: Keep + Send, M: Maker<P> + Sync>(
     rt: &R,
     alloc: Global,
-    made: SetUpHall<P, KeepMany>,
+    made: SetUpHall<P, K>,
     servers: Vec<EventServer>,
     places: SessionPlaces,
     maker: &M,
     news: &News,
-) -> Result<Ran<P, KeepMany>, RunFailure<'a>>
+) -> Result<Ran<P, K>, RunFailure<'a>>
 where
     R: Clock + Wait + Threads + Sync,
     requires set_up { (calls : List (Option Call)) × IsWhollySetUp calls made }
@@ -523,8 +679,8 @@ where
     requires terms { HaveTerms made.hall.most places }
     ensures servers { IfOk result (λ ran. HaveServedAll servers.items ran.servers.items) }
     // nothing but the setup, the lines of sessions and the watchdog makes changes
-    ensures ran { IfOk result (λ ran. HasRun (Some 65536) places ran.places made.hall
-        (vec_len servers) made.seats (past ran.desk.journal)) }
+    ensures ran { IfOk result (λ ran. HasRun K.kept places ran.places made.hall
+        (vec_len servers) made.seats ran.desk) }
     ensures alone { AreNone places → IfOk result (λ ran. HasRunLoops made.hall
         (vec_len servers) made.seats (past ran.desk.journal)) }
     ensures entries { AreNone places → IfOk result (λ ran. length ran.desk.journal ≡ length
@@ -539,7 +695,7 @@ where
 }
 
 /// Takes the files of the sockets for sessions away, where they have one. Where one stays, the next server takes it over.
-pub fn remove_sockets<R: Files, P: Probe>(rt: &R, ran: &Ran<P, KeepMany>) {
+pub fn remove_sockets<R: Files, P: Probe, K: Keep>(rt: &R, ran: &Ran<P, K>) {
     let SessionPlaces {
         control,
         report,

@@ -5,8 +5,10 @@ ghost use Rattle.commands.specs.declared.run_failure.RunFailure.TheVariants.{Out
 ghost use Rattle.commands.specs.RunFailure.{IsScriptFailure};
 
 use crate::cause::Cause;
+use crate::journal_cause::JournalCause;
 use crate::run_options::Source;
 use control::Place;
+use durable::JournalFault;
 use live_run::RefusedLine;
 use script::{ScriptFault, changed_text, explain};
 use std::alloc::{AllocError, AllocFailed, Global};
@@ -26,6 +28,9 @@ pub enum RunFailure<'a> {
     Refused(RefusedLine),
     #[error("bind {0}: {1}")]
     Bind(Place<'a>, Cause),
+    /// The history can't go on from the file at this path.
+    #[error("journal {0}: {1}")]
+    Journal(&'a str, JournalCause),
     /// The process may have no files open for connections.
     #[error("too few open files")]
     TooFewFiles,
@@ -54,6 +59,14 @@ impl<T: Drop> From<AllocFailed<T>> for RunFailure<'_> {
 
     fn from(_error: AllocFailed<T>) -> Self {
         RunFailure::OutOfMemory
+    }
+}
+
+/// The failure of a run whose history can't go on from the file at this path.
+pub(crate) fn journal_failure<'a>(path: &'a str, fault: JournalFault) -> RunFailure<'a> {
+    match JournalCause::of(fault) {
+        Some(cause) => RunFailure::Journal(path, cause),
+        None => RunFailure::OutOfMemory,
     }
 }
 

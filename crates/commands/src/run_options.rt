@@ -1,6 +1,6 @@
 ghost use Rattle.std.specs.Prelude.{◌≡◌, Some, IfOk, IfErr, codes};
 ghost use Rattle.clap.specs.Words.{found_of, first_value, one_text};
-ghost use Rattle.commands.specs.RunOptions.{AreBoundsIn, IsBadBounds, IsBadControl, IsBadIn, IsBadReport, IsFlagIn, IsPlaceIn, IsReadAs, path_of};
+ghost use Rattle.commands.specs.RunOptions.{AreBoundsIn, IsBadBounds, IsBadControl, IsBadIn, IsBadReport, IsFlagIn, IsPlaceIn, IsReadAs, path_of, text_of};
 
 use crate::bounds::{Bounds, bounds_of};
 use clap::ArgMatches;
@@ -34,6 +34,8 @@ pub struct RunOptions<'a> {
     /// Where findings are reported, if they are.
     pub report: Option<Place<'a>>,
     pub script: Source<'a>,
+    /// The file that the history is kept in, if it is.
+    pub journal: Option<&'a str>,
     /// How many event loops. Without it there are as many as processors.
     pub threads: Option<u16>,
     pub bounds: Bounds,
@@ -91,6 +93,8 @@ impl<'a> RunOptions<'a> {
             (codes "report")) options.report) }
         ensures script { IfOk result (λ options. path_of options.script ≡ first_value
             (found_of matches.now) (codes "script")) }
+        ensures journal { IfOk result (λ options. text_of options.journal ≡ first_value
+            (found_of matches.now) (codes "journal")) }
         ensures threads { IfOk result (λ options. IsReadAs ⟦<u16 as FromStr>⟧.from_str_gives
             (found_of matches.now) (codes "threads") options.threads) }
         ensures bounds { IfOk result (λ options. AreBoundsIn ⟦<u32 as FromStr>⟧.from_str_gives
@@ -110,6 +114,7 @@ impl<'a> RunOptions<'a> {
             control,
             report,
             script: source_in(matches),
+            journal: matches.get_str("journal"),
             threads: matches.get_one::<u16>("threads"),
             bounds,
             is_quiet: matches.get_flag("quiet"),

@@ -7,6 +7,7 @@ use clap::ArgMatches;
 use clap::error::ErrorKind;
 use commands::fault::Fault;
 use commands::run_options::{RunOptions, Source};
+use commands::show_journal::run_journal;
 use commands::supervisor::Supervisor;
 use commands::terminal::is_input_terminal;
 use commands::{ask, body, command, history, replay, run, serve, status, tell};
@@ -14,6 +15,7 @@ use control::is_one_line;
 use probe_core::{Depends, FnMaker, Maker, Manual, Probe, ProbeFn, Rule, Threshold};
 use std::alloc::AllocError;
 use std::fmt::Display;
+use std::fs::File;
 use std::net::{Net, TcpListener, TcpStream};
 use std::process::ExitCode;
 use std::rt::{Env, Files};
@@ -47,13 +49,14 @@ where
         + Print
         + Eprint
         + Env
-        + Files
+        + Files<File = File>
         + Clock
         + AllocGlobal
         + Wait
         + Threads
         + Sync
         + Net<Listener = TcpListener, Stream = TcpStream>,
+    R::Dir: Send + Sync,
 {
     let alloc = rt.alloc();
     let words: Vec<String> = match env::args(rt) {
@@ -78,13 +81,14 @@ where
         + Print
         + Eprint
         + Env
-        + Files
+        + Files<File = File>
         + Clock
         + AllocGlobal
         + Wait
         + Threads
         + Sync
         + Net<Listener = TcpListener, Stream = TcpStream>,
+    R::Dir: Send + Sync,
 {
     let alloc = rt.alloc();
     let make = |rule: Rule| -> Result<Box<dyn Probe + Send>, AllocError>
@@ -115,13 +119,14 @@ where
         + Print
         + Eprint
         + Env
-        + Files
+        + Files<File = File>
         + Clock
         + AllocGlobal
         + Wait
         + Threads
         + Sync
         + Net<Listener = TcpListener, Stream = TcpStream>,
+    R::Dir: Send + Sync,
     requires { F.makes_asked make }
 {
     let maker = FnMaker::new(make);
@@ -134,6 +139,7 @@ where
         Some(("tell", matches)) => return tell_server(rt, matches),
         Some(("status", matches)) => return show_status(rt, matches),
         Some(("history", matches)) => return show_history(rt, matches),
+        Some(("journal", matches)) => return show_journal(rt, matches),
         _ => return Ok(ExitCode::from(REFUSED)),
     }
     Ok(ExitCode::SUCCESS)
@@ -150,13 +156,14 @@ where
     R: Input
         + Print
         + Eprint
-        + Files
+        + Files<File = File>
         + Clock
         + AllocGlobal
         + Wait
         + Threads
         + Sync
         + Net<Listener = TcpListener, Stream = TcpStream>,
+    R::Dir: Send + Sync,
 {
     let options = match RunOptions::read(matches) {
         Ok(options) => options,
@@ -240,6 +247,18 @@ where
     };
     let options = history::options_in(matches);
     match history::run_history(rt, place, tell::timeout_in(matches), options) {
+        Ok(()) => Ok(ExitCode::SUCCESS),
+        Err(failure) => Ok(failed(rt, &failure)),
+    }
+}
+
+/// The command `journal`, whose faults tell their cause.
+fn show_journal<R>(rt: &R, matches: &ArgMatches<'_>) -> Result<ExitCode, Fault>
+where
+    R: Print + Eprint + Files + AllocGlobal,
+{
+    let path = matches.get_str("PATH").unwrap_or("");
+    match run_journal(rt, path, matches.get_flag("json")) {
         Ok(()) => Ok(ExitCode::SUCCESS),
         Err(failure) => Ok(failed(rt, &failure)),
     }

@@ -1,19 +1,23 @@
 -- The history of a hall that was run, where its first seat alone has made changes.
-use Rattle.std.proofs.Common.{◌≡◌, ℕ, zero, suc, ◌+◌, ◌-◌, ◌<◌, ◌≤◌, ◌≢◌, List, [], ◌∷◌, map, length, get_or, sym, refl, ap, subst, ◌∙◌, arith}
-use Rattle.std.specs.Prelude.{Bool, true, false, cond, min, ◌==◌, filter, reverse, Option, None, Some, IfNone, Result, slice_set, vec_len}
-use Rattle.std.specs.List.{All, sum_by, range_with_len}
-use Rattle.std.proofs.lemmas.List.{append-nil, length-map, length-reverse, reverse-reverse}
+use Rattle.std.proofs.Common.{◌≡◌, ℕ, zero, suc, ◌+◌, ◌-◌, ◌<◌, ◌≤◌, ◌≢◌, List, [], length, get_or, sym, refl, ap, subst, ◌∙◌, arith}
+use Rattle.std.specs.Prelude.{min, reverse, Option, None, Some, IfNone, Result, vec_len}
+use Rattle.std.specs.List.{All, slice_index_or, sum_by}
+use Rattle.std.proofs.lemmas.List.{length-map, length-reverse, reverse-reverse}
 use Rattle.std.proofs.lemmas.List.Elements.{All-get_or}
-use Rattle.std.proofs.lemmas.List.Sums.{sum_by-cons}
 use Rattle.desk_core.specs.declared.call.Call.{Call}
 use Rattle.desk_core.specs.declared.entry.Entry.{Entry}
 use Rattle.desk_core.specs.declared.refusal.Refusal.{Refusal}
 use Rattle.desk_core.specs.declared.reply.Reply.{Reply}
+use Rattle.desk_core.specs.Desk.{State}
 use Rattle.desk_core.specs.Legal.{IsLegal}
 use Rattle.desk_core.specs.Past.{past}
-use Rattle.hall.specs.Seats.{HallState, SeatState, IsSeenIn, own_calls, new_seats}
-use Rattle.hall.specs.CarriedOut.{HasCarriedOut, replied}
+use Rattle.desk_core.specs.Watch.{IsOlder}
+use Rattle.hall.specs.Seats.{HallState, SeatState, IsSeenIn, new_seats, own_calls}
+use Rattle.hall.proofs.LookingLemmas.{older_on}
+use Rattle.hall.specs.CarriedOut.{replied}
+use Rattle.hall.specs.TakenBack.{NothingTakenBack}
 use Rattle.server.specs.Setup.{AreSetUp, SetUpState}
+use Rattle.server.proofs.OwnLemmas.{made, alone, own_alone, own_setup}
 use Rattle.live_run.specs.declared.run_fault.RunFault.{RunFault}
 use Rattle.live_run.specs.declared.run_fault.RunFault.TheVariants as faults
 use Rattle.live_server.specs.Loop.{EventServer}
@@ -25,58 +29,7 @@ use Rattle.live_run.specs.Loops.{SeatsHaveLooked, SeatsHaveServed}
 use Rattle.live_run.specs.Seating.{IsSeatingOf, seats_of}
 use Rattle.live_run.specs.WholeRun.{HasRun, HasRunLoops, IsLaterFault, NoMemory, SeatsMissing}
 use Rattle.live_run.proofs.LoopLemmas.{made_nothing}
-
--- how many changes a seat has made
-abbrev made : SeatState → ℕ
-made seat = length (own_calls seat)
-
--- some elements are at most as many as all
-fewer_one : {X : Type 0} (b : Bool) (x : X) (some xs : List X) → length some ≤ length xs → length (cond b (x ∷ some) some) ≤ length (x ∷ xs)
-fewer_one true x some xs few = omega (arith, few)
-fewer_one false x some xs few = omega (arith, few)
-
-fewer : {X : Type 0} (p : X → Bool) (xs : List X) → length (filter p xs) ≤ length xs
-fewer p [] = omega arith
-fewer p (x ∷ xs) = fewer_one (p x) x (filter p xs) xs (fewer p xs)
-
--- where they are as many, they are all
-all_one : {X : Type 0} (b : Bool) (x : X) (some xs : List X) → length some ≤ length xs → (length some ≡ length xs → some ≡ xs) → length (cond b (x ∷ some) some) ≡ length (x ∷ xs)
-    → cond b (x ∷ some) some ≡ x ∷ xs
-all_one true x some xs few same many = ap (λ (all : List _). x ∷ all) (same (omega (arith, many)))
-all_one false x some xs few same many = absurd (omega (arith, few, many))
-
-all_pass : {X : Type 0} (p : X → Bool) (xs : List X) → length (filter p xs) ≡ length xs → filter p xs ≡ xs
-all_pass p [] many = refl
-all_pass p (x ∷ xs) many = all_one (p x) x (filter p xs) xs (fewer p xs) (all_pass p xs) many
-
--- a seat that was dealt out and has seen nothing
-abbrev fresh : HallState → ℕ → SeatState
-fresh hall number = record { table = hall.table; most = hall.most; number = number; seen = [] }
-
--- such seats have made nothing
-unused : (hall : HallState) (first count : ℕ) → sum_by made (map (fresh hall) (range_with_len first count)) ≡ 0
-unused hall first zero = refl
-unused hall first (suc count) =
-    let rest : List SeatState = map (fresh hall) (range_with_len (first + 1) count) in
-    sum_by-cons made (fresh hall first) rest ∙ ap (λ (n : ℕ). made (fresh hall first) + n) (unused hall (first + 1) count)
-
--- all changes are the first seat's
-alone : (hall : HallState) (count : ℕ) (seats : List SeatState) (first : SeatState) → seats ≡ slice_set (new_seats hall.table hall.most (suc count)) 0 first → sum_by made seats ≡ made first
-alone hall count seats first are =
-    let rest : List SeatState = map (fresh hall) (range_with_len 1 count) in
-    let sum : sum_by made seats ≡ made first + sum_by made rest = ap (sum_by made) are ∙ sum_by-cons made first rest in
-    omega (arith, sum, unused hall 1 count)
-
--- its own entries are those that the setup made
-own_setup : (hall : HallState) (calls : List (Option Call)) (results : List (Result Reply Refusal)) (first : SeatState)
-    → HasCarriedOut (record { table = hall.table; most = hall.most; number = 0; seen = [] }) first calls results → (first.number ≡ 0) × (own_calls first ≡ past (replied 0 calls results))
-own_setup hall calls results first carried =
-    (ap (λ (seat : SeatState). seat.number) carried.same, carried.own ∙ append-nil (past (replied 0 calls results)))
-
--- a history that has no more entries than a seat has made of its own is what that seat has made
-own_alone : (history : List Entry) (seat : SeatState) → IsSeenIn history seat → length history ≡ made seat → history ≡ own_calls seat
-own_alone history seat seen many =
-    sym (all_pass (λ entry. entry.seat == seat.number) history (ap length seen.own ∙ sym many)) ∙ seen.own
+use Rattle.live_run.proofs.WatchLemmas.{watched_begins}
 
 -- the journal of a hall that was run, where its first seat alone has made changes
 journal_is : (hall : HallState) (loops count : ℕ) (seats : List SeatState) (journal : List Entry) (calls : List (Option Call)) (results : List (Result Reply Refusal))
@@ -133,9 +86,17 @@ pub controlled_by : {P K : Type 0} (servers : List EventServer) (loops : ℕ) (s
 controlled_by servers loops seats places seating count same are =
     are.control_are ∙ (ap (λ (n : ℕ). min 32 (length places - (1 + n))) (sym count) ∙ ap (λ (all : List SeatState). min 32 (length all - (1 + loops))) same)
 
-pub has_run_beside : (kept : Option ℕ) (places places_now : SessionPlaces) (hall own : HallState) (loops controlled : ℕ) (seats after : List SeatState) (journal : List Entry) → own ≡ hall → controlled ≡ min 32 (length seats - (1 + loops)) → SeatsHaveServed kept places.watchdog places_now.watchdog own.most own.names loops controlled seats after → length after ≡ own.seats
-    → IsLegal (past journal) → All (IsSeenIn (past journal)) after → length journal ≡ sum_by made after → HasRun kept places places_now hall loops seats (past journal)
-has_run_beside kept places places_now hall own loops controlled seats after journal same split served all legal seen counted = record {
+-- its history goes on from what the first seat had seen
+goes_on_by : (kept : Option ℕ) (watching watching_now : Option WatchdogLoop) (most : ℕ) (names : List (List ℕ)) (loops controlled : ℕ) (seats after : List SeatState) (history : List Entry) (other : SeatState)
+    → loops < length seats → SeatsHaveServed kept watching watching_now most names loops controlled seats after → All (IsSeenIn history) after → IsOlder (slice_index_or seats 0 other).seen history
+goes_on_by kept watching watching_now most names loops controlled seats after history other some served seen =
+    let now : SeatState = slice_index_or after 0 other in
+    let is : IsSeenIn history now = All-get_or (IsSeenIn history) after 0 other (omega (arith, some, served.seats)) seen in
+    older_on (slice_index_or seats 0 other).seen now.seen history (watched_begins kept watching watching_now (slice_index_or seats 0 other) now (served.first other)) is.begins
+
+pub has_run_beside : (kept : Option ℕ) (places places_now : SessionPlaces) (hall own : HallState) (loops controlled : ℕ) (seats after : List SeatState) (desk : State) → own ≡ hall → loops < length seats → controlled ≡ min 32 (length seats - (1 + loops)) → SeatsHaveServed kept places.watchdog places_now.watchdog own.most own.names loops controlled seats after → length after ≡ own.seats
+    → IsLegal (past desk.journal) → All (IsSeenIn (past desk.journal)) after → NothingTakenBack desk after → length desk.journal ≡ sum_by made after → HasRun kept places places_now hall loops seats desk
+has_run_beside kept places places_now hall own loops controlled seats after desk same some split served all legal seen taken_back counted = record {
   controlled = controlled;
   controlled_are = split;
   after = after;
@@ -143,7 +104,9 @@ has_run_beside kept places places_now hall own loops controlled seats after jour
   all = all ∙ ap (λ (one : HallState). one.seats) same;
   legal = legal;
   seen = seen;
-  counted = length-reverse journal ∙ counted;
+  taken_back = taken_back;
+  goes_on = λ other. goes_on_by kept places.watchdog places_now.watchdog own.most own.names loops controlled seats after (past desk.journal) other some served seen;
+  counted = counted;
 }
 
 -- it has as many entries as the seats had made before

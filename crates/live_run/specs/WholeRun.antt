@@ -1,9 +1,13 @@
 -- How a hall is run by loops, or why it is not. Histories have their newest entry first.
 use Rattle.std.specs.Prelude.{ℕ, ◌≡◌, ◌≢◌, ◌+◌, ◌-◌, min, ◌==◌, nat_lt, if◌then◌else◌, List, Option, None, Some, IfSome, IsNone, length}
-use Rattle.std.specs.List.{All, sum_by}
+use Rattle.std.specs.List.{All, slice_index_or, sum_by}
 use Rattle.desk_core.specs.declared.entry.Entry.{Entry}
+use Rattle.desk_core.specs.Desk.{State}
 use Rattle.desk_core.specs.Legal.{IsLegal}
+use Rattle.desk_core.specs.Past.{past}
+use Rattle.desk_core.specs.Watch.{IsOlder}
 use Rattle.hall.specs.Seats.{HallState, SeatState, IsSeenIn, own_calls}
+use Rattle.hall.specs.TakenBack.{NothingTakenBack}
 use Rattle.server.specs.Setup.{SetUpState}
 use Rattle.live_run.specs.declared.run_fault.RunFault.{RunFault}
 use Rattle.live_run.specs.declared.run_fault.RunFault.TheVariants as faults
@@ -34,17 +38,20 @@ pub record HasRunLoops (hall : HallState) (loops : ℕ) (seats : List SeatState)
   pub counted : length history ≡ sum_by (λ seat. length (own_calls seat)) after
 
 -- The same where lines of sessions were met by the seats behind the loops', those of the control place by 32 of them at most, and those of
--- the report place by the others: the history has what the setup made, the changes that lines of the control place asked for, the findings
--- that lines of the report place told, and the fails by which the watchdog brought down what was not heard from, and no others
-pub record HasRun (kept : Option ℕ) (places places_now : SessionPlaces) (hall : HallState) (loops : ℕ) (seats : List SeatState) (history : List Entry) : Type 0 where
+-- the report place by the others: the history of this registry has what the setup made, the changes that lines of the control place asked
+-- for, the findings that lines of the report place told, and the fails by which the watchdog brought down what was not heard from, and no
+-- others. It goes on from what the first seat had seen, and no crash takes back anything of it that was told
+pub record HasRun (kept : Option ℕ) (places places_now : SessionPlaces) (hall : HallState) (loops : ℕ) (seats : List SeatState) (desk : State) : Type 0 where
   pub controlled : ℕ
   pub controlled_are : controlled ≡ min 32 (length seats - (1 + loops))
   pub after : List SeatState
   pub served : SeatsHaveServed kept places.watchdog places_now.watchdog hall.most hall.names loops controlled seats after
   pub all : length after ≡ hall.seats
-  pub legal : IsLegal history
-  pub seen : All (IsSeenIn history) after
-  pub counted : length history ≡ sum_by (λ seat. length (own_calls seat)) after
+  pub legal : IsLegal (past desk.journal)
+  pub seen : All (IsSeenIn (past desk.journal)) after
+  pub taken_back : NothingTakenBack desk after
+  pub goes_on : (other : SeatState) → IsOlder (slice_index_or seats 0 other).seen (past desk.journal)
+  pub counted : length desk.journal ≡ sum_by (λ seat. length (own_calls seat)) after
 
 -- there is neither a control place nor a report place, and no watchdog
 pub record AreNone (places : SessionPlaces) : Type 0 where

@@ -48,9 +48,9 @@ where
     ensures servers { IfOk result (λ ran. HaveServedAll servers.items ran.servers.items) }
 
     // The history that is left is one legal history of what all seats saw and made: the loops have made nothing, and sessions what their
-    // lines asked for, those of the report place findings alone.
+    // lines asked for, those of the report place findings alone. What a seat has seen outlives a crash.
     ensures ran { IfOk result (λ ran. HasRun K.kept places ran.places made.hall (vec_len servers)
-        made.seats (past ran.desk.journal)) }
+        made.seats ran.desk) }
     ensures most { IfOk result (λ ran. ran.desk.max_entries ≡ made.hall.most) }
     // The loops over sessions come back, so that their caller can take their sockets' files away, and hold none any more.
     ensures sessions { IfOk result (λ ran. HaveEnded places ran.places) }

@@ -1,7 +1,8 @@
 use Rattle.std.proofs.Common.{rules, ◌∙◌, sym}
 use Rattle.script.specs.Change.{line_changes}
 use Rattle.live_run.proofs.SetupLines.{results_in_place}
-use Rattle.commands.proofs.RunLemmas.{refused_line, seats_dealt, wholly_set_up}
+use Rattle.commands.proofs.RunLemmas.{refused_line, wholly_set_up}
+use Rattle.server.proofs.OwnLemmas.{seats_dealt}
 use Rattle.commands.proofs.ScriptFailureLemmas.{script_ends}
 use Rattle.commands.proofs.run.set_up.Goals as goal
 
@@ -25,6 +26,7 @@ returns-clause-ok g c =
       seats_are = hall.2;
       whole = wholly_set_up (line_changes c.in-Ok.script.names c.in-Ok.script.lines) c.in_ok-made.made c.in-Ok.script.max
           c.args.seats hall.1 hall.2 c.in_ok-made.ensures.seats (search rules);
+      changes = search rules;
     }
 
 pub refused-requires-clause-whole : goal.refused-requires-clause-whole

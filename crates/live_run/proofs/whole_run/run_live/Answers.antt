@@ -16,9 +16,10 @@ returns-in_default-close-clause-failed g c =
 pub returns-clause-ran : goal.returns-clause-ran
 returns-clause-ran g c =
     has_run_beside _ c.args.places c.serve-servers.result.places c.args.made.hall c.into_hall-hall.result.0 _ _ _ _ _ c.into_hall-hall.ensures.hall
+    (omega (arith, c.in_default.ensures.enough, c.len.ensures, c.len-2.ensures, c.into_hall-hall.result.1.ok.0, ap length c.into_hall-hall.ensures.seats))
     (controlled_by c.args.servers.items _ _ _ c.in-Ok.seating c.args.servers.ok.0 c.into_hall-hall.ensures.seats c.in-Ok.ensures)
     (served_by _ _ _ _ _ c.args.servers.items _ _ _ _ c.in-Ok.seating c.args.servers.ok.0 c.in-Ok.seating.loops.ok.0 c.into_hall-hall.ensures.seats c.in-Ok.ensures c.serve-servers.ensures.served)
-    c.in-Ok-close.ensures.closed c.in-Ok-close.ensures.legal c.in-Ok-close.ensures.seats c.in-Ok-close.ensures.counted
+    c.in-Ok-close.ensures.closed c.in-Ok-close.ensures.legal c.in-Ok-close.ensures.seats c.in-Ok-close.ensures.taken_back c.in-Ok-close.ensures.counted
 
 pub returns-clause-alone : goal.returns-clause-alone
 returns-clause-alone g c = λ none.

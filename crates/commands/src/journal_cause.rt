@@ -1,0 +1,43 @@
+use crate::cause::Cause;
+use durable::JournalFault;
+use std::io::ErrorKind;
+use thiserror::Error;
+
+/// Why a run can't go on from the history in a file.
+#[derive(Clone, Copy, Debug, PartialEq, Eq, Error)]
+pub enum JournalCause {
+    /// Another process has the file.
+    #[error("in use")]
+    InUse,
+    #[error("not a file")]
+    NotAFile,
+    /// The file is of other services than the script's, or of the same in another order.
+    #[error("another catalogue")]
+    AnotherCatalogue,
+    /// No crash leaves what is in the file from this byte on.
+    #[error("damaged at byte {0}")]
+    Damaged(usize),
+    #[error("too many entries")]
+    TooLong,
+    #[error("not stored")]
+    NotStored,
+    #[error("{0}")]
+    System(Cause),
+}
+
+impl JournalCause {
+    /// The cause of a fault; none where memory ran out.
+    pub(crate) fn of(fault: JournalFault) -> Option<JournalCause> {
+        Some(match fault {
+            JournalFault::Memory => return None,
+            JournalFault::System(error) if error.kind() == ErrorKind::OutOfMemory => return None,
+            JournalFault::System(error) => JournalCause::System(Cause::from(error)),
+            JournalFault::InUse => JournalCause::InUse,
+            JournalFault::NotAFile => JournalCause::NotAFile,
+            JournalFault::AnotherCatalogue => JournalCause::AnotherCatalogue,
+            JournalFault::Damaged(at) => JournalCause::Damaged(at),
+            JournalFault::TooLong => JournalCause::TooLong,
+            JournalFault::NotStored => JournalCause::NotStored,
+        })
+    }
+}

@@ -1,0 +1,51 @@
+use crate::cause::Cause;
+use journal_lines::{JournalFault, print_journal};
+use std::io;
+use std::io::BufWriter;
+use std::rt::Files;
+use thiserror::Error;
+
+/// What ends the command `journal` with status 1. Its text follows `healthd: ` on standard error.
+#[derive(Clone, Copy, Debug, PartialEq, Eq, Error)]
+pub enum JournalFailure<'a> {
+    #[error("journal {0}: not a file")]
+    NotAFile(&'a str),
+    /// What begins at this byte of the file is nothing that a server writes, and no crash leaves it.
+    #[error("journal {0}: damaged at byte {1}")]
+    Damaged(&'a str, usize),
+    #[error("journal {0}: {1}")]
+    Read(&'a str, Cause),
+    #[error("write: {0}")]
+    Write(Cause),
+    #[error("out of memory")]
+    OutOfMemory,
+}
+
+impl<'a> JournalFailure<'a> {
+    /// The failure of printing the journal in the file at a path.
+    pub fn at(path: &'a str, fault: JournalFault) -> JournalFailure<'a> {
+        match fault {
+            JournalFault::NotAFile => JournalFailure::NotAFile(path),
+            JournalFault::Damaged(at) => JournalFailure::Damaged(path, at),
+            JournalFault::Read(error) => JournalFailure::Read(path, Cause::from(error)),
+            JournalFault::Write(error) => JournalFailure::Write(Cause::from(error)),
+            JournalFault::Memory => JournalFailure::OutOfMemory,
+        }
+    }
+}
+
+/// The command `journal`.
+pub fn run_journal<'a, R: Print + Files + AllocGlobal>(
+    rt: &R,
+    path: &'a str,
+    is_json: bool,
+) -> Result<(), JournalFailure<'a>> {
+    let alloc = rt.alloc();
+    let Ok(mut output) = BufWriter::new(alloc, io::writer(rt)) else {
+        return Err(JournalFailure::OutOfMemory);
+    };
+    match print_journal(rt, alloc, path, is_json, &mut output) {
+        Ok(()) => Ok(()),
+        Err(fault) => Err(JournalFailure::at(path, fault)),
+    }
+}
