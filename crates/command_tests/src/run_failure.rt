@@ -70,26 +70,6 @@ fn tells_each_fault_with_its_cause(rt: HostRuntime) -> Result<(), Fail> {
             RunFailure::Bind(Place::Path("/run/healthd"), cause(98)),
             "bind /run/healthd: address in use",
         ),
-        (
-            RunFailure::Journal("/j", JournalCause::System(cause(28))),
-            "journal /j: no storage space",
-        ),
-        (
-            RunFailure::Journal("/j", JournalCause::InUse),
-            "journal /j: in use",
-        ),
-        (
-            RunFailure::Journal("/j", JournalCause::NotAFile),
-            "journal /j: not a file",
-        ),
-        (
-            RunFailure::Journal("/j", JournalCause::AnotherCatalogue),
-            "journal /j: another catalogue",
-        ),
-        (
-            RunFailure::Journal("/j", JournalCause::Damaged(4_096)),
-            "journal /j: damaged at byte 4096",
-        ),
         (RunFailure::TooFewFiles, "too few open files"),
         (
             RunFailure::HandedOver,
@@ -104,6 +84,30 @@ fn tells_each_fault_with_its_cause(rt: HostRuntime) -> Result<(), Fail> {
     ];
     for (fault, expected) in &rows {
         expect_text(rt.alloc(), fault, *expected)?;
+    }
+    Ok(())
+}
+
+#[test]
+fn tells_why_a_history_cannot_go_on(rt: HostRuntime) -> Result<(), Fail> {
+    let rows = [
+        (
+            JournalCause::System(cause(28)),
+            "journal /j: no storage space",
+        ),
+        (JournalCause::InUse, "journal /j: in use"),
+        (JournalCause::NotAFile, "journal /j: not a file"),
+        (
+            JournalCause::AnotherCatalogue,
+            "journal /j: another catalogue",
+        ),
+        (
+            JournalCause::Damaged(4_096),
+            "journal /j: damaged at byte 4096",
+        ),
+    ];
+    for (cause, expected) in rows {
+        expect_text(rt.alloc(), &RunFailure::Journal("/j", cause), expected)?;
     }
     Ok(())
 }

@@ -12,7 +12,7 @@ use Rattle.script.specs.declared.script.Mode.TheVariants.{Run}
 use Rattle.script.specs.Script.{ScriptParts, IsScript}
 use Rattle.server.specs.Again.{changes_of}
 use Rattle.server.specs.Setup.{SetUpState}
-use Rattle.commands.specs.Run.{AreMadeAlone, IsWhollySetUp}
+use Rattle.commands.specs.Run.{IsWhollySetUp}
 
 -- the bytes are a script to run, each of whose changes is made in a registry of its own, and these are its entries
 pub record IsSetupOf (bytes : List ℕ) (entries : List Entry) : Type 0 where
