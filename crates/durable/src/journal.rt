@@ -5,6 +5,7 @@ ghost use Rattle.server.specs.Storing.{HasItsEntries};
 ghost use Rattle.durable.specs.Journal.{FirstHasSeenIts};
 
 use crate::journal_fault::JournalFault;
+use crate::new_file::NewFile;
 use crate::place::place_of;
 use chronicle::{Chronicle, Who};
 use desk_core::{Catalogue, Entry, Keep};
@@ -30,6 +31,8 @@ const FIRST: u16 = 0;
 /// A journal in a file, which has the names of a catalogue, and the entries that it had when it was opened.
 #[derive(Drop)]
 pub struct Journal<'a, R: Files<File = File> + AllocGlobal, W: Witness> {
+    // It goes before the store does, whose lock is held until then.
+    new_file: NewFile<'a, R>,
     store: FileStore<'a, R, W>,
     catalogue: Catalogue,
     entries: Vec<Entry>,
@@ -63,7 +66,7 @@ impl<'a, R: Files<File = File> + AllocGlobal, W: Witness> Journal<'a, R, W> {
     ghost use Rattle.durable.specs.Journal.{AreOfFirst, FirstHasSeen};
 
     /// Opens the file at a path, which is made if it is missing. No other process may have it open until the journal, and what comes of
-    /// it, is dropped.
+    /// it, is dropped. A file that was missing is so again where the journal is dropped before it has begun.
     pub fn open(
         rt: &'a R,
         path: &str,
@@ -74,6 +77,7 @@ impl<'a, R: Files<File = File> + AllocGlobal, W: Witness> Journal<'a, R, W> {
         ensures in_file { IfOk result (λ journal. journal.in_file ≡ catalogue) }
     {
         let alloc = rt.alloc();
+        let was_missing = is_missing(rt, path)?;
         let device = FileDevice::open(rt, path)?;
         if let Some(fault) = fault_of_file(rt, path) {
             return Err(fault);
@@ -83,6 +87,7 @@ impl<'a, R: Files<File = File> + AllocGlobal, W: Witness> Journal<'a, R, W> {
             Ok(found) => found,
             Err(fault) => return Err(JournalFault::of_opening(fault, log.device.error())),
         };
+        let named = String::from_str(alloc, path)?;
         let medium = FileMedium::new(rt, String::from_str(alloc, path)?);
         let own = Preface::new(alloc, &catalogue)?;
         let preface = Preface::new(alloc, &catalogue)?;
@@ -96,7 +101,9 @@ impl<'a, R: Files<File = File> + AllocGlobal, W: Witness> Journal<'a, R, W> {
             return Err(JournalFault::AnotherCatalogue);
         }
         let entries = entries_of(alloc, &stored)?;
+        let was_missing = was_missing && found.is_empty();
         Ok(Journal {
+            new_file: NewFile::new(rt, named, was_missing),
             store,
             catalogue,
             entries,
@@ -122,6 +129,7 @@ impl<'a, R: Files<File = File> + AllocGlobal, W: Witness> Journal<'a, R, W> {
     {
         match self.store.store(&entries) {
             Ok(()) => {
+                self.new_file.keep();
                 self.entries = entries;
                 Ok(())
             }
@@ -171,12 +179,14 @@ impl<'a, R: Files<File = File> + AllocGlobal, W: Witness> Journal<'a, R, W> {
         ensures seen { IfOk result (λ made. FirstHasSeen made.seats self.entry.entries) }
     {
         let Journal {
+            mut new_file,
             store,
             catalogue,
             entries,
             stored: _,
             found,
         } = self;
+        new_file.keep();
         let Ok(len) = u32::try_from(entries.len()) else {
             return Err(JournalFault::TooLong);
         };
@@ -212,13 +222,18 @@ fn stored_in<S: Wait, P: Probe, K: Keep>(
     }
 }
 
-/// Why the file at a path is no journal. One is reached by no link, and begins as one may that a journal was put into, whatever came of
-/// that. Any other is somebody else's, and is not written to.
-fn fault_of_file<R: Files<File = File>>(rt: &R, path: &str) -> Option<JournalFault> {
+/// Whether there is no file at a path. A link is no journal.
+fn is_missing<R: Files<File = File>>(rt: &R, path: &str) -> Result<bool, JournalFault> {
     match fs::symlink_metadata(rt, path) {
-        Ok(found) if found.is_symlink() => return Some(JournalFault::NotAFile),
-        _ => {}
+        Ok(found) if found.is_symlink() => Err(JournalFault::NotAFile),
+        Ok(_) => Ok(false),
+        Err(error) => Ok(error.kind() == io::ErrorKind::NotFound),
     }
+}
+
+/// Why the file at a path is no journal: one begins as one may that a journal was put into, whatever came of that. Any other is somebody
+/// else's, and is not written to.
+fn fault_of_file<R: Files<File = File>>(rt: &R, path: &str) -> Option<JournalFault> {
     let Ok(mut file) = fs::open(rt, path) else {
         return None;
     };

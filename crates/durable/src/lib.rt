@@ -4,6 +4,7 @@
 mod attendance;
 mod journal;
 mod journal_fault;
+mod new_file;
 mod place;
 
 pub use crate::attendance::Attendance;

@@ -14,6 +14,3 @@ mod unreadable;
 pub use crate::file::print_journal;
 pub use crate::journal_fault::JournalFault;
 pub use crate::printing::print_entries;
-
-#[cfg(test)]
-mod tests;

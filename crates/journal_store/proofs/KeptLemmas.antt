@@ -16,6 +16,12 @@ untouched left before after = record {
   now = All-weaker (Contains left.now) (IsOneOf left before after) (λ j has. inl has) left.now (All-contains_itself left.now);
 }
 
+-- of a store that is the same
+pub behind_same : (now old : Kept) (left : Left) (journal entries : List Entry) → now ≡ old → old.journal ≡ journal → HasLeft now.left left now.journal (now.journal ++ entries)
+    → HasLeft old.left left journal (journal ++ entries)
+behind_same now old left journal entries same is has =
+    subst (λ j. HasLeft old.left left j (j ++ entries)) is (subst (λ (k : Kept). HasLeft k.left left k.journal (k.journal ++ entries)) same has)
+
 module _ (kept : Kept) (entries : List Entry) where
   abbrev after : List Entry
   after = kept.journal ++ entries

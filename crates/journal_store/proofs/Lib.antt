@@ -6,7 +6,7 @@ mod HoldLemmas
 mod KeptLemmas
 mod PrefaceLemmas
 mod ReadLemmas
-mod RecordLemmas
+pub mod RecordLemmas
 mod RestoreLemmas
 mod SeatLemmas
 mod StandingLemmas

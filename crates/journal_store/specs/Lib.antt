@@ -1,4 +1,5 @@
 pub mod Again
+pub mod Bound
 pub mod Faithful
 pub mod Fault
 pub mod Held
@@ -7,6 +8,7 @@ pub mod Preface
 pub mod Read
 pub mod Record
 pub mod Restored
+pub mod Retry
 pub mod Standing
 pub mod Steps
 pub mod Turned

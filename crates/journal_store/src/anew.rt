@@ -1,11 +1,11 @@
-ghost use Rattle.std.specs.Prelude.{◌≡◌, ℕ, List, IfOk};
+ghost use Rattle.std.specs.Prelude.{◌≡◌, ℕ, List, None, IfOk, OnOk};
 ghost use Rattle.record_log.specs.Log.{IsReady, blocks};
 ghost use Rattle.journal_store.specs.Turned.{AreTurned};
 
 use crate::medium::Medium;
 use crate::text::{Text, turn};
 use desk_core::NotStored;
-use record_log::{RecordLog, begins};
+use record_log::{Device, RecordLog, begins};
 use std::alloc::Global;
 
 /// Opens a file anew that has this text or the other, which is turned to where it has that one.
@@ -29,8 +29,7 @@ pub(crate) fn open_either<M: Medium>(
     open_anew(alloc, medium, &text.written)
 }
 
-/// Opens a file anew of which these blocks were acknowledged. What a batch left behind them that failed is taken back; a file that has
-/// anything else is not opened.
+/// Opens a file anew of which these blocks were acknowledged, or holds on to it.
 fn open_anew<M: Medium>(
     alloc: Global,
     medium: &mut M,
@@ -43,6 +42,25 @@ fn open_anew<M: Medium>(
         return Err(NotStored);
     };
     let mut log = RecordLog::new(device);
+    match go_back(alloc, &mut log, written) {
+        Ok(()) => Ok(log),
+        Err(error) => {
+            medium.hold(log.device);
+            Err(error)
+        }
+    }
+}
+
+/// Opens a log of which these blocks were acknowledged. What a batch left behind them that failed is taken back; where there is anything
+/// else, it is not opened.
+fn go_back<D: Device>(
+    alloc: Global,
+    log: &mut RecordLog<D>,
+    written: &[u8],
+) -> Result<(), NotStored>
+    ensures { OnOk result ((records : List (List ℕ)) → written.now ≡ blocks records
+        → IsReady D.contents D.may_leave log.new records) }
+{
     let Ok(found) = log.open(alloc) else {
         return Err(NotStored);
     };
@@ -50,7 +68,16 @@ fn open_anew<M: Medium>(
         return Err(NotStored);
     }
     match log.take_back(written.len()) {
-        Ok(()) => Ok(log),
+        Ok(()) => Ok(()),
         Err(_) => Err(NotStored),
+    }
+}
+
+/// Gives the device of a log that failed, if there is one, to the medium, which holds on to its file.
+pub(crate) fn hold_failed<M: Medium>(medium: &mut M, log: &mut Option<RecordLog<M::Device>>)
+    ensures { log.new ≡ None }
+{
+    if let Some(failed) = log.take() {
+        medium.hold(failed.device);
     }
 }

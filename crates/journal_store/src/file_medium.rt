@@ -3,7 +3,7 @@
 
 use crate::journal_store::JournalStore;
 use crate::medium::Medium;
-use record_log::{DeviceError, FileDevice, FileError, RecordLog, write_text_anew};
+use record_log::{DeviceError, FileDevice, FileError, HeldFile, RecordLog, write_text_anew};
 use std::fs::File;
 use std::rt::Files;
 
@@ -12,6 +12,9 @@ use std::rt::Files;
 pub struct FileMedium<'a, R: Files<File = File> + AllocGlobal> {
     rt: &'a R,
     path: String,
+    // One of these may be the file at the path, until that is opened anew.
+    old: Option<HeldFile>,
+    new: Option<HeldFile>,
 }
 
 /// A journal in a file at a path.
@@ -19,7 +22,30 @@ pub type FileStore<'a, R, W> = JournalStore<FileMedium<'a, R>, W>;
 
 impl<'a, R: Files<File = File> + AllocGlobal> FileMedium<'a, R> {
     pub fn new(rt: &'a R, path: String) -> FileMedium<'a, R> {
-        FileMedium { rt, path }
+        FileMedium {
+            rt,
+            path,
+            old: None,
+            new: None,
+        }
+    }
+
+    /// Opens the file at the path, under the lock that is held where it is one of those that are.
+    fn open(&self) -> Result<FileDevice, FileError> {
+        for held in [self.old.as_ref(), self.new.as_ref()].into_iter().flatten() {
+            if held.is_at(self.rt, &self.path) {
+                return held.open(self.rt, &self.path);
+            }
+        }
+        FileDevice::open(self.rt, &self.path)
+    }
+}
+
+/// What is told of an error of a file.
+fn device_error(error: FileError) -> DeviceError {
+    match error {
+        FileError::Memory => DeviceError::Memory,
+        FileError::Io(_) | FileError::InUse | FileError::NotAFile => DeviceError::Failed,
     }
 }
 
@@ -30,11 +56,18 @@ impl<'a, R: Files<File = File> + AllocGlobal> Medium for FileMedium<'a, R> {
 
     type Device = FileDevice;
 
+    fn hold(&mut self, device: FileDevice) {
+        self.old = Some(device.into_held());
+    }
+
     fn reopen(&mut self) -> Result<FileDevice, DeviceError> {
-        match FileDevice::open(self.rt, &self.path) {
-            Ok(device) => Ok(device),
-            Err(FileError::Memory) => Err(DeviceError::Memory),
-            Err(_) => Err(DeviceError::Failed),
+        match self.open() {
+            Ok(device) => {
+                self.old = None;
+                self.new = None;
+                Ok(device)
+            }
+            Err(error) => Err(device_error(error)),
         }
     }
 
@@ -49,8 +82,11 @@ impl<'a, R: Files<File = File> + AllocGlobal> Medium for FileMedium<'a, R> {
     {
         match write_text_anew(self.rt, &self.path, old, file) {
             Ok(log) => Ok(log),
-            Err(FileError::Memory) => Err(DeviceError::Memory),
-            Err(_) => Err(DeviceError::Failed),
+            Err(failed) => {
+                self.old = Some(failed.old);
+                self.new = failed.new;
+                Err(device_error(failed.error))
+            }
         }
     }
 }

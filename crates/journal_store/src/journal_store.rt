@@ -1,9 +1,10 @@
-use crate::anew::open_either;
+use crate::anew::{hold_failed, open_either};
 use crate::medium::Medium;
 use crate::preface::Preface;
 use crate::reading::read_found;
 use crate::record_fault::RecordFault;
 use crate::records::batch_of;
+use crate::retry::Retry;
 use crate::shortening::shortened;
 use crate::text::Text;
 use crate::told::{Step, Told};
@@ -21,7 +22,8 @@ const LEAST: usize = 16 << 20;
 const NEWEST: usize = 65_536;
 
 /// A journal in a file, as records of its entries behind a preface. It keeps the blocks that were acknowledged, and opens a file that
-/// failed anew before the next change. A file that has grown long is written anew, with short entries in place of the older ones.
+/// failed anew before the next change, once a second at most. A file that has grown long is written anew, with short entries in place of
+/// the older ones.
 #[derive(Drop)]
 pub struct JournalStore<M: Medium, W: Witness> {
     alloc: Global,
@@ -34,6 +36,7 @@ pub struct JournalStore<M: Medium, W: Witness> {
     newest: usize,
     log: Option<RecordLog<M::Device>>,
     is_open: bool,
+    retry: Retry,
     told: Told,
 }
 
@@ -48,6 +51,8 @@ impl<M: Medium, W: Witness> Model for JournalStore<M, W> {
       is_open = store.is_open;
       written = store.text.written.items;
       front = store.text.preface;
+      limit = store.text.limit;
+      least = store.least;
     } };
 
     ghost invariant = { λ store. IsFaithful
@@ -56,10 +61,11 @@ impl<M: Medium, W: Witness> Model for JournalStore<M, W> {
 }
 
 impl<M: Medium, W: Witness> JournalStore<M, W> {
-    ghost use Rattle.std.specs.Prelude.{◌≡◌, ◌⊎◌, ◌<◌, ◌∷◌, [], ℕ, true, List, All, length, IfOk, IfSome, IsSome, IsErrOf, OnOk, OnErr};
+    ghost use Rattle.std.specs.Prelude.{◌≡◌, ◌⊎◌, ◌<◌, ◌≤◌, ◌^◌, ◌∷◌, [], ℕ, true, List, All, length, IfOk, IfSome, IsSome, IsErrOf, OnOk, OnErr};
     ghost use Rattle.record_log.specs.Log.{IsReady, texts};
     ghost use Rattle.desk_core.specs.Left.{Holds};
     ghost use Rattle.journal_store.specs.Faithful.{HasLeftSince, LeavesOneOf};
+    ghost use Rattle.journal_store.specs.Bound.{IsNextLimit};
     ghost use Rattle.journal_store.specs.Kept.{asked, begun_at, opened_at, settled};
     ghost use Rattle.journal_store.specs.Preface.{IsFaulty, new_of};
     ghost use Rattle.journal_store.specs.Read.{AreFound, HasTooFew, IsNoEntry};
@@ -92,6 +98,7 @@ impl<M: Medium, W: Witness> JournalStore<M, W> {
         ensures preface { (fault : Fault) → IsErrOf result (NotAPreface fault)
             → IsFaulty (texts found.now) fault }
         ensures too_few { IsErrOf result TooFew → HasTooFew (texts found.now) }
+        ensures limit { IfOk result (λ made. (made.0.limit ≡ 2 ^ 24) × (made.0.least ≡ 2 ^ 24)) }
     {
         let (preface, stored) = read_found(alloc, found, preface)?;
         let mut written = blocks_of(alloc, found)?;
@@ -113,6 +120,7 @@ impl<M: Medium, W: Witness> JournalStore<M, W> {
             newest: NEWEST,
             log: Some(log),
             is_open: true,
+            retry: Retry::new(),
             told,
         };
         Ok((store, stored))
@@ -120,7 +128,11 @@ impl<M: Medium, W: Witness> JournalStore<M, W> {
 
     /// The same store, whose file is written anew once its blocks are longer than this and twice as long as after the last time.
     pub fn with_least(mut self, least: usize) -> Self
-        ensures { result ≡ self }
+        ensures kept { result.kept ≡ self.kept }
+        ensures open { result.is_open ≡ self.is_open }
+        ensures written { result.written ≡ self.written }
+        ensures front { result.front ≡ self.front }
+        ensures limit { (result.limit ≡ least) × (result.least ≡ least) }
     {
         self.least = least;
         self.text.limit = least;
@@ -128,8 +140,7 @@ impl<M: Medium, W: Witness> JournalStore<M, W> {
     }
 
     /// The same store, in whose file so many of the newest entries stay.
-    #[cfg(test)]
-    pub(crate) fn with_newest(mut self, newest: usize) -> Self
+    pub fn with_newest(mut self, newest: usize) -> Self
         ensures { result ≡ self }
     {
         self.newest = newest;
@@ -171,7 +182,22 @@ impl<M: Medium, W: Witness> JournalStore<M, W> {
         &self.text.written
     }
 
-    /// Opens the file anew, if it is not open. The device that failed is dropped before, so that its lock is free.
+    /// Whether the file is open, or may be opened anew at the time at which these entries are asked for.
+    fn may_open(&mut self, entries: &[Entry]) -> bool
+        ensures { self.new ≡ self.old }
+    {
+        if self.is_open {
+            return true;
+        }
+        let seat = match entries.first() {
+            Some(entry) => entry.seat,
+            None => 0,
+        };
+        let (micros, _) = self.witness.witness(seat);
+        self.retry.is_due(micros)
+    }
+
+    /// Opens the file anew, if it is not open. Nobody else has it meanwhile.
     fn reopen(&mut self) -> Result<(), NotStored>
         ensures open { OnOk result (self.new.is_open ≡ true) }
         ensures durable { OnOk result
@@ -185,7 +211,7 @@ impl<M: Medium, W: Witness> JournalStore<M, W> {
             return Ok(());
         }
         self.told = self.told.and(&Step::Asked(&[]));
-        self.log = None;
+        hold_failed(&mut self.medium, &mut self.log);
         let log = open_either(
             self.alloc,
             &mut self.medium,
@@ -211,6 +237,7 @@ impl<M: Medium, W: Witness> JournalStore<M, W> {
             ⊎ (self.new.kept ≡ asked self.old.kept entries.now)) }
         ensures open { OnOk result (self.new.is_open ≡ true) }
         ensures front { self.new.front ≡ self.old.front }
+        ensures limit { (self.new.limit ≡ self.old.limit) × (self.new.least ≡ self.old.least) }
     {
         let Ok(text) = blocks_of(self.alloc, batch) else {
             return Err(NotStored);
@@ -242,6 +269,10 @@ impl<M: Medium, W: Witness> JournalStore<M, W> {
         ensures kept { (self.new.kept ≡ self.old.kept) ⊎ ((moment : ℕ)
             × (self.new.kept ≡ opened_at self.old.kept moment)) }
         ensures same { self.new.front ≡ self.old.front → self.new.kept ≡ self.old.kept }
+        ensures short { length self.old.written ≤ self.old.limit → self.new ≡ self.old }
+        ensures bounded { length self.new.written ≤ self.new.limit }
+        ensures limit { IsNextLimit self.old.limit self.old.least (length self.new.written)
+            self.new.limit }
     {
         if self.text.written.len() <= self.text.limit {
             return;
@@ -272,7 +303,8 @@ impl<M: Medium, W: Witness> JournalStore<M, W> {
 }
 
 impl<M: Medium, W: Witness> Keep for JournalStore<M, W> {
-    ghost use Rattle.std.specs.Prelude.{◌≡◌, ◌++◌, List, true, Some, OnOk, OnErr};
+    ghost use Rattle.std.specs.Prelude.{◌≡◌, ◌<◌, ◌≤◌, ◌++◌, List, true, Some, length, OnOk, OnErr};
+    ghost use Rattle.journal_store.specs.Bound.{IsNextLimit};
     ghost use Rattle.desk_core.specs.declared.entry.Entry.{Entry as JournalEntry};
     ghost use Rattle.desk_core.specs.Left.{HasLeft, LeavesJournal};
 
@@ -299,7 +331,16 @@ impl<M: Medium, W: Witness> Keep for JournalStore<M, W> {
         // The device of a file that is open stays the same, unless the file is written anew, behind another preface.
         ensures opened { self.old.is_open ≡ true → self.new.front ≡ self.old.front
             → self.new.kept.opened ≡ self.old.kept.opened }
+
+        // However many entries there are, the blocks are as long as this at most.
+        ensures bounded { 0 < length entries.now
+            → OnOk result (length self.new.written ≤ self.new.limit) }
+        ensures limit { self.old.is_open ≡ true → OnOk result (IsNextLimit self.old.limit
+            self.old.least (length self.new.written) self.new.limit) }
     {
+        if !self.may_open(entries) {
+            return Err(NotStored);
+        }
         self.reopen()?;
         if entries.is_empty() {
             return Ok(());

@@ -14,6 +14,7 @@ mod record_fault;
 mod records;
 mod restore_fault;
 mod restoring;
+mod retry;
 mod shortening;
 mod text;
 mod title;
@@ -28,9 +29,7 @@ pub use crate::preface::{Preface, read_preface};
 pub use crate::preface_fault::PrefaceFault;
 pub use crate::reading::read_records;
 pub use crate::record_fault::RecordFault;
+pub use crate::records::batch_of;
 pub use crate::restore_fault::RestoreFault;
 pub use crate::restoring::restore;
 pub use crate::witness::Witness;
-
-#[cfg(test)]
-mod tests;

@@ -1,18 +1,21 @@
 use record_log::{Device, DeviceError, RecordLog};
 
-/// Where a journal's file is, to be opened again after its device failed, and to be written anew. No clause says what is found there: it
-/// is compared with what was acknowledged.
+/// Where a journal's file is, to be opened again after its device failed, and to be written anew. Nobody else has it meanwhile. No clause
+/// says what is found there: it is compared with what was acknowledged.
 pub trait Medium: Drop {
     ghost use Rattle.std.specs.Prelude.{◌≡◌, ◌++◌, ◌∷◌, [], ℕ, List, IfOk};
     ghost use Rattle.record_log.specs.Log.{IsReady, blocks};
 
     type Device: Device;
 
+    /// Holds on to the file of a device that is not to be used again, until the file is opened anew.
+    fn hold(&mut self, device: Self::Device);
+
     /// Opens the file anew.
     fn reopen(&mut self) -> Result<Self::Device, DeviceError>;
 
     /// Puts a file of these blocks, with a closed gate behind them, in the place of a log's. A crash leaves the one or the other. After an
-    /// `Err` the file is to be opened anew: it may be either.
+    /// `Err` the file is to be opened anew: it may be either, and both are held on to.
     fn replace(
         &mut self,
         old: RecordLog<Self::Device>,

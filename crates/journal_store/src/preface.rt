@@ -94,7 +94,7 @@ impl Preface {
     }
 
     /// Of a file in which so many short entries take the place of the first so many. None where there are too many to count, or no memory.
-    pub(crate) fn next(&self, alloc: Global, taken: usize, short: usize) -> Option<Preface>
+    pub fn next(&self, alloc: Global, taken: usize, short: usize) -> Option<Preface>
         requires { short ≤ taken }
         ensures names { IfSome result (λ next. next.names ≡ self.now.names) }
         ensures condensed { IfSome result (λ next. short ≡ next.condensed) }

@@ -38,7 +38,7 @@ fn records_of<W: Witness>(
 
 /// What is put behind these blocks of a file for these entries: a record of each, and the preface's in front of them where there are no
 /// blocks.
-pub(crate) fn batch_of<W: Witness>(
+pub fn batch_of<W: Witness>(
     alloc: Global,
     witness: &W,
     preface: &Preface,

@@ -1,4 +1,4 @@
-ghost use Rattle.std.specs.Prelude.{◌≡◌, ◌++◌, ◌∷◌, [], ℕ, List, true, false};
+ghost use Rattle.std.specs.Prelude.{◌≡◌, ◌+◌, ◌*◌, ◌++◌, ◌∷◌, [], ℕ, List, max, length};
 ghost use Rattle.journal_store.specs.Turned.{AreTurned};
 
 use crate::preface::Preface;
@@ -27,8 +27,9 @@ impl Text {
     pub(crate) fn put_off(&mut self)
         ensures front { self.new.preface ≡ self.old.preface }
         ensures same { self.new.written.items ≡ self.old.written.items }
+        ensures later { self.new.limit ≡ length self.old.written.items + 1048576 }
     {
-        self.limit = self.written.len().saturating_add(LATER);
+        self.limit = self.written.len() + LATER;
     }
 }
 
@@ -38,13 +39,14 @@ impl Renewed {
         ensures front { result.preface ≡ self.preface }
         ensures open { (written : List ℕ) → self.file.items ≡ written ++ 0 ∷ []
             → result.written.items ≡ written }
+        ensures limit { result.limit ≡ max (2 * length result.written.items) least }
     {
         let Renewed {
             preface,
             file: mut written,
         } = self;
         written.truncate(written.len().saturating_sub(1));
-        let limit = written.len().saturating_mul(2).max(least);
+        let limit = (2 * written.len()).max(least);
         Text {
             preface,
             written,

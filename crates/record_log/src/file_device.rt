@@ -11,10 +11,10 @@ ghost use Rattle.record_log.specs.Crashes.{contents_of, MayLeave, LeftSince, cou
 
 use crate::device::failed;
 use crate::past::Past;
-use crate::{Device, DeviceError, FileError};
+use crate::{Device, DeviceError, FileError, HeldFile};
 use std::alloc::Global;
 use std::fs::{File, OpenOptions, TryLockError};
-use std::io::Read;
+use std::io::{Read, Seek, SeekFrom};
 use std::os::fd::AsRawFd;
 use std::os::unix::fs::{FileExt, MetadataExt};
 use std::rt::Files;
@@ -52,18 +52,13 @@ impl FileDevice {
             Err(error) if error.kind() != io::ErrorKind::NotFound => return Err(error.into()),
             _ => {}
         }
-        let mut file = OpenOptions::new()
+        let file = OpenOptions::new()
             .read(true)
             .write(true)
             .create(true)
             .open(rt, path)?;
         lock(rt, &file, path)?;
-        file.sync_all()?;
-        sync_folder(rt, path)?;
-        forget(&file)?;
-        let mut bytes = Vec::new(rt.alloc());
-        file.read_to_end(&mut bytes)?;
-        Ok(FileDevice::over(file, bytes))
+        FileDevice::of_locked(rt, path, file)
     }
 
     /// A file with these bytes, all of them on the disk.
@@ -99,6 +94,29 @@ impl FileDevice {
     pub fn error(&self) -> Option<io::Error> {
         self.error
     }
+
+    /// The file alone, which stays locked.
+    pub fn into_held(self) -> HeldFile {
+        HeldFile { file: self.file }
+    }
+
+    /// A device over a locked file at this path: all that it has is on the disk before it is read.
+    pub(crate) fn of_locked<R: Files<File = File> + AllocGlobal>(
+        rt: &R,
+        path: &str,
+        file: File,
+    ) -> Result<FileDevice, FileError>
+        ensures { IfOk result (λ device. IsDurable (file_bytes device) (file_may_leave device)) }
+    {
+        let mut file = file;
+        file.sync_all()?;
+        sync_folder(rt, path)?;
+        forget(&file)?;
+        file.seek(SeekFrom::Start(0))?;
+        let mut bytes = Vec::new(rt.alloc());
+        file.read_to_end(&mut bytes)?;
+        Ok(FileDevice::over(file, bytes))
+    }
 }
 
 /// Locks the file that stands at this path.
@@ -113,11 +131,17 @@ pub(crate) fn lock<R: Files<File = File>>(
         Err(TryLockError::Error(error)) => return Err(FileError::Io(error)),
     }
     // Before the lock was held, another file may have been put in its place.
-    let (found, named) = (file.metadata()?, fs::metadata(rt, path)?);
-    if found.dev() != named.dev() || found.ino() != named.ino() {
-        return Err(FileError::InUse);
+    if is_named(rt, file, path)? {
+        Ok(())
+    } else {
+        Err(FileError::InUse)
     }
-    Ok(())
+}
+
+/// Whether a file is the one that stands at this path.
+pub(crate) fn is_named<R: Files<File = File>>(rt: &R, file: &File, path: &str) -> io::Result<bool> {
+    let (found, named) = (file.metadata()?, fs::metadata(rt, path)?);
+    Ok(found.dev() == named.dev() && found.ino() == named.ino())
 }
 
 /// Syncs the folder of a path, so that the file's name is on the disk.

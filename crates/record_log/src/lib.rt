@@ -37,8 +37,10 @@ mod checksum;
 mod device;
 mod file_device;
 mod file_error;
+mod held_file;
 mod laws;
 mod memory;
+mod not_replaced;
 mod open_error;
 mod past;
 mod reading;
@@ -53,16 +55,11 @@ pub use crate::checksum::crc32;
 pub use crate::device::{Device, DeviceError};
 pub use crate::file_device::FileDevice;
 pub use crate::file_error::FileError;
+pub use crate::held_file::HeldFile;
 pub use crate::laws::one_meaning;
 pub use crate::memory::Memory;
+pub use crate::not_replaced::NotReplaced;
 pub use crate::open_error::OpenError;
 pub use crate::reading::{ReadError, read_entries};
 pub use crate::record_log::RecordLog;
 pub use crate::rewriting::{write_anew, write_text_anew};
-
-#[cfg(test)]
-mod crash_tests;
-#[cfg(test)]
-mod file_tests;
-#[cfg(test)]
-mod tests;

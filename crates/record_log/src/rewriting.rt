@@ -5,8 +5,8 @@ ghost use Rattle.record_log.specs.Log.{blocks, texts};
 ghost use Rattle.record_log.specs.FileView.{IsReadyFile};
 
 use crate::block::blocks_of;
-use crate::file_device::{FileDevice, lock, sync_folder};
-use crate::{FileError, RecordLog};
+use crate::file_device::{lock, sync_folder};
+use crate::{FileDevice, FileError, HeldFile, NotReplaced, RecordLog};
 use std::fs::File;
 use std::os::unix::fs::FileExt;
 use std::rt::Files;
@@ -18,27 +18,69 @@ pub fn write_anew<R: Files<File = File> + AllocGlobal>(
     path: &str,
     old: RecordLog<FileDevice>,
     entries: &[Vec<u8>],
-) -> Result<RecordLog<FileDevice>, FileError>
+) -> Result<RecordLog<FileDevice>, NotReplaced>
     requires short { All (λ entry. length entry.items < 256) entries.now }
     ensures { IfOk result (λ log. IsReadyFile log (texts entries.now)) }
 {
-    let text = blocks_of(rt.alloc(), entries)?;
-    write_text_anew(rt, path, old, &text)
+    match blocks_of(rt.alloc(), entries) {
+        Ok(text) => write_text_anew(rt, path, old, &text),
+        Err(error) => Err(NotReplaced {
+            error: error.into(),
+            old: old.device.into_held(),
+            new: None,
+        }),
+    }
 }
 
-/// Puts a file of this text, which is some entries' blocks and a closed gate, in the place of a log's, whose lock is held until then. A
-/// crash leaves the one or the other. After an `Err`, open the path again: it may have either.
+/// Puts a file of this text, which is some entries' blocks and a closed gate, in the place of a log's. A crash leaves the one or the
+/// other, and no moment leaves the path without a lock. After an `Err`, open the path anew by the files that are held.
 pub fn write_text_anew<R: Files<File = File> + AllocGlobal>(
     rt: &R,
     path: &str,
     old: RecordLog<FileDevice>,
     text: &[u8],
-) -> Result<RecordLog<FileDevice>, FileError>
+) -> Result<RecordLog<FileDevice>, NotReplaced>
     requires whole { (entries : List (List ℕ)) × (text.now ≡ blocks entries ++ 0 ∷ []) }
     ensures { (entries : List (List ℕ)) → text.now ≡ blocks entries ++ 0 ∷ []
         → IfOk result (λ log. IsReadyFile log entries) }
 {
-    let beside = format!(in rt.alloc(); "{path}.new")?;
+    let old = old.device.into_held();
+    let file = match write_beside(rt, path, text) {
+        Ok(file) => file,
+        Err(error) => {
+            discard(rt, path);
+            return Err(NotReplaced {
+                error,
+                old,
+                new: None,
+            });
+        }
+    };
+    match put_in_place(rt, path) {
+        Ok(()) => Ok(RecordLog {
+            device: FileDevice::written(file, text),
+            end: text.len() - 1,
+        }),
+        Err(error) => Err(NotReplaced {
+            error,
+            old,
+            new: Some(HeldFile { file }),
+        }),
+    }
+}
+
+/// Where the new file of a path is written.
+fn beside<R: AllocGlobal>(rt: &R, path: &str) -> Result<String, FileError> {
+    Ok(format!(in rt.alloc(); "{path}.new")?)
+}
+
+/// Makes a locked file of this text beside the one at a path.
+fn write_beside<R: Files<File = File> + AllocGlobal>(
+    rt: &R,
+    path: &str,
+    text: &[u8],
+) -> Result<File, FileError> {
+    let beside = beside(rt, path)?;
     // A crash may have left one.
     match fs::remove_file(rt, beside.as_str()) {
         Err(error) if error.kind() != io::ErrorKind::NotFound => return Err(error.into()),
@@ -48,11 +90,19 @@ pub fn write_text_anew<R: Files<File = File> + AllocGlobal>(
     lock(rt, &file, beside.as_str())?;
     file.write_all_at(text, 0)?;
     file.sync_all()?;
+    Ok(file)
+}
+
+/// Removes what was written of a file beside the one at a path: it takes up room, of which there may be none left.
+fn discard<R: Files<File = File> + AllocGlobal>(rt: &R, path: &str) {
+    if let Ok(beside) = beside(rt, path) {
+        let _ = fs::remove_file(rt, beside.as_str());
+    }
+}
+
+/// Puts the file beside the one at a path in its place.
+fn put_in_place<R: Files<File = File> + AllocGlobal>(rt: &R, path: &str) -> Result<(), FileError> {
+    let beside = beside(rt, path)?;
     fs::rename(rt, beside.as_str(), path)?;
-    sync_folder(rt, path)?;
-    drop(old);
-    Ok(RecordLog {
-        device: FileDevice::written(file, text),
-        end: text.len() - 1,
-    })
+    Ok(sync_folder(rt, path)?)
 }

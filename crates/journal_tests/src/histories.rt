@@ -4,9 +4,9 @@ ghost use Rattle.std.specs.Prelude.{◌≡◌, ◌≤◌, ◌++◌, ◌∷◌, [
 ghost use Rattle.record_log.specs.Log.{IsReady, blocks};
 ghost use Rattle.record_log.specs.MemoryView.{memory_bytes, memory_may_leave};
 
-use crate::{Medium, Preface, Witness};
 use chronicle::Who;
 use desk_core::{Call, Catalogue, Entry, Finding, Reply, Setting, Slot};
+use journal_store::{Medium, Preface, Witness};
 use probe_core::{Maker, Manual, Rule};
 use record_log::{DeviceError, Memory, RecordLog};
 use std::alloc::{AllocError, Global};
@@ -175,7 +175,12 @@ pub(crate) struct Spare {
     alloc: Global,
     file: Vec<u8>,
     replacing: Replacing,
+    // How many more do not work: the last of these takes no entry, and those before it are not opened.
+    failing: usize,
 }
+
+/// How many calls of a device opening an empty file takes.
+pub(crate) const OPENING: usize = 3;
 
 impl Spare {
     ghost use Rattle.std.specs.Prelude.{IsErr};
@@ -189,7 +194,14 @@ impl Spare {
             alloc,
             file: file.to_vec(alloc)?,
             replacing,
+            failing: 0,
         })
+    }
+
+    /// The same, of which so many devices do not work.
+    pub(crate) fn failing(mut self, failing: usize) -> Spare {
+        self.failing = failing;
+        self
     }
 
     /// A file could not be put in its place, and this one is there.
@@ -208,9 +220,20 @@ impl Medium for Spare {
 
     type Device = Memory;
 
+    fn hold(&mut self, _device: Memory) {}
+
     fn reopen(&mut self) -> Result<Memory, DeviceError> {
         self.replacing = Replacing::Works;
-        Ok(Memory::new(self.alloc, self.file.as_slice().to_vec(self.alloc)?)?)
+        let mut device = Memory::new(self.alloc, self.file.as_slice().to_vec(self.alloc)?)?;
+        let failing = self.failing;
+        self.failing = failing.saturating_sub(1);
+        if failing > 1 {
+            return Err(DeviceError::Failed);
+        }
+        if failing == 1 {
+            device.stop_after(OPENING);
+        }
+        Ok(device)
     }
 
     fn replace(

@@ -3,10 +3,10 @@
 use super::crashes::{Store, store_over};
 use super::histories::{Manuals, Random, Replacing, Sessions, Spare, history, preface};
 use super::restarts::stored_as;
-use crate::{FileMedium, FileStore, JournalStore, Medium, restore};
 use desk_core::{Call, Desk, Entry, Keep, KeepAll, Reply, Slot};
+use journal_store::{FileMedium, FileStore, JournalStore, Medium, restore};
 use probe_core::{Maker, Manual};
-use record_log::{Memory, RecordLog};
+use record_log::{FileDevice, FileError, Memory, RecordLog};
 use std::alloc::Global;
 use std::fs;
 use std::test::Fail;
@@ -173,12 +173,46 @@ fn store_in(
 #[test]
 fn a_real_file_is_written_anew(rt: HostRuntime) -> Result<(), Fail> {
     let entries = history(rt.alloc(), &mut Random(4), 3, 300)?;
-    fs::create_dir(&rt, "journal.new")?;
-    let base = store_in(&rt, "journal", &entries, 0, 100)?;
+    fs::create_dir(&rt, "rewritten.new")?;
+    let base = store_in(&rt, "rewritten", &entries, 0, 100)?;
     same(&base, &0, &"not yet")?;
-    fs::remove_dir(&rt, "journal.new")?;
-    let base = store_in(&rt, "journal", &entries, 100, 200)?;
+    fs::remove_dir(&rt, "rewritten.new")?;
+    let base = store_in(&rt, "rewritten", &entries, 100, 200)?;
     same(&(base > 100), &true, &base)?;
-    let base = store_in(&rt, "journal", &entries, 200, 300)?;
+    let base = store_in(&rt, "rewritten", &entries, 200, 300)?;
     same(&(base > 200), &true, &base)
+}
+
+/// Whether nobody else can have the file at a path.
+fn is_in_use(rt: &HostRuntime, path: &str) -> bool {
+    let opened = FileDevice::open(rt, path).map(drop);
+    matches!(opened, Err(FileError::InUse))
+}
+
+/// Stores each of these entries in a real file that is nobody else's meanwhile. Says how often it had to be opened anew.
+fn store_alone(rt: &HostRuntime, path: &str, entries: &[Entry]) -> Result<usize, Fail> {
+    let mut store = store_at(rt, path)?;
+    let mut failures = 0usize;
+    for number in 0..entries.len() {
+        same(
+            &store.store(&entries[number..number + 1]).is_ok(),
+            &true,
+            &number,
+        )?;
+        same(&is_in_use(rt, path), &true, &number)?;
+        failures = failures.saturating_add(usize::from(store.device().is_none()));
+    }
+    Ok(failures)
+}
+
+/// Where it could not be written anew, it is held until it is opened anew.
+#[test]
+fn a_real_file_stays_locked(rt: HostRuntime) -> Result<(), Fail> {
+    let entries = history(rt.alloc(), &mut Random(4), 3, 100)?;
+    fs::create_dir(&rt, "held.new")?;
+    same(&store_alone(&rt, "held", &entries)?, &1, &"not replaced")?;
+    same(&is_in_use(&rt, "held"), &false, &"let go")?;
+    fs::remove_dir(&rt, "held.new")?;
+    same(&store_alone(&rt, "put", &entries)?, &0, &"replaced")?;
+    same(&is_in_use(&rt, "put"), &false, &"let go")
 }

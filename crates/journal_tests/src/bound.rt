@@ -2,9 +2,8 @@
 
 use super::crashes::{Store, store_over};
 use super::histories::{Manuals, Random, Sessions, history, preface};
-use crate::records::batch_of;
-use crate::restore;
 use desk_core::{Entry, Keep, board_entries};
+use journal_store::{batch_of, restore};
 use probe_core::Manual;
 use record_log::blocks_of;
 use std::alloc::Global;

@@ -1,7 +1,7 @@
 //! Files, also one that a server has.
 
 use super::samples::{TWO_LINES, file_of, two_entries};
-use crate::{JournalFault, print_journal};
+use journal_lines::{JournalFault, print_journal};
 use record_log::{Device, FileDevice};
 use std::fs;
 use std::io::ErrorKind;
@@ -18,10 +18,10 @@ fn printed(rt: &HostRuntime, path: &str) -> Result<Vec<u8>, JournalFault> {
 #[test]
 fn a_file_that_a_server_writes_is_printed(rt: HostRuntime) -> Result<(), Fail> {
     let alloc = rt.alloc();
-    let mut device = FileDevice::open(&rt, "journal")?;
-    same(&printed(&rt, "journal")?.len(), &0, &"no entry")?;
+    let mut device = FileDevice::open(&rt, "printed")?;
+    same(&printed(&rt, "printed")?.len(), &0, &"no entry")?;
     device.write_at(0, &file_of(alloc, &two_entries(alloc)?)?)?;
-    let text = printed(&rt, "journal")?;
+    let text = printed(&rt, "printed")?;
     same(&text.as_slice(), &TWO_LINES.as_bytes(), &"two entries")?;
     Ok(())
 }
@@ -53,9 +53,9 @@ fn a_file_that_is_missing_is_told(rt: HostRuntime) -> Result<(), Fail> {
 
 #[test]
 fn damage_is_told_with_its_place(rt: HostRuntime) -> Result<(), Fail> {
-    fs::write(&rt, "damaged", b"\x01\x00")?;
+    fs::write(&rt, "printed_damaged", b"\x01\x00")?;
     same(
-        &fault_at(&rt, "damaged")?.as_str(),
+        &fault_at(&rt, "printed_damaged")?.as_str(),
         &"damaged at byte 0",
         &"damaged",
     )

@@ -2,7 +2,9 @@
 
 ghost use Rattle.std.specs.Prelude.{◌<◌, All, length, IfOk};
 
-use crate::{FileDevice, FileError, OpenError, RecordLog, blocks_of, write_anew, write_text_anew};
+use record_log::{
+    FileDevice, FileError, HeldFile, OpenError, RecordLog, blocks_of, write_anew, write_text_anew,
+};
 use std::alloc::{AllocError, Global};
 use std::fs;
 use std::test::Fail;
@@ -134,6 +136,44 @@ fn a_text_is_put_in_the_place_of_a_file(rt: HostRuntime) -> Result<(), Fail> {
     same(&fs::read(&rt, path)?, &before, &"as it was")?;
     fs::remove_dir(&rt, beside)?;
     same(&put_three(&rt, path)?, &true, &"put")?;
+    fs::remove_file(&rt, path)?;
+    Ok(())
+}
+
+/// Whether another log has the file at a path.
+fn is_in_use(rt: &HostRuntime, path: &str) -> bool {
+    let opened = log_at(rt, path).map(drop);
+    matches!(opened, Err(FileError::InUse))
+}
+
+/// Tries to put the text of one entry in the place of a file, which a folder does not let be.
+fn held_at(rt: &HostRuntime, path: &str) -> Result<HeldFile, Fail> {
+    let alloc = rt.alloc();
+    let mut log = log_at(rt, path)?;
+    log.open(alloc)?;
+    match write_text_anew(rt, path, log, &blocks_of(alloc, &three(alloc)?)?) {
+        Ok(_) => Err(Fail::new(format_args!("it was put"))),
+        Err(failed) => Ok(failed.old),
+    }
+}
+
+/// It is opened by what is held, and free once that is let go.
+#[test]
+fn a_file_that_is_not_replaced_stays_locked(rt: HostRuntime) -> Result<(), Fail> {
+    let (path, beside) = ("/tmp/record-log-held", "/tmp/record-log-held.new");
+    make_two(&rt, path)?;
+    fs::create_dir(&rt, beside)?;
+    let held = held_at(&rt, path)?;
+    same(&is_in_use(&rt, path), &true, &"held")?;
+    same(&held.is_at(&rt, path), &true, &"at its path")?;
+    same(&held.is_at(&rt, "/tmp"), &false, &"at another")?;
+    let mut log = RecordLog::new(held.open(&rt, path)?);
+    same(&log.open(rt.alloc())?.len(), &2, &"its entries")?;
+    drop(held);
+    same(&is_in_use(&rt, path), &true, &"opened")?;
+    drop(log);
+    same(&is_in_use(&rt, path), &false, &"let go")?;
+    fs::remove_dir(&rt, beside)?;
     fs::remove_file(&rt, path)?;
     Ok(())
 }

@@ -4,10 +4,10 @@ ghost use Rattle.std.specs.Prelude.{◌≡◌, IfOk};
 ghost use Rattle.desk_core.specs.Left.{Holds};
 ghost use Rattle.journal_store.specs.Record.{restored_of};
 
-use super::histories::{Manuals, Random, Replacing, Sessions, Spare, history, preface};
-use crate::{JournalStore, Witness, restore};
+use super::histories::{Manuals, OPENING, Random, Replacing, Sessions, Spare, history, preface};
 use desk_core::{Call, Entry, Keep, Reply};
 use entry_record::Stored;
+use journal_store::{JournalStore, Witness, restore};
 use probe_core::Manual;
 use record_log::{Memory, RecordLog};
 use std::alloc::Global;
@@ -16,9 +16,7 @@ use test_support::same;
 
 pub(crate) type Store = JournalStore<Spare, Sessions>;
 
-/// How many calls of a device opening an empty file takes, and how many an entry: two writes, each synced.
-const OPENING: usize = 3;
-
+/// How many calls of a device an entry takes: two writes, each synced.
 const ENTRY: usize = 4;
 
 /// A store over a file, whose device stops after so many calls, and its entries.

@@ -1,9 +1,9 @@
 //! Journals' files, and what is printed of them.
 
-use crate::{JournalFault, print_entries};
 use chronicle::Who;
 use desk_core::{Call, Entry, Finding, Reply, Setting, Slot};
 use entry_record::Stored;
+use journal_lines::{JournalFault, print_entries};
 use probe_core::Rule;
 use record_log::crc32;
 use std::alloc::{AllocError, Global};

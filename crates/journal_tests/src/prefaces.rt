@@ -1,8 +1,8 @@
 //! What stands in front of the entries of a file.
 
 use super::histories::{Random, Replacing, Sessions, Spare, history, preface};
-use crate::{JournalStore, PrefaceFault, read_preface};
 use desk_core::Keep;
+use journal_store::{JournalStore, PrefaceFault, read_preface};
 use record_log::{Memory, RecordLog, read_entries};
 use std::alloc::Global;
 use std::test::Fail;

@@ -1,11 +1,10 @@
 //! A desk over a store that fails, and files whose entries are none.
 
 use super::histories::{Manuals, Random, Replacing, Sessions, Spare, history, preface};
-use crate::records::batch_of;
-use crate::{JournalStore, RecordFault, RestoreFault, restore};
 use chronicle::Who;
 use desk_core::{Call, Desk, Entry, Refusal, Reply, Setting, Slot};
 use entry_record::Stored;
+use journal_store::{JournalStore, RecordFault, RestoreFault, batch_of, restore};
 use probe_core::Manual;
 use record_log::{Memory, RecordLog, blocks_of};
 use std::alloc::Global;
@@ -170,7 +169,7 @@ fn a_record_that_is_no_entry_is_found(rt: HostRuntime) -> Result<(), Fail> {
     let shutdown = [0, 0, 0, 0, 0, 0, 0, 0, 0, 0, 0, 0, 6];
     for record in &RECORDS {
         let found = vec![in alloc; shutdown.to_vec(alloc)?, record.to_vec(alloc)?]?;
-        let read = crate::read_records(alloc, &found).map(|stored| stored.len());
+        let read = journal_store::read_records(alloc, &found).map(|stored| stored.len());
         same(&read, &Err(RecordFault::NotAnEntry(1)), record)?;
     }
     Ok(())

@@ -1,4 +1,4 @@
-use crate::{Memory, ReadError, RecordLog, crc32, read_entries};
+use record_log::{Memory, ReadError, RecordLog, crc32, read_entries};
 use std::alloc::Global;
 use std::test::Fail;
 use test_support::same;

@@ -1,7 +1,7 @@
 //! Printing where memory is scarce, and to an output that fails.
 
 use super::samples::{TWO_LINES, file_of, two_entries};
-use crate::{JournalFault, print_entries};
+use journal_lines::{JournalFault, print_entries};
 use std::alloc::{AllocError, Global};
 use std::io::ErrorKind;
 use std::test::Fail;

@@ -3,7 +3,7 @@ use Rattle.std.proofs.lemmas.Grind.{common_steps}
 use Rattle.record_log.specs.Log.{IsReady, StandsFor, texts}
 use Rattle.record_log.specs.MemoryView.{memory_bytes, memory_may_leave}
 use Rattle.journal_store.proofs.RecordLemmas.{the_records}
-use Rattle.journal_store.proofs.tests.histories.log_over.Goals as goal
+use Rattle.journal_tests.proofs.histories.log_over.Goals as goal
 
 pub returns-in-Ok : goal.returns-in-Ok
 returns-in-Ok c = λ records is.

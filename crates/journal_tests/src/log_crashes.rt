@@ -2,7 +2,7 @@
 
 ghost use Rattle.std.specs.Prelude.{◌<◌, ◌≤◌, All, length, IfOk};
 
-use crate::{Memory, RecordLog, read_entries};
+use record_log::{Memory, RecordLog, read_entries};
 use std::alloc::{AllocError, Global};
 use std::test::Fail;
 use test_support::same;

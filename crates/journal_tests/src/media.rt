@@ -1,6 +1,6 @@
 //! A medium that is a file.
 
-use crate::{FileMedium, Medium};
+use journal_store::{FileMedium, Medium};
 use record_log::Device;
 use std::test::Fail;
 use test_support::same;
@@ -9,7 +9,7 @@ use test_support::same;
 #[test]
 fn a_file_is_opened_anew(rt: HostRuntime) -> Result<(), Fail> {
     let alloc = rt.alloc();
-    let mut medium = FileMedium::new(&rt, String::from_str(alloc, "journal")?);
+    let mut medium = FileMedium::new(&rt, String::from_str(alloc, "medium")?);
     let mut device = medium.reopen()?;
     device.write_at(0, b"its bytes")?;
     device.sync()?;
