@@ -1,0 +1,6 @@
+pub mod BoardLemmas
+pub mod JsonLemmas
+pub mod MetricLemmas
+pub mod NameLemmas
+pub mod SlotLemmas
+pub mod InquiryLemmas

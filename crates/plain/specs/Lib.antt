@@ -1,0 +1,11 @@
+pub mod Answer
+pub mod Escapes
+pub mod Inquiry
+pub mod Metrics
+pub mod Page
+pub mod PlainText
+pub mod Response
+pub mod Services
+pub mod Slots
+pub mod StatusText
+pub mod Target

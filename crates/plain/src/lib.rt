@@ -1,0 +1,20 @@
+//! What is answered to requests of plain HTTP that are no calls.
+#![tactic(auto)]
+
+mod answering;
+mod escapes;
+mod figures;
+mod inquiry;
+mod metrics;
+mod page;
+mod response;
+mod services;
+mod status_text;
+mod target;
+#[cfg(test)]
+mod tests;
+mod verb;
+
+pub use answering::answer;
+pub use figures::Figures;
+pub use inquiry::{Inquiry, inquiry_of};
