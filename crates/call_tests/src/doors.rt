@@ -2,8 +2,9 @@
 
 use desk_core::{Behind, Catalogue, Desk, Entry, Keep, NotStored, Setting, Slot, Watch};
 use health_wire::Serving;
+use plain::Inquiry;
 use probe_core::Manual;
-use std::alloc::Global;
+use std::alloc::{AllocError, Global};
 use std::test::Fail;
 use web_call::Door;
 
@@ -78,7 +79,10 @@ fn flip(desk: &mut Desk<Manual, KeepSixteen>, slot: Slot, was_down: bool, times:
 }
 
 impl Door for Flipping<'_> {
-    ghost use Rattle.std.specs.Prelude.{⊤, Some};
+    ghost use Rattle.std.specs.Prelude.{⊤, ◌≡◌, ℕ, List, IfOk, Some, false};
+    ghost use Rattle.desk_core.specs.Legal.{IsLegal};
+    ghost use Rattle.plain.specs.Answer.{IsInquiryOf, IsTold};
+    ghost use Rattle.plain.specs.Inquiry.{asked_of};
     ghost use Rattle.desk_core.specs.Past.{past};
 
     ghost names = { λ door. door.catalogue.now };
@@ -88,6 +92,8 @@ impl Door for Flipping<'_> {
     ghost follows = { λ _ _. ⊤ };
 
     ghost kept = { Some 16 };
+
+    ghost is_plain = { false };
 
     ghost stays = { λ _ _. ⊤ };
 
@@ -112,5 +118,22 @@ impl Door for Flipping<'_> {
             self.is_down = flip(&mut self.desk, slot, self.is_down, *times);
         }
         self.desk.step_kept(watch)
+    }
+
+    fn answers_plainly(&self) -> bool {
+        false
+    }
+
+    /// It is never asked, since it answers no plain requests.
+    fn tell(&mut self, _alloc: Global, inquiry: &Inquiry<'_>) -> Result<Vec<u8>, AllocError>
+        ensures names { self.new.catalogue.now ≡ self.old.catalogue.now }
+        ensures legal { IsLegal (past self.new.desk.journal) }
+        ensures follows { ⊤ }
+        ensures stays { ⊤ }
+        ensures told { (head : List ℕ) → IsInquiryOf head (asked_of inquiry.now) → IfOk result
+            (λ text. IsTold self.old.catalogue.now (past self.new.desk.journal) head text.items) }
+    {
+        let _board = self.desk.board();
+        Err(AllocError)
     }
 }

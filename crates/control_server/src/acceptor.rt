@@ -48,7 +48,7 @@ impl Accept<ControlStream> for ControlAcceptor {
         Ok(())
     }
 
-    fn accept(&self) -> io::Result<ControlStream> {
+    fn accept(&mut self) -> io::Result<ControlStream> {
         match &self.listener {
             Some(listener) => listener.accept(),
             None => Err(io::Error::from(ErrorKind::WouldBlock)),

@@ -1,5 +1,5 @@
 -- How a worker answers a call: by an exchange, of which its end tells. Each bound is `exchange`'s own.
-use Rattle.std.specs.Prelude.{◌≡◌, ◌≢◌, ◌⊎◌, ◌++◌, ℕ, Bool, true, Option, Some, None, List, []}
+use Rattle.std.specs.Prelude.{◌≡◌, ◌≢◌, ◌⊎◌, ◌++◌, ℕ, Bool, true, false, Option, Some, None, List, []}
 use Rattle.std.specs.Io.KnownBytes.{Appends, Consumes, IsAtEnd}
 use Rattle.desk_core.specs.declared.entry.Entry.{Entry}
 use Rattle.desk_core.specs.Watch.{IsOlder}
@@ -51,7 +51,7 @@ MeetsHall looks old new asked ending =
 
 -- a request of this head and body, at these histories, at a hall of a catalogue of these names that forgets nothing
 abbrev pub asking_at : List (List ℕ) → List (List Entry) → List ℕ → List ℕ → Asking
-asking_at names asked head body = record { source = record { names = names; kept = None }; asked = asked; head = head; body = body }
+asking_at names asked head body = record { source = record { names = names; kept = None; is_plain = false }; asked = asked; head = head; body = body }
 
 -- a request was read to its end and no further, and its whole answer was written
 pub record IsDone {R P K : Type 0} (looks : ℕ) (old new : Moment (HallDoor R P K)) (outcome : Outcome) : Type 0 where

@@ -4,11 +4,13 @@ ghost use Rattle.desk_core.specs.Transcript.{IsCopy, IsCopyWithin};
 ghost use Rattle.crew.specs.HallDoor.{door_seat};
 
 use crate::door::HallDoor;
-use desk_core::{Behind, Keep, KeepAll, Transcript, Watch};
+use desk_core::{Behind, Catalogue, Console, Keep, KeepAll, Registrar, Transcript, Watch};
 use health_wire::Serving;
+use plain::Inquiry;
 use probe_core::Probe;
+use std::alloc::{AllocError, Global};
 use std::sync::Wait;
-use web_call::Door;
+use web_call::{BoardDoor, Door};
 
 /// A door over a hall that tells Watches from a copy of the status changes.
 ///
@@ -55,6 +57,10 @@ impl<'a, R: Wait, P: Probe, K: Keep> CopyingDoor<'a, R, P, K> {
 }
 
 impl<'a, R: Wait, P: Probe, K: Keep> Door for CopyingDoor<'a, R, P, K> {
+    ghost use Rattle.std.specs.Prelude.{◌≡◌, ℕ, List, IfOk, false};
+    ghost use Rattle.desk_core.specs.Legal.{IsLegal};
+    ghost use Rattle.plain.specs.Answer.{IsInquiryOf, IsTold};
+    ghost use Rattle.plain.specs.Inquiry.{asked_of};
     ghost use Rattle.desk_core.specs.Watch.{IsOlder};
     ghost use Rattle.crew.specs.HallDoor.{door_hall, door_seat, StaysAt, stays_same, stays_then};
     ghost use Rattle.crew.specs.CopyingDoor.{door_of};
@@ -66,6 +72,8 @@ impl<'a, R: Wait, P: Probe, K: Keep> Door for CopyingDoor<'a, R, P, K> {
     ghost follows = { IsOlder };
 
     ghost kept = { K.kept };
+
+    ghost is_plain = { false };
 
     ghost stays = { λ a b. StaysAt (door_of a) (door_of b) };
 
@@ -91,7 +99,40 @@ impl<'a, R: Wait, P: Probe, K: Keep> Door for CopyingDoor<'a, R, P, K> {
         self.copy.step(watch)
     }
 
+    fn answers_plainly(&self) -> bool {
+        false
+    }
+
+    /// It is never asked, since it answers no plain requests.
+    fn tell(&mut self, _alloc: Global, inquiry: &Inquiry<'_>) -> Result<Vec<u8>, AllocError>
+        ensures names { (door_hall (door_of self.new)).names
+            ≡ (door_hall (door_of self.old)).names }
+        ensures legal { IsLegal (door_seat (door_of self.new)).seen }
+        ensures follows { IsOlder (door_seat (door_of self.old)).seen
+            (door_seat (door_of self.new)).seen }
+        ensures stays { StaysAt (door_of self.old) (door_of self.new) }
+        ensures told { (head : List ℕ) → IsInquiryOf head (asked_of inquiry.now) → IfOk result
+            (λ text. IsTold (door_hall (door_of self.old)).names
+            (door_seat (door_of self.new)).seen head text.items) }
+    {
+        self.door.made();
+        Err(AllocError)
+    }
+
     fn renew(&mut self) {
         self.is_current = false;
+    }
+}
+
+impl<'a, R: Wait, P: Probe, K: Keep> BoardDoor for CopyingDoor<'a, R, P, K> {
+    fn catalogue(&self) -> &Catalogue {
+        self.door.catalogue()
+    }
+
+    fn board(&mut self) -> u64 {
+        self.is_current = false;
+        let board = Console::board(&mut self.door);
+        self.door.made();
+        board
     }
 }

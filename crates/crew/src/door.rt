@@ -6,8 +6,9 @@ use desk_core::{
 };
 use hall::{Hall, Seat};
 use health_wire::Serving;
+use plain::Inquiry;
 use probe_core::Probe;
-use std::alloc::AllocError;
+use std::alloc::{AllocError, Global};
 use std::sync::Wait;
 use web_call::Door;
 
@@ -67,6 +68,10 @@ impl<'a, R: Wait, P: Probe, K: Keep> HallDoor<'a, R, P, K> {
 }
 
 impl<'a, R: Wait, P: Probe, K: Keep> Door for HallDoor<'a, R, P, K> {
+    ghost use Rattle.std.specs.Prelude.{◌≡◌, ℕ, List, IfOk, false};
+    ghost use Rattle.desk_core.specs.Legal.{IsLegal};
+    ghost use Rattle.plain.specs.Answer.{IsInquiryOf, IsTold};
+    ghost use Rattle.plain.specs.Inquiry.{asked_of};
     ghost use Rattle.desk_core.specs.Watch.{IsOlder};
     ghost use Rattle.crew.specs.HallDoor.{door_hall, door_seat, StaysAt, stays_same, stays_then};
 
@@ -77,6 +82,8 @@ impl<'a, R: Wait, P: Probe, K: Keep> Door for HallDoor<'a, R, P, K> {
     ghost follows = { IsOlder };
 
     ghost kept = { K.kept };
+
+    ghost is_plain = { false };
 
     ghost stays = { StaysAt };
 
@@ -94,6 +101,23 @@ impl<'a, R: Wait, P: Probe, K: Keep> Door for HallDoor<'a, R, P, K> {
 
     fn step(&mut self, watch: &mut Watch) -> Result<Option<Serving>, Behind> {
         self.hall.step_kept(self.rt, self.seat, watch)
+    }
+
+    fn answers_plainly(&self) -> bool {
+        false
+    }
+
+    /// It is never asked, since it answers no plain requests.
+    fn tell(&mut self, _alloc: Global, inquiry: &Inquiry<'_>) -> Result<Vec<u8>, AllocError>
+        ensures names { (door_hall self.new).names ≡ (door_hall self.old).names }
+        ensures legal { IsLegal (door_seat self.new).seen }
+        ensures follows { IsOlder (door_seat self.old).seen (door_seat self.new).seen }
+        ensures stays { StaysAt self.old self.new }
+        ensures told { (head : List ℕ) → IsInquiryOf head (asked_of inquiry.now) → IfOk result
+            (λ text. IsTold (door_hall self.old).names (door_seat self.new).seen head text.items) }
+    {
+        self.made();
+        Err(AllocError)
     }
 }
 

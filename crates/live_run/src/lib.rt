@@ -10,12 +10,12 @@
 //! ghost use Rattle.hall.specs.Seats.{own_calls};
 //!
 //! use desk_core::Keep;
-//! use live_run::{Ran, RunFault, SessionPlaces, run_live};
+//! use live_run::{Counters, Ran, RunFault, SessionPlaces, run_live};
 //! use live_server::{EventServer, News};
 //! use probe_core::{Maker, Probe};
 //! use server::SetUpHall;
 //! use std::alloc::Global;
-//! use std::sync::Wait;
+//! use std::sync::{Arc, Wait};
 //! use std::thread::Threads;
 //! use std::time::Clock;
 //!
@@ -26,6 +26,7 @@
 //!     made: SetUpHall<P, K>,
 //!     servers: Vec<EventServer>,
 //!     maker: &M,
+//!     counters: &Arc<Counters>,
 //!     news: &News,
 //! ) -> Result<Ran<P, K>, RunFault>
 //! where
@@ -38,12 +39,13 @@
 //!         report: None,
 //!         watchdog: None,
 //!     };
-//!     run_live(rt, alloc, made, servers, places, maker, news)
+//!     run_live(rt, alloc, made, servers, places, maker, counters, news)
 //! }
 //! ```
 #![tactic(auto)]
 
 mod beside;
+mod counters;
 mod gauges;
 mod laws;
 mod ran;
@@ -57,6 +59,7 @@ mod watchdog_loop;
 mod watched;
 mod whole_run;
 
+pub use counters::Counters;
 pub use gauges::Gauges;
 pub use laws::results_in_place;
 pub use ran::{Ran, SessionPlaces};

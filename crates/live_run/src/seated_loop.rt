@@ -1,22 +1,27 @@
 ghost use Rattle.std.specs.List.{All};
 ghost use Rattle.hall.specs.Seats.{IsOf};
-ghost use Rattle.live_run.specs.Loops.{HasServed, HaveServed};
+ghost use Rattle.live_run.specs.Loops.{HasServed, HasServedAll, HaveServed};
 
+use crate::counters::Counters;
 use crew::{CopyingDoor, HallDoor};
 use desk_core::{Keep, KeepAll, Transcript};
 use hall::{Hall, Seat};
+use inquiry::Reception;
 use live_server::{EventServer, News};
 use probe_core::Probe;
-use std::sync::Wait;
+use std::sync::{Arc, Wait};
 use std::thread;
 use std::thread::Threads;
 use std::time::Clock;
+use web_call::BoardDoor;
 
 /// An event loop, and the seat that its calls look with.
 #[derive(Drop)]
 pub struct SeatedLoop<P: Probe, K: Keep = KeepAll> {
     pub server: EventServer,
     pub seat: Seat<P, K>,
+    /// What plain requests are told of the server.
+    pub counters: Arc<Counters>,
 }
 
 /// Serves until all is to end and no connection is left.
@@ -32,7 +37,22 @@ fn serve_loop<R: Wait + Clock, P: Probe, K: Keep>(
     let mut copy = Transcript::new(seated.server.allocator());
     let door = HallDoor::new(rt, hall, &mut seated.seat);
     let mut door = CopyingDoor::new(door, &mut copy);
-    seated.server.run(rt, &mut door, news);
+    serve_at(rt, &mut seated.server, &mut door, &*seated.counters, news);
+}
+
+/// Serves at a door until all is to end and no connection is left.
+fn serve_at<R: Wait + Clock, D: BoardDoor>(
+    rt: &R,
+    server: &mut EventServer,
+    door: &mut D,
+    counters: &Counters,
+    news: &News,
+)
+    ensures stays { D.stays door.old door.new }
+    ensures server { HasServedAll server.old server.new }
+{
+    let mut reception = Reception::new(door, counters);
+    server.run(rt, &mut reception, news);
 }
 
 /// Lets all loops serve side by side until all is to end and no connection is left.

@@ -4,6 +4,7 @@ ghost use Rattle.hall.specs.Seats.{IsOf};
 ghost use Rattle.live_run.specs.Loops.{HaveServed};
 ghost use Rattle.live_run.specs.Seating.{AreDivided};
 
+use crate::counters::Counters;
 use crate::ran::SessionPlaces;
 use crate::seated_loop::{SeatedLoop, serve_loops};
 use crate::sitting::Sitting;
@@ -14,7 +15,7 @@ use hall::{Hall, Seat};
 use live_server::{EventServer, News};
 use probe_core::{Maker, Probe};
 use std::alloc::{AllocError, Global};
-use std::sync::Wait;
+use std::sync::{Arc, Wait};
 use std::thread::Threads;
 use std::time::Clock;
 
@@ -47,6 +48,7 @@ impl<P: Probe, K: Keep> Seating<P, K> {
         alloc: Global,
         servers: Vec<EventServer>,
         seats: Vec<Seat<P, K>>,
+        counters: &Arc<Counters>,
     ) -> Result<Seating<P, K>, AllocError>
         requires enough { vec_len servers < vec_len seats }
         ensures { IfOk result (IsSeatingOf servers.items seats.items) }
@@ -56,7 +58,7 @@ impl<P: Probe, K: Keep> Seating<P, K> {
             report,
             back,
             ..
-        } = Seating::undivided(alloc, servers, seats)?;
+        } = Seating::undivided(alloc, servers, seats, counters)?;
         let (control, report) = divided(alloc, report)?;
         Ok(Seating {
             loops,
@@ -71,6 +73,7 @@ impl<P: Probe, K: Keep> Seating<P, K> {
         alloc: Global,
         servers: Vec<EventServer>,
         seats: Vec<Seat<P, K>>,
+        counters: &Arc<Counters>,
     ) -> Result<Seating<P, K>, AllocError>
         requires enough { vec_len servers < vec_len seats }
         ensures { IfOk result (IsUndivided servers.items seats.items) }
@@ -90,7 +93,13 @@ impl<P: Probe, K: Keep> Seating<P, K> {
         back.seats.push(rest.next().unwrap()).unwrap();
         for server in servers {
             let seat = rest.next().unwrap();
-            loops.push(SeatedLoop { server, seat }).unwrap();
+            let counters = counters.clone()?;
+            let seated = SeatedLoop {
+                server,
+                seat,
+                counters,
+            };
+            loops.push(seated).unwrap();
         }
         for seat in rest {
             report.push(seat).unwrap();
@@ -121,7 +130,7 @@ impl<P: Probe, K: Keep> Seating<P, K> {
             mut seats,
             places,
         } = back;
-        for SeatedLoop { server, seat } in loops {
+        for SeatedLoop { server, seat, .. } in loops {
             servers.push(server).unwrap();
             seats.push(seat).unwrap();
         }

@@ -8,6 +8,7 @@ ghost use Rattle.server.specs.Setup.{AreSetUp};
 ghost use Rattle.live_run.specs.Loops.{HaveServedAll};
 ghost use Rattle.live_run.specs.WholeRun.{AreNone, HasRun, HasRunLoops, HaveEnded, HaveTerms, IsLaterFault, run_fault};
 
+use crate::counters::Counters;
 use crate::ran::{Ran, SessionPlaces};
 use crate::run_fault::RunFault;
 use crate::seating::{Back, Seating};
@@ -17,7 +18,7 @@ use live_server::{EventServer, News};
 use probe_core::{Maker, Probe};
 use server::SetUpHall;
 use std::alloc::Global;
-use std::sync::Wait;
+use std::sync::{Arc, Wait};
 use std::thread::Threads;
 use std::time::Clock;
 
@@ -25,7 +26,7 @@ use std::time::Clock;
 /// and no connection is left, and then closes the hall.
 ///
 /// The first seat has set the hall up, and the watchdog makes its fails by it. Those behind it are the loops', in their order; behind these 32 are the control place's, and the
-/// others the report place's. Sessions make their changes by them, with probes that `maker` gives.
+/// others the report place's. Plain requests are told of the server what `counters` read. Sessions make their changes by them, with probes that `maker` gives.
 pub fn run_live<R, P: Probe + Send, K: Keep + Send, M>(
     rt: &R,
     alloc: Global,
@@ -33,6 +34,7 @@ pub fn run_live<R, P: Probe + Send, K: Keep + Send, M>(
     servers: Vec<EventServer>,
     places: SessionPlaces,
     maker: &M,
+    counters: &Arc<Counters>,
     news: &News,
 ) -> Result<Ran<P, K>, RunFault>
 where
@@ -70,7 +72,7 @@ where
     if let Some(fault) = RunFault::of(servers.len(), seats.len()) {
         return Err(fault);
     }
-    let Ok(seating) = Seating::new(alloc, servers, seats) else {
+    let Ok(seating) = Seating::new(alloc, servers, seats, counters) else {
         return Err(RunFault::NoMemory);
     };
     let Back {

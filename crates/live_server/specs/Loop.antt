@@ -1,11 +1,11 @@
 -- The connections that a loop holds.
 use Rattle.std.specs.Prelude.{[]}
-use Rattle.mio.specs.declared.net.stream.TcpStream.{TcpStream}
 use Rattle.connection_table.specs.Table.{TableState}
 use Rattle.reactor.specs.declared.connection.Connection.{Connection}
 use Rattle.reactor.specs.contracts.calling.CallMachine.TheImpl.{ghosts}
 use Rattle.web_call.specs.declared.call.Call.{Call}
 use Rattle.live_server.specs.declared.acceptor.Acceptor.{Acceptor}
+use Rattle.live_server.specs.declared.caller.Caller.{Caller}
 use Rattle.live_server.specs.declared.conversations.Conversations.{Conversations}
 use Rattle.live_server.specs.declared.event_loop.EventLoop.{EventLoop}
 use Rattle.live_server.specs.declared.places.Limits.{Limits}
@@ -14,7 +14,7 @@ use Rattle.live_server.specs.Held.{held_in, taken_in}
 
 -- a loop over calls
 abbrev pub EventServer : Type 0
-EventServer = EventLoop Acceptor TcpStream Call ghosts
+EventServer = EventLoop Acceptor Caller Call ghosts
 
 -- the table of the connections that a loop holds
 abbrev pub held_by : {A S M : Type 0} {g : _} → EventLoop A S M g → TableState (Connection S M g)

@@ -7,7 +7,7 @@ pub trait Accept<S>: Drop {
     fn report(&mut self, poll: &Poll, token: Token) -> io::Result<()>;
 
     /// The next connection, or `WouldBlock` where none waits, or it is closed.
-    fn accept(&self) -> io::Result<S>;
+    fn accept(&mut self) -> io::Result<S>;
 
     /// Accepts no more. Clients that come are refused, at the latest once it is dropped.
     fn close(&mut self, poll: &Poll, token: Token);

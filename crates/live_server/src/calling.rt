@@ -1,13 +1,13 @@
 //! The door that calls are answered at, as the handler of their connections.
 
+use crate::caller::Caller;
 use crate::handler::{Handler, Visit};
-use mio::net::TcpStream;
 use reactor::{Connection, Left};
 use std::alloc::Global;
 use std::time::Instant;
 use web_call::{Call, Door};
 
-impl<D: Door> Handler<TcpStream, Call> for D {
+impl<D: Door> Handler<Caller, Call> for D {
     ghost use Rattle.std.specs.Prelude.{◌≡◌, refl};
     ghost use Rattle.std.proofs.Common.{◌∙◌};
 
@@ -18,10 +18,10 @@ impl<D: Door> Handler<TcpStream, Call> for D {
     fn open(
         &mut self,
         alloc: Global,
-        stream: TcpStream,
+        stream: Caller,
         now: Instant,
         _talking: usize,
-    ) -> Option<Connection<TcpStream, Call>> {
+    ) -> Option<Connection<Caller, Call>> {
         let call = Call::new(alloc).ok()?;
         Some(Connection::new(stream, call, now))
     }
@@ -30,7 +30,7 @@ impl<D: Door> Handler<TcpStream, Call> for D {
         &mut self,
         alloc: Global,
         visit: Visit,
-        connection: &mut Connection<TcpStream, Call>,
+        connection: &mut Connection<Caller, Call>,
         buffer: &mut [u8],
     ) -> Left {
         connection.turn(alloc, self, buffer, visit.occasion)

@@ -1,8 +1,8 @@
 use crate::acceptor::Acceptor;
+use crate::caller::Caller;
 use crate::conversations::Conversations;
 use crate::queue::Queue;
 use crate::tally::Tally;
-use mio::net::TcpStream;
 use mio::{Events, Poll};
 use reactor::Machine;
 use std::sync::Arc;
@@ -28,5 +28,5 @@ pub struct EventLoop<A, S, M: Machine> {
     pub(crate) tally: Arc<Tally>,
 }
 
-/// A loop over the calls that come to a socket.
-pub type EventServer = EventLoop<Acceptor, TcpStream, Call>;
+/// A loop over the calls that come to a socket, and the plain requests that come to another.
+pub type EventServer = EventLoop<Acceptor, Caller, Call>;

@@ -32,6 +32,7 @@
 
 mod accept;
 mod acceptor;
+mod caller;
 mod calling;
 mod conversations;
 mod event_loop;
@@ -47,6 +48,7 @@ mod turns;
 
 pub use accept::Accept;
 pub use acceptor::Acceptor;
+pub use caller::{Caller, Entrance};
 pub use conversations::Counts;
 pub use event_loop::{EventLoop, EventServer};
 pub use handler::{Handler, Visit};

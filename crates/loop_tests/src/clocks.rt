@@ -1,8 +1,7 @@
 //! Rounds at readings of a clock that a test picks.
 
 use crate::scenes::{Place, ROUNDS, Scene};
-use live_server::{Handler, Visit};
-use mio::net::TcpStream;
+use live_server::{Caller, Handler, Visit};
 use reactor::{Connection, Left};
 use std::alloc::Global;
 use std::io;
@@ -26,7 +25,7 @@ struct Host<'a, D: Door> {
     door: &'a mut D,
 }
 
-impl<D: Door> Handler<TcpStream, Call> for Host<'_, D> {
+impl<D: Door> Handler<Caller, Call> for Host<'_, D> {
     ghost is_ready = { λ _. Unit {0} };
 
     ghost stays = { λ a b. Unit {0} };
@@ -34,10 +33,10 @@ impl<D: Door> Handler<TcpStream, Call> for Host<'_, D> {
     fn open(
         &mut self,
         alloc: Global,
-        stream: TcpStream,
+        stream: Caller,
         now: Instant,
         talking: usize,
-    ) -> Option<Connection<TcpStream, Call>> {
+    ) -> Option<Connection<Caller, Call>> {
         if self.is_full(talking) {
             return None;
         }
@@ -55,7 +54,7 @@ impl<D: Door> Handler<TcpStream, Call> for Host<'_, D> {
         &mut self,
         alloc: Global,
         visit: Visit,
-        connection: &mut Connection<TcpStream, Call>,
+        connection: &mut Connection<Caller, Call>,
         buffer: &mut [u8],
     ) -> Left {
         connection.turn(alloc, self.door, buffer, visit.occasion)

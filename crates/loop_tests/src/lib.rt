@@ -10,6 +10,8 @@ mod descriptors;
 #[cfg(test)]
 mod ends;
 #[cfg(test)]
+mod entrances;
+#[cfg(test)]
 mod full;
 #[cfg(test)]
 mod looks;

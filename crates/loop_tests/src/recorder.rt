@@ -3,6 +3,8 @@
 use crate::scenes::{Place, Scene};
 use desk_core::{Behind, Watch};
 use health_wire::Serving;
+use plain::Inquiry;
+use std::alloc::{AllocError, Global};
 use std::test::Fail;
 use std::time::Clock;
 use web_call::Door;
@@ -10,7 +12,7 @@ use web_call::Door;
 /// The most that a recorder takes down.
 pub(crate) const MOST: usize = 16;
 
-/// A door that takes down what it is asked first: a Check as `c`, an opening as `o`, a step as `s`, and that it is renewed as `r`. It
+/// A door that takes down what it is asked first: a Check as `c`, an opening as `o`, a step as `s`, a plain request as `t`, and that it is renewed as `r`. It
 /// counts all.
 #[derive(Drop)]
 struct Recorder<'a, D: Door> {
@@ -41,6 +43,8 @@ impl<D: Door> Door for Recorder<'_, D> {
 
     ghost kept = { D.kept };
 
+    ghost is_plain = { D.is_plain };
+
     ghost stays = { λ a b. D.stays a.door.now b.door.now };
 
     ghost stays_self = { λ a. D.stays_self a.door.now };
@@ -60,6 +64,15 @@ impl<D: Door> Door for Recorder<'_, D> {
     fn step(&mut self, watch: &mut Watch) -> Result<Option<Serving>, Behind> {
         self.note(b's');
         self.door.step(watch)
+    }
+
+    fn answers_plainly(&self) -> bool {
+        self.door.answers_plainly()
+    }
+
+    fn tell(&mut self, alloc: Global, inquiry: &Inquiry<'_>) -> Result<Vec<u8>, AllocError> {
+        self.note(b't');
+        self.door.tell(alloc, inquiry)
     }
 
     fn renew(&mut self) {

@@ -222,16 +222,16 @@ module _ {D : Type 0} {seen : D → List Entry} {names : D → List (List ℕ)} 
     lasts = λ looks. taken.lasts;
   }
 
-  pub served_then : (kept : _) {turn : Turn} {door between door_now : D} {call mid call_now : Call} {x y : Moved} {asked more : List (List Entry)}
+  pub served_then : (kept : _) (is_plain : Bool) {turn : Turn} {door between door_now : D} {call mid call_now : Call} {x y : Moved} {asked more : List (List Entry)}
       → (stays door between → stays between door_now → stays door door_now)
-      → HasServed (source_of (names door) kept) seen names follows stays turn door between call mid x asked
-      → HasServed (source_of (names between) kept) seen names follows stays turn between door_now mid call_now y more
-      → HasServed (source_of (names door) kept) seen names follows stays turn door door_now call call_now (followed_by x y) (asked ++ more)
-  served_then kept {door = door} {mid = mid} {call_now = call_now} {x = x} {y = y} {asked = asked} {more = more} on first second = record {
+      → HasServed (source_of (names door) kept is_plain) seen names follows stays turn door between call mid x asked
+      → HasServed (source_of (names between) kept is_plain) seen names follows stays turn between door_now mid call_now y more
+      → HasServed (source_of (names door) kept is_plain) seen names follows stays turn door door_now call call_now (followed_by x y) (asked ++ more)
+  served_then kept is_plain {door = door} {mid = mid} {call_now = call_now} {x = x} {y = y} {asked = asked} {more = more} on first second = record {
     has_grown = grown_then (λ other from. (from_parts x y from).0)
-        (λ other from. subst (λ n. IsFrom (source_of n kept) other y) (sym first.same_names) (from_parts x y from).1) first.has_grown second.has_grown;
-    by = All-append (λ step. step ≡ source_of (names door) kept) x.steps y.steps first.by
-        (subst (λ n. All (λ step. step ≡ source_of n kept) y.steps) first.same_names second.by);
+        (λ other from. subst (λ n. IsFrom (source_of n kept is_plain) other y) (sym first.same_names) (from_parts x y from).1) first.has_grown second.has_grown;
+    by = All-append (λ step. step ≡ source_of (names door) kept is_plain) x.steps y.steps first.by
+        (subst (λ n. All (λ step. step ≡ source_of n kept is_plain) y.steps) first.same_names second.by);
     asks = AsksDoor-again asked more first.asks second.asks;
     same_names = second.same_names ∙ first.same_names;
     same_door = on first.same_door second.same_door;
@@ -266,13 +266,13 @@ module _ {D : Type 0} {seen : D → List Entry} {names : D → List (List ℕ)} 
     same_names = others.same_names ∙ spans.same_names;
   }
 
-  pub spans_then : (kept : _) {turn : Turn} {door between door_now : D} {call mid call_now : Call} {x y : Moved} {asked more : List (List Entry)} → IsTransitive follows
-      → HasSpanned (source_of (names door) kept) seen names follows door between call mid x asked
-      → HasServed (source_of (names between) kept) seen names follows stays turn between door_now mid call_now y more
-      → HasSpanned (source_of (names door) kept) seen names follows door door_now call call_now (followed_by x y) (asked ++ more)
-  spans_then kept {door = door} {between = between} {door_now = door_now} {mid = mid} {call_now = call_now} {y = y} {asked = asked} {more = more} on first second =
+  pub spans_then : (kept : _) (is_plain : Bool) {turn : Turn} {door between door_now : D} {call mid call_now : Call} {x y : Moved} {asked more : List (List Entry)} → IsTransitive follows
+      → HasSpanned (source_of (names door) kept is_plain) seen names follows door between call mid x asked
+      → HasServed (source_of (names between) kept is_plain) seen names follows stays turn between door_now mid call_now y more
+      → HasSpanned (source_of (names door) kept is_plain) seen names follows door door_now call call_now (followed_by x y) (asked ++ more)
+  spans_then kept is_plain {door = door} {between = between} {door_now = door_now} {mid = mid} {call_now = call_now} {y = y} {asked = asked} {more = more} on first second =
       let reached = last_of (seen door) asked in record {
-        has_grown = grown_then (λ other is. is) (λ other is. inl (is ∙ ap (λ n. source_of n kept) (sym first.same_names))) first.has_grown second.has_grown;
+        has_grown = grown_then (λ other is. is) (λ other is. inl (is ∙ ap (λ n. source_of n kept is_plain) (sym first.same_names))) first.has_grown second.has_grown;
         in_turn = InTurn-append follows (seen door) asked more first.in_turn (turns_on on reached (seen between) more first.goes_on second.asks.in_turn);
         goes_on = subst (λ entries. GoesOnFrom follows entries (seen door_now)) (sym (last_of-append (seen door) asked more))
             (reaches_on follows reached (seen between) (seen door_now) more first.goes_on second.asks.last);

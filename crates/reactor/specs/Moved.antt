@@ -1,6 +1,6 @@
 -- What a conversation moves: bytes that come in and go out, and steps of its host.
-use Rattle.std.specs.Prelude.{ℕ, ◌+◌, Option, List, [], ◌∷◌, ◌++◌, length, refl}
-use Rattle.std.specs.Coded.{Coded, code_by, coded×, coded_ℕ, coded_list, coded_option}
+use Rattle.std.specs.Prelude.{ℕ, ◌+◌, Bool, Option, List, [], ◌∷◌, ◌++◌, length, refl}
+use Rattle.std.specs.Coded.{Coded, code_by, coded×, coded_ℕ, coded_list, coded_option, coded_bool}
 use Rattle.web_call.specs.Answer.{Source}
 
 -- the bytes that were read, how many at their end stand behind what is taken and were thrown away, the bytes that were sent, the steps
@@ -13,7 +13,9 @@ pub record Moved : Type 0 where
   pub ends : ℕ
 
 abbrev source_code : Coded Source
-source_code = code_by (List (List ℕ) × Option ℕ) (coded× (coded_list (coded_list coded_ℕ)) (coded_option coded_ℕ)) (λ source. (source.names, source.kept)) (λ p. record { names = p.0; kept = p.1 }) (λ _. refl)
+source_code =
+    code_by (List (List ℕ) × (Option ℕ × Bool)) (coded× (coded_list (coded_list coded_ℕ)) (coded× (coded_option coded_ℕ) coded_bool))
+    (λ source. (source.names, (source.kept, source.is_plain))) (λ p. record { names = p.0; kept = p.1.0; is_plain = p.1.1 }) (λ _. refl)
 
 -- how a proof stores what was moved
 abbrev pub moved_code : Coded Moved

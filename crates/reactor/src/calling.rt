@@ -74,7 +74,7 @@ impl Machine for Call {
         match self.outcome() {
             Some(Outcome::Http(_)) => true,
             Some(Outcome::Status(code)) => code != Code::Ok && code != Code::NotFound,
-            Some(Outcome::Watched { .. } | Outcome::Behind { .. }) | None => false,
+            Some(Outcome::Plain | Outcome::Watched { .. } | Outcome::Behind { .. }) | None => false,
         }
     }
 
@@ -94,9 +94,9 @@ impl<D: Door> Host<Call> for D {
     ghost use Rattle.reactor.specs.CallingLaws.{call_goes_on, closed_stays, served_alone, served_nowhere, served_stays, served_then, spans_nothing, spans_then, spans_waiting, stays_same, stays_then, taken_none};
     ghost use Rattle.reactor.specs.Calling.{DoorStays, HasBeenTold, HasServed, HasSpanned, HasStarved, IsAnswered, IsTransitive};
 
-    ghost source = { λ a. source_of (D.names a) D.kept };
+    ghost source = { λ a. source_of (D.names a) D.kept D.is_plain };
 
-    ghost goes = { λ t a b m n x. (asked : List (List Entry)) × HasServed (source_of (D.names a) D.kept) D.seen D.names D.follows D.stays t a b m n x asked };
+    ghost goes = { λ t a b m n x. (asked : List (List Entry)) × HasServed (source_of (D.names a) D.kept D.is_plain) D.seen D.names D.follows D.stays t a b m n x asked };
 
     ghost idle = { λ t call. is_open call ≡ true };
 
@@ -108,7 +108,7 @@ impl<D: Door> Host<Call> for D {
 
     ghost stays = { DoorStays D.seen D.names D.follows D.stays };
 
-    ghost spans = { λ a b m n x. IsTransitive D.follows → (asked : List (List Entry)) × HasSpanned (source_of (D.names a) D.kept) D.seen D.names D.follows a b m n x asked };
+    ghost spans = { λ a b m n x. IsTransitive D.follows → (asked : List (List Entry)) × HasSpanned (source_of (D.names a) D.kept D.is_plain) D.seen D.names D.follows a b m n x asked };
 
     fn step(&mut self, alloc: Global, call: &mut Call, then: Turn) -> Step {
         if call.wanted() > 0 {
@@ -136,11 +136,11 @@ impl<D: Door> Host<Call> for D {
         }
     }
 
-    ghost goes_nowhere = { λ t a m. ([], served_nowhere (source_of (D.names a) D.kept) t a m (D.stays_self a)) };
+    ghost goes_nowhere = { λ t a m. ([], served_nowhere (source_of (D.names a) D.kept D.is_plain) t a m (D.stays_self a)) };
 
-    ghost goes_alone = { λ t a m n x taken. ([], served_alone (source_of (D.names a) D.kept) t a (D.stays_self a) taken) };
+    ghost goes_alone = { λ t a m n x taken. ([], served_alone (source_of (D.names a) D.kept D.is_plain) t a (D.stays_self a) taken) };
 
-    ghost goes_on = { λ t a b c m n o x y p q. (p.0 ++ q.0, served_then D.kept (D.stays_on a b c) p.1 q.1) };
+    ghost goes_on = { λ t a b c m n o x y p q. (p.0 ++ q.0, served_then D.kept D.is_plain (D.stays_on a b c) p.1 q.1) };
 
     ghost rests_to_look = { λ t a m told. told.looks };
 
@@ -156,19 +156,19 @@ impl<D: Door> Host<Call> for D {
 
     ghost stays_on = { λ a b c. stays_then (D.stays_on a b c) };
 
-    ghost spans_nothing = { λ a m on. ([], spans_nothing (source_of (D.names a) D.kept) a m) };
+    ghost spans_nothing = { λ a m on. ([], spans_nothing (source_of (D.names a) D.kept D.is_plain) a m) };
 
     ghost spans_waiting = { λ a b c m n x p others on. let before = p on in (before.0, spans_waiting on before.1 others) };
 
-    ghost spans_on = { λ t a b c m n o x y p q on. let before = p on in (before.0 ++ q.0, spans_then D.kept on before.1 q.1) };
+    ghost spans_on = { λ t a b c m n o x y p q on. let before = p on in (before.0 ++ q.0, spans_then D.kept D.is_plain on before.1 q.1) };
 }
 
 /// Lets a Watch look for a change.
 fn look<D: Door>(door: &mut D, call: &mut Call) -> Step
     requires { (is_watching call.old ≡ true) × (to_send call.old ≡ []) }
-    ensures served { (asked : List (List Entry)) × HasServed (source_of (D.names door.old) D.kept)
+    ensures served { (asked : List (List Entry)) × HasServed (source_of (D.names door.old) D.kept D.is_plain)
         D.seen D.names D.follows D.stays Turn.Look door.old door.new call.old call.new
-        (stepped (source_of (D.names door.new) D.kept) result) asked }
+        (stepped (source_of (D.names door.new) D.kept D.is_plain) result) asked }
     ensures leaves { LeavesAt taken_by to_send (λ call. is_open call ≡ true) (HasBeenTold Turn.Look (D.seen door.new)) IsAnswered
         HasStarved result call.new }
 {

@@ -159,6 +159,13 @@ impl<S, M: Machine> Connection<S, M> {
         }
     }
 
+    /// What its bytes go over.
+    pub fn stream(&self) -> &S
+        ensures { result.now ≡ stream_of self.now }
+    {
+        self.link.stream()
+    }
+
     /// Its machine, which is what a conversation comes to that has moved all that this one has.
     pub fn machine(&self) -> &M
         ensures machine { result.now ≡ (state_of self.now).machine }

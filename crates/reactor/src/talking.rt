@@ -87,7 +87,7 @@ pub struct Attendant<'a, P: Probe, C, V, M> {
 }
 
 impl<P: Probe, C: Console<P>, V: Server, M: Maker<P>> Host<Session> for Attendant<'_, P, C, V, M> {
-    ghost use Rattle.std.specs.Prelude.{◌≡◌, refl};
+    ghost use Rattle.std.specs.Prelude.{◌≡◌, false, refl};
     ghost use Rattle.std.proofs.Common.{subst, ◌∙◌};
     ghost use Rattle.control.specs.Beside.{IsLineMetBeside};
     ghost use Rattle.control.specs.Talk.{nobody};
@@ -96,7 +96,7 @@ impl<P: Probe, C: Console<P>, V: Server, M: Maker<P>> Host<Session> for Attendan
     ghost use Rattle.reactor.specs.TalkingLaws.{as_many_met, closed_stays, said_alone, said_beside, said_nothing, said_still, said_then, session_goes_on, taken_none};
     ghost use Rattle.web_call.specs.Answer.{source_of};
 
-    ghost source = { λ a. source_of (C.names a.console.now) C.kept };
+    ghost source = { λ a. source_of (C.names a.console.now) C.kept false };
 
     ghost goes = { λ t a b m n x. HasSaid nobody (IsLineMetBeside C.seen C.kept C.looks C.answers V.terms V.counted V.woken V.expected V.stopped (C.names a.console.now)) (C.names a.console.now) (stands a) (stands b) m n x × (C.names b.console.now ≡ C.names a.console.now) × (b.console.ghost_name ≡ a.console.ghost_name) };
 

@@ -45,6 +45,7 @@ fn put_end(output: &mut String, number: usize, end: CallEnd) -> Result<(), Alloc
         CallEnd::Done(Outcome::Watched { messages } | Outcome::Behind { messages }) => {
             writeln!(output, "call {number} watch {messages}")
         }
+        CallEnd::Done(Outcome::Plain) => writeln!(output, "call {number} plain"),
         CallEnd::Fault(fault) => {
             let why = why_text(fault.why);
             writeln!(output, "call {number} fault {why}")

@@ -2,7 +2,7 @@
 
 use crate::manuals::Manuals;
 use desk_core::KeepMany;
-use live_run::{Ran, RunFault, SessionPlaces, run_live};
+use live_run::{Counters, Ran, RunFault, SessionPlaces, run_live};
 use live_server::{Acceptor, EventServer, Limits, News, Places};
 use probe_core::Manual;
 use script::{Mode, read_script};
@@ -116,6 +116,15 @@ impl<R: Wait + Threads + Clock + Sync> Ready<'_, R> {
             report: None,
             watchdog: None,
         };
-        run_live(rt, alloc, made, servers, places, &Manuals, news)
+        let counters = Counters {
+            most: 0,
+            calls: Vec::new(alloc),
+            sessions: Vec::new(alloc),
+            expectations: None,
+        };
+        let Ok(counters) = Arc::new(alloc, counters) else {
+            return Err(RunFault::NoMemory);
+        };
+        run_live(rt, alloc, made, servers, places, &Manuals, &counters, news)
     }
 }

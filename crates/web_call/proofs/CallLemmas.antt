@@ -20,7 +20,7 @@ use Rattle.web_call.specs.declared.outcome.Outcome.{Outcome}
 use Rattle.web_call.specs.declared.outcome.Outcome.TheVariants.{Status, Watched, Behind}
 use Rattle.web_call.specs.declared.outgoing.Outgoing.{Outgoing}
 use Rattle.web_call.specs.declared.text.Text.{Text}
-use Rattle.web_call.specs.Answer.{Asking, Asks, IsWatch, Sends, Source, Tells, IsStarvedAt, check_code, told_pieces}
+use Rattle.web_call.specs.Answer.{Asking, Asks, IsOfCall, IsWatch, Sends, Source, Tells, IsStarvedAt, check_code, told_pieces}
 use Rattle.web_call.specs.Answer.Sends.{Check, WatchBehind, WatchEnd}
 use Rattle.web_call.specs.Answer.Tells.{First, Step}
 use Rattle.web_call.specs.Ask.{Asked as WhatIsAsked, IsAsked, Checked, Watched as WatchesName}
@@ -95,8 +95,9 @@ tells_more {slot} {first} {later} {done} {part} next answer tells is =
     (subst (λ pieces. Tells slot first (later ++ next ∷ []) pieces (flat_map message_chunk (told (answer_of (changes_of next) (watch_after (opened (changes_of first) slot) later)))))
     (sym (tells_all tells)) (Step later next))
 
-same_asks : (asking other : Asking) → asking.head ≡ other.head → asking.body ≡ other.body → {what : WhatIsAsked} → Asks asking what → Asks other what
-same_asks asking other head body {what} asks = record {
+same_asks : (asking other : Asking) → asking.source ≡ other.source → asking.head ≡ other.head → asking.body ≡ other.body → {what : WhatIsAsked} → Asks asking what → Asks other what
+same_asks asking other source head body {what} asks = record {
+  is_of_call = subst (λ s. IsOfCall s.is_plain other.head) source (subst (λ h. IsOfCall asking.source.is_plain h) head asks.is_of_call);
   method = asks.method;
   is_headed = subst (λ h. IsHeaded h (Asked asks.method (length other.body))) head (subst (λ b. IsHeaded asking.head (Asked asks.method (length b))) body asks.is_headed);
   is_asked = subst (λ b. IsAsked asks.method b what) body asks.is_asked;
@@ -119,7 +120,7 @@ looked source past watch after old new given next answer up is moved goes text s
         first = w.first;
         later = w.later ++ next ∷ [];
         is_watch = record {
-          asks = same_asks (asking_of source past s.head s.body) (asking_of source (with_asked (next ∷ []) past) s.head s.body) refl refl w.is_watch.asks;
+          asks = same_asks (asking_of source past s.head s.body) (asking_of source (with_asked (next ∷ []) past) s.head s.body) refl refl refl w.is_watch.asks;
           keeps_up = KeepsUp-snoc source.kept (opened (changes_of w.first) (slot_of source.names w.name)) w.later next w.is_watch.keeps_up
               (subst (λ x. IsBehind source.kept (changes_of next) x → ⊥) w.watch_is up);
         };
@@ -183,7 +184,7 @@ pub left_behind : (source : Source) (past : Past) (watch : WatchState) (old new 
 left_behind source past watch old new next messages behind none count goes s =
     let w = s.sends in
     let watches : IsWatch (asking_of source (with_asked (next ∷ []) past) s.head s.body) w.name w.first w.later = record {
-      asks = same_asks (asking_of source past s.head s.body) (asking_of source (with_asked (next ∷ []) past) s.head s.body) refl refl w.is_watch.asks;
+      asks = same_asks (asking_of source past s.head s.body) (asking_of source (with_asked (next ∷ []) past) s.head s.body) refl refl refl w.is_watch.asks;
       keeps_up = w.is_watch.keeps_up;
     } in
     ends_as source past (past.asked ++ next ∷ []) watch old new (λ n. Behind n) messages none count s
@@ -198,6 +199,13 @@ ends source received head body asked part outcome call requested sends starved (
     subst (λ stage. StandsAt source (record { received = received; sent = []; asked = asked }) stage call.outgoing) (sym is)
     (record { head = head; body = body; done = []; part = part; requested = requested; sends = sends; goes_out = goes })
 ends source received head body asked part outcome call requested sends starved (inr (is, goes)) =
+    subst (λ stage. StandsAt source (record { received = received; sent = []; asked = asked }) stage call.outgoing) (sym is)
+    (record { silent = record { none_sent = refl; goes_out = goes }; starved = starved })
+
+-- a call for which an allocation failed
+pub starves_so : (source : Source) (received : List ℕ) (asked : List (List Entry)) (call : Call) → IsStarvedAt asked received → call.stage ≡ Starved
+    → GoesOut call.outgoing [] [] [] → Stands source (record { received = received; sent = []; asked = asked }) call
+starves_so source received asked call starved is goes =
     subst (λ stage. StandsAt source (record { received = received; sent = []; asked = asked }) stage call.outgoing) (sym is)
     (record { silent = record { none_sent = refl; goes_out = goes }; starved = starved })
 
@@ -238,11 +246,11 @@ checks {asking} name seen status code asks asked is codes =
 
 -- a watch that was opened
 pub opens : (source : Source) (received head body : List ℕ) (method : Method) (name : List ℕ) (seen : List Entry) (watch : WatchState) (status : Serving) (outgoing : Outgoing)
-    → IsRequested head body received → IsHeaded head (Asked method (length body)) → IsAsked method body (WatchesName name)
+    → IsOfCall source.is_plain head → IsRequested head body received → IsHeaded head (Asked method (length body)) → IsAsked method body (WatchesName name)
     → watch ≡ opened (changes_of seen) (slot_of source.names name) → status ≡ shown seen (slot_of source.names name)
     → GoesOut outgoing [] (plain watch_head_text ∷ message_chunk status) []
     → IsSending source (record { received = received; sent = []; asked = seen ∷ [] }) (Watching watch) outgoing
-opens source received head body method name seen watch status outgoing requested headed asked is shows goes = record {
+opens source received head body method name seen watch status outgoing of_call requested headed asked is shows goes = record {
   head = head;
   body = body;
   done = [];
@@ -252,7 +260,7 @@ opens source received head body method name seen watch status outgoing requested
     name = name;
     first = seen;
     later = [];
-    is_watch = record { asks = record { method = method; is_headed = headed; is_asked = asked }; keeps_up = tt };
+    is_watch = record { asks = record { is_of_call = of_call; method = method; is_headed = headed; is_asked = asked }; keeps_up = tt };
     asked_is = refl;
     tells = First;
     watch_is = is;

@@ -9,7 +9,7 @@ use Rattle.web_call.specs.declared.call.Call.{Call}
 use Rattle.web_call.specs.declared.call.Stage.{Stage}
 use Rattle.web_call.specs.declared.call.Stage.TheVariants.{Reading, Watching, Ending, Starved}
 use Rattle.web_call.specs.declared.outcome.Outcome.{Outcome}
-use Rattle.web_call.specs.declared.outcome.Outcome.TheVariants.{Http, Status, Watched, Behind}
+use Rattle.web_call.specs.declared.outcome.Outcome.TheVariants.{Http, Status, Watched, Behind, Plain}
 use Rattle.web_call.specs.declared.outgoing.Outgoing.{Outgoing}
 use Rattle.web_call.specs.Answer.{Source}
 use Rattle.web_call.specs.Exchange.{GivesLooks, HasEnded, Meets, Rings}
@@ -84,6 +84,7 @@ unrung : {B : Type 0} (given : B → ℕ) (is_over : B → Bool) (looks : ℕ) (
 unrung given is_over looks bell steps None none is = record { each = omega (arith, none); most = omega (arith, none) }
 unrung given is_over looks bell steps (Some (Http http)) none is = refl
 unrung given is_over looks bell steps (Some (Status code)) none is = refl
+unrung given is_over looks bell steps (Some Plain) none is = refl
 unrung given is_over looks bell steps (Some (Watched messages)) none is = absurd (grind arith)
 unrung given is_over looks bell steps (Some (Behind messages)) none is = absurd (grind arith)
 

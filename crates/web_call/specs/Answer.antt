@@ -1,6 +1,6 @@
 -- What answers a request (Check and Watch of health.proto and health-checking.md of grpc): the pieces of its response, by the
 -- histories that the door had each time it was asked, the newest entry of each first.
-use Rattle.std.specs.Prelude.{ℕ, ◌≡◌, Option, None, Some, List, [], ◌∷◌, ◌++◌, length, flat_map}
+use Rattle.std.specs.Prelude.{ℕ, ◌≡◌, Bool, true, false, Option, None, Some, List, [], ◌∷◌, ◌++◌, length, flat_map}
 use Rattle.grpc_frame.specs.declared.code.Code.{Code}
 use Rattle.grpc_frame.specs.declared.code.Code.TheVariants.{Ok, NotFound}
 use Rattle.health_wire.specs.declared.serving.Serving.{Serving}
@@ -11,9 +11,11 @@ use Rattle.desk_core.specs.Status.{shown, status_map}
 use Rattle.desk_core.specs.Watch.{IsBehind, answer_of, opened, told}
 use Rattle.web_call.specs.declared.method.Method.{Method}
 use Rattle.web_call.specs.declared.outcome.Outcome.{Outcome}
-use Rattle.web_call.specs.declared.outcome.Outcome.TheVariants.{Http, Status, Watched, Behind}
+use Rattle.web_call.specs.declared.outcome.Outcome.TheVariants.{Http, Status, Watched, Behind, Plain as Plainly}
+use Rattle.plain.specs.Answer.{IsInquiryOf, IsLeft, IsTold}
+use Rattle.plain.specs.Inquiry.{Asked as AskedPlainly}
 use Rattle.web_call.specs.Ask.{Asked as WhatIsAsked, IsAsked, Refused as RefusesBody, Checked as ChecksName, Watched as WatchesName}
-use Rattle.web_call.specs.Head.{IsHeaded}
+use Rattle.web_call.specs.Head.{IsHeaded, is_too_large}
 use Rattle.web_call.specs.HeadAnswer.{Refused, Ended, Asked}
 use Rattle.web_call.specs.InputHead.{IsHead}
 use Rattle.web_call.specs.Pieces.{Piece, plain, counted}
@@ -38,14 +40,26 @@ pub data Tells (slot : Option ℕ) (first : List Entry) : List (List Entry) → 
       → Tells slot first (earlier ++ next ∷ []) (told_pieces (told_by slot first earlier))
       (flat_map message_chunk (told (answer_of (changes_of next) (watch_after (opened (changes_of first) slot) earlier))))
 
--- whence it is answered: the names of the catalogue, and how many changes the registry keeps, or none where it keeps all
+-- whence it is answered: the names of the catalogue, how many changes the registry keeps, or none where it keeps all, and whether plain
+-- requests are answered too
 pub record Source : Type 0 where
   pub names : List (List ℕ)
   pub kept : Option ℕ
+  pub is_plain : Bool
 
--- these names, of which so many changes are kept
-abbrev pub source_of : List (List ℕ) → Option ℕ → Source
-source_of names kept = record { names = names; kept = kept }
+-- these names, of which so many changes are kept, and whether plain requests are answered
+abbrev pub source_of : List (List ℕ) → Option ℕ → Bool → Source
+source_of names kept is_plain = record { names = names; kept = kept; is_plain = is_plain }
+
+-- the head is that of a call: too large, or one that a plain answer leaves, where there are such answers
+abbrev pub IsOfCall : Bool → List ℕ → Type 0
+IsOfCall is_plain head = is_plain ≡ true → is_too_large head ≡ false → IsLeft head
+
+-- the head is that of a plain request, which is answered by this text, over these names, at this history
+pub record IsPlainly (source : Source) (seen : List Entry) (head text : List ℕ) : Type 0 where
+  pub is_plain : source.is_plain ≡ true
+  pub within : is_too_large head ≡ false
+  pub is_told : IsTold source.names seen head text
 
 -- what is answered: a request of this head and body, at the histories that the door had each time it was asked
 pub record Asking : Type 0 where
@@ -56,6 +70,7 @@ pub record Asking : Type 0 where
 
 -- the head asks for a method by a body of this length, and the body asks this of it
 pub record Asks (asking : Asking) (what : WhatIsAsked) : Type 0 where
+  pub is_of_call : IsOfCall asking.source.is_plain asking.head
   pub method : Method
   pub is_headed : IsHeaded asking.head (Asked method (length asking.body))
   pub is_asked : IsAsked method asking.body what
@@ -68,10 +83,13 @@ pub record IsWatch (asking : Asking) (name : List ℕ) (first : List Entry) (lat
 -- the answer: what is done, what is being sent, and the outcome if that is the last of it
 pub data Sends (asking : Asking) : List Piece → List Piece → Option Outcome → Type 0 where
   -- a head that HTTP refuses, or that ends the call with a status: no body is read and nobody is asked
-  RefusedByHttp : (http : ℕ) → IsHeaded asking.head (Refused http) → asking.body ≡ [] → asking.asked ≡ []
+  RefusedByHttp : (http : ℕ) → IsOfCall asking.source.is_plain asking.head → IsHeaded asking.head (Refused http) → asking.body ≡ [] → asking.asked ≡ []
       → Sends asking [] (refusal_pieces http) (Some (Http http))
-  EndedByHead : (code : Code) (text : List ℕ) → IsHeaded asking.head (Ended code text) → asking.body ≡ [] → asking.asked ≡ []
+  EndedByHead : (code : Code) (text : List ℕ) → IsOfCall asking.source.is_plain asking.head → IsHeaded asking.head (Ended code text) → asking.body ≡ [] → asking.asked ≡ []
       → Sends asking [] (status_pieces code text) (Some (Status code))
+  -- a plain request gets its text, from the one history that was asked
+  ToldPlainly : (seen : List Entry) (text : List ℕ) → IsPlainly asking.source seen asking.head text → asking.asked ≡ seen ∷ []
+      → Sends asking [] (plain text ∷ []) (Some Plainly)
   -- a body that is refused gets its status, and nobody is asked
   RefusedByBody : (code : Code) (text : List ℕ) → Asks asking (RefusesBody code text) → asking.asked ≡ []
       → Sends asking [] (status_pieces code text) (Some (Status code))
@@ -107,3 +125,6 @@ pub data IsStarvedAt (asked : List (List Entry)) (bytes : List ℕ) : Type 0 whe
       → IsHeaded head (Asked method (length body)) → IsAsked method body (RefusesBody code text) → asked ≡ [] → IsStarvedAt asked bytes
   Check : (head body : List ℕ) (method : Method) (name : List ℕ) (seen : List Entry) → bytes ≡ head ++ body → IsHead head
       → IsHeaded head (Asked method (length body)) → IsAsked method body (ChecksName name) → asked ≡ seen ∷ [] → IsStarvedAt asked bytes
+  -- a plain request, which asks once
+  Plain : (head body : List ℕ) (what : AskedPlainly) (seen : List Entry) → bytes ≡ head ++ body → IsHead head → is_too_large head ≡ false → IsInquiryOf head what
+      → asked ≡ seen ∷ [] → IsStarvedAt asked bytes

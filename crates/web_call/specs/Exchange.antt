@@ -3,7 +3,7 @@ use Rattle.std.specs.Prelude.{ℕ, ◌≡◌, ◌≤◌, ◌+◌, ◌⊎◌, Boo
 use Rattle.std.specs.Io.KnownBytes.{Consumes}
 use Rattle.desk_core.specs.declared.entry.Entry.{Entry}
 use Rattle.web_call.specs.declared.outcome.Outcome.{Outcome}
-use Rattle.web_call.specs.declared.outcome.Outcome.TheVariants.{Http, Status, Watched, Behind}
+use Rattle.web_call.specs.declared.outcome.Outcome.TheVariants.{Http, Status, Watched, Behind, Plain}
 use Rattle.web_call.specs.Answer.{IsStarvedAt}
 use Rattle.web_call.specs.Request.{IsCutRequest}
 use Rattle.web_call.specs.Walk.{AsksDoor}
@@ -26,6 +26,7 @@ Rings given is_over looks bell bell_after steps (Some (Watched messages)) =
 Rings given is_over looks bell bell_after steps (Some (Behind messages)) = GivesLooks given looks bell bell_after steps
 Rings given is_over looks bell bell_after steps (Some (Http http)) = bell_after ≡ bell
 Rings given is_over looks bell bell_after steps (Some (Status code)) = bell_after ≡ bell
+Rings given is_over looks bell bell_after steps (Some Plain) = bell_after ≡ bell
 
 -- the door was asked at these histories, and the bell gave a Look for each of them but the first
 pub record Meets {D B : Type 0} (seen : D → List Entry) (follows : List Entry → List Entry → Type 0) (given : B → ℕ) (is_over : B → Bool)

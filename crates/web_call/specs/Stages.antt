@@ -8,7 +8,7 @@ use Rattle.web_call.specs.declared.call.Call.{Call}
 use Rattle.web_call.specs.declared.call.Stage.{Stage}
 use Rattle.web_call.specs.declared.call.Stage.TheVariants.{Reading, Watching, Ending, Starved}
 use Rattle.web_call.specs.declared.outcome.Outcome.{Outcome}
-use Rattle.web_call.specs.declared.outcome.Outcome.TheVariants.{Http, Status, Watched, Behind}
+use Rattle.web_call.specs.declared.outcome.Outcome.TheVariants.{Http, Status, Watched, Behind, Plain}
 use Rattle.web_call.specs.Outgoing.{left_of, frames_out}
 use Rattle.web_call.specs.Reading as reading
 use Rattle.web_call.specs.Text.{text_bytes}
@@ -130,6 +130,7 @@ ends_watch (Some (Watched messages)) = true
 ends_watch (Some (Behind messages)) = true
 ends_watch (Some (Http http)) = false
 ends_watch (Some (Status code)) = false
+ends_watch (Some Plain) = false
 
 -- what is still to be sent
 abbrev pub to_send : Call → List ℕ

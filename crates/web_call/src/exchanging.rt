@@ -113,7 +113,7 @@ fn reply<D: Door>(alloc: Global, door: &mut D, call: &mut Call)
     requires unanswered { is_answered call.old ≡ false }
     ensures asked { (asked : List (List Entry)) × (length asked ≤ 1)
         × AsksDoor D.seen D.follows door.old door.new asked
-        × CarriesFor (source_of (D.names door.old) D.kept) call.old call.new
+        × CarriesFor (source_of (D.names door.old) D.kept D.is_plain) call.old call.new
         (with_asked asked) }
     ensures ready { is_answered call.new ≡ not (is_starved call.new) }
     ensures no_end { ends_watch (ending_of call.new) ≡ false }
@@ -161,7 +161,7 @@ fn step<D: Door, B: Bell>(door: &mut D, bell: &mut B, call: &mut Call, had: u32,
     requires told { (is_watching call.old ≡ true) × (to_send call.old ≡ []) }
     requires most { had ≤ looks }
     ensures asked { (more : List (List Entry)) × AsksDoor D.seen D.follows door.old door.new more
-        × CarriesFor (source_of (D.names door.old) D.kept) call.old call.new
+        × CarriesFor (source_of (D.names door.old) D.kept D.is_plain) call.old call.new
         (with_asked more)
         × (result ≡ had + length more) × (B.given bell.new ≡ B.given bell.old + length more) }
     ensures most { result ≤ looks }
@@ -206,7 +206,7 @@ pub fn exchange<R: Read, W: Write, D: Door, B: Bell>(
         × Meets D.seen D.follows B.given B.is_over limits.looks door.old door.new bell.old bell.new
         asked (Some outcome)
         × IsAnswered (record {
-          source = source_of (D.names door.old) D.kept;
+          source = source_of (D.names door.old) D.kept D.is_plain;
           asked = asked;
           head = head;
           body = body;
@@ -239,7 +239,7 @@ pub fn exchange<R: Read, W: Write, D: Door, B: Bell>(
         × Meets D.seen D.follows B.given B.is_over limits.looks door.old door.new bell.old bell.new
         asked ending
         × Sends (record {
-          source = source_of (D.names door.old) D.kept;
+          source = source_of (D.names door.old) D.kept D.is_plain;
           asked = asked;
           head = head;
           body = body;

@@ -34,6 +34,7 @@
 
 mod ask;
 mod bell;
+mod board_door;
 mod call;
 mod content_length;
 mod content_type;
@@ -56,6 +57,7 @@ mod text;
 
 pub use ask::{Ask, ask_of, one_ask};
 pub use bell::{Bell, Turn};
+pub use board_door::BoardDoor;
 pub use call::Call;
 pub use content_length::length_of;
 pub use desk_door::DeskDoor;

@@ -7,6 +7,8 @@ pub enum Outcome {
     Http(u16),
     /// The call ended with this status.
     Status(Code),
+    /// A plain request was answered, by HTTP alone.
+    Plain,
     /// A Watch told so many messages; the count stays at its greatest number once it has reached it.
     Watched { messages: u32 },
     /// A Watch that told so many messages was behind: its next status change may be forgotten, or it is of a name without a slot, which has

@@ -76,6 +76,17 @@ impl Text {
         })
     }
 
+    /// The response to a plain request.
+    pub(crate) fn plain(bytes: Vec<u8>) -> Text
+        ensures { IsTextOf result (plain bytes.items ∷ []) }
+    {
+        Text {
+            bytes: Bytes::Made(bytes),
+            first_end: None,
+            second_end: None,
+        }
+    }
+
     /// The response to a call that ends with a status alone.
     pub(crate) fn status(alloc: Global, code: Code, text: &str) -> Result<Text, AllocError>
         requires { IsStatusText text.now }

@@ -1,7 +1,9 @@
-ghost use Rattle.std.specs.Prelude.{◌≡◌, ◌≤◌, ◌⊎◌, ◌↔◌, ◌∷◌, ◌++◌, [], ℕ, List, length, true, false, not, Some, IfOk};
+ghost use Rattle.std.specs.Prelude.{◌≡◌, ◌≤◌, ◌⊎◌, ◌↔◌, ◌∷◌, ◌++◌, [], ℕ, List, length, true, false, not, Some, IfOk, IfSome, IsNone, IsSome};
 ghost use Rattle.desk_core.specs.declared.entry.Entry.{Entry};
 ghost use Rattle.web_call.specs.declared.call.Stage.TheVariants as stages;
-ghost use Rattle.web_call.specs.Head.{IsHeaded};
+ghost use Rattle.plain.specs.Answer.{IsInquiryOf};
+ghost use Rattle.plain.specs.Inquiry.{asked_of};
+ghost use Rattle.web_call.specs.Head.{IsHeaded, is_too_large};
 ghost use Rattle.web_call.specs.HeadAnswer.{Asked};
 ghost use Rattle.web_call.specs.Outgoing.{GoesOut};
 ghost use Rattle.web_call.specs.declared.outgoing.Outgoing.{Outgoing};
@@ -10,7 +12,7 @@ ghost use Rattle.web_call.specs.Reading.{is_whole as is_whole_reading};
 ghost use Rattle.web_call.specs.Pieces.{Piece};
 ghost use Rattle.web_call.specs.Request.{IsRequested};
 ghost use Rattle.web_call.specs.Stages.{IsLeftBehind, IsPast, is_whole, is_watching, is_answered, is_starved, ends_watch, ending_of, to_send};
-ghost use Rattle.web_call.specs.Answer.{check_code, source_of};
+ghost use Rattle.web_call.specs.Answer.{IsOfCall, check_code, source_of};
 ghost use Rattle.web_call.specs.Text.{IsTextOf};
 ghost use Rattle.web_call.specs.ResponseTexts.{watch_end};
 ghost use Rattle.web_call.specs.Walk.{AsksDoor};
@@ -18,7 +20,7 @@ ghost use Rattle.web_call.specs.Walk.{AsksDoor};
 use super::{Call, Stage};
 use crate::ask::{Ask, ask_of};
 use crate::door::Door;
-use crate::head::{Headed, head_of};
+use crate::head::{Headed, head_of, is_too_large};
 use crate::intake::Intake;
 use crate::method::Method;
 use crate::outcome::Outcome;
@@ -27,6 +29,7 @@ use crate::text::Text;
 use desk_core::Behind;
 use grpc_frame::Code;
 use health_wire::Serving;
+use plain::{Inquiry, inquiry_of};
 use std::alloc::{AllocError, Global};
 
 /// A call that ends with this text, or one for which an allocation failed.
@@ -42,10 +45,18 @@ fn last(text: Result<Text, AllocError>, outcome: Outcome) -> Call
             stage: Stage::Ending(outcome),
             outgoing: Outgoing::new(text),
         },
-        Err(_) => Call {
-            stage: Stage::Starved,
-            outgoing: Outgoing::new(Text::none()),
-        },
+        Err(_) => starved(),
+    }
+}
+
+/// A call for which an allocation failed.
+fn starved() -> Call
+    ensures stage { result.stage ≡ stages.Starved }
+    ensures goes { GoesOut result.outgoing [] [] [] }
+{
+    Call {
+        stage: Stage::Starved,
+        outgoing: Outgoing::new(Text::none()),
     }
 }
 
@@ -62,9 +73,9 @@ fn check_code(status: Option<Serving>) -> Code
 fn answer_body<D: Door>(alloc: Global, door: &mut D, method: Method, body: &[u8]) -> Call
     ensures asked { (asked : List (List Entry)) × (length asked ≤ 1)
         × AsksDoor D.seen D.follows door.old door.new asked
-        × ((head received : List ℕ) → IsRequested head body.now received
+        × ((head received : List ℕ) → IsOfCall D.is_plain head → IsRequested head body.now received
         → IsHeaded head (Asked method (length body.now))
-        → Stands (source_of (D.names door.old) D.kept)
+        → Stands (source_of (D.names door.old) D.kept D.is_plain)
         (record { received = received; sent = []; asked = asked }) result) }
     ensures ready { is_answered result ≡ not (is_starved result) }
     ensures no_end { ends_watch (ending_of result) ≡ false }
@@ -90,19 +101,58 @@ fn answer_body<D: Door>(alloc: Global, door: &mut D, method: Method, body: &[u8]
     }
 }
 
+/// What the head of a request asks plainly, at a door that answers such requests.
+fn plain_of<'a, D: Door>(door: &D, head: &'a [u8]) -> Option<Inquiry<'a>>
+    ensures call { IsNone result → IsOfCall D.is_plain head.now }
+    ensures plain { IsSome result → D.is_plain ≡ true }
+    ensures within { IsSome result → is_too_large head.now ≡ false }
+    ensures asked { IfSome result (λ inquiry. IsInquiryOf head.now (asked_of inquiry)) }
+{
+    if !door.answers_plainly() || is_too_large(head) {
+        return None;
+    }
+    inquiry_of(head)
+}
+
+/// A call whose request is plain, and whole.
+fn answer_plainly<D: Door>(alloc: Global, door: &mut D, inquiry: &Inquiry<'_>) -> Call
+    requires { D.is_plain ≡ true }
+    ensures asks { AsksDoor D.seen D.follows door.old door.new (D.seen door.new ∷ []) }
+    ensures stands { (head body received : List ℕ) → IsInquiryOf head (asked_of inquiry.now)
+        → is_too_large head ≡ false → IsRequested head body received
+        → Stands (source_of (D.names door.old) D.kept D.is_plain)
+        (record { received = received; sent = []; asked = D.seen door.new ∷ [] }) result }
+    ensures ready { is_answered result ≡ not (is_starved result) }
+    ensures no_end { ends_watch (ending_of result) ≡ false }
+    ensures names { D.names door.new ≡ D.names door.old }
+    ensures stays { D.stays door.old door.new }
+{
+    match door.tell(alloc, inquiry) {
+        Ok(text) => Call {
+            stage: Stage::Ending(Outcome::Plain),
+            outgoing: Outgoing::new(Text::plain(text)),
+        },
+        Err(_) => starved(),
+    }
+}
+
 /// A call whose request this is, which is whole.
 fn answer_request<D: Door>(alloc: Global, door: &mut D, intake: &Intake) -> Call
     requires { is_whole_reading intake.now.reading ≡ true }
     ensures asked { (asked : List (List Entry)) × (length asked ≤ 1)
         × AsksDoor D.seen D.follows door.old door.new asked
         × ((past : Past) (outgoing : Outgoing) → IsReading past intake.now outgoing
-        → Stands (source_of (D.names door.old) D.kept) (with_asked asked past) result) }
+        → Stands (source_of (D.names door.old) D.kept D.is_plain) (with_asked asked past) result) }
     ensures ready { is_answered result ≡ not (is_starved result) }
     ensures no_end { ends_watch (ending_of result) ≡ false }
     ensures names { D.names door.new ≡ D.names door.old }
     ensures stays { D.stays door.old door.new }
 {
-    match head_of(intake.head()) {
+    let head = intake.head();
+    if let Some(inquiry) = plain_of(door, head) {
+        return answer_plainly(alloc, door, &inquiry);
+    }
+    match head_of(head) {
         Headed::Http(http) => last(Text::refusal(alloc, http), Outcome::Http(http)),
         Headed::Status(code, text) => last(Text::status(alloc, code, text), Outcome::Status(code)),
         Headed::Body { method, .. } => answer_body(alloc, door, method, intake.body()),
@@ -115,7 +165,7 @@ impl Call {
         requires { is_whole self.old ≡ true }
         ensures asked { (asked : List (List Entry)) × (length asked ≤ 1)
             × AsksDoor D.seen D.follows door.old door.new asked
-            × CarriesFor (source_of (D.names door.old) D.kept) self.old self.new
+            × CarriesFor (source_of (D.names door.old) D.kept D.is_plain) self.old self.new
             (with_asked asked) }
         ensures ready { is_answered self.new ≡ not (is_starved self.new) }
         ensures no_end { ends_watch (ending_of self.new) ≡ false }
@@ -134,7 +184,7 @@ impl Call {
     pub fn look<D: Door>(&mut self, door: &mut D)
         requires { (is_watching self.old ≡ true) × (to_send self.old ≡ []) }
         ensures asks { AsksDoor D.seen D.follows door.old door.new (D.seen door.new ∷ []) }
-        ensures looked { CarriesFor (source_of (D.names door.old) D.kept) self.old self.new
+        ensures looked { CarriesFor (source_of (D.names door.old) D.kept D.is_plain) self.old self.new
             (with_asked (D.seen door.new ∷ [])) }
         ensures rests { is_watching self.new ≡ true → to_send self.new ≡ []
             → IsPast (D.seen door.new) self.new }

@@ -14,7 +14,7 @@ use Rattle.web_call.proofs.exchanging.exchange.Goals as goal
 
 -- a source of nothing
 nowhere : Source
-nowhere = record { names = []; kept = None }
+nowhere = record { names = []; kept = None; is_plain = false }
 
 pub returns-then-not-receive-clause-read : goal.returns-then-not-receive-clause-read
 returns-then-not-receive-clause-read g c = λ _.
@@ -30,7 +30,7 @@ pub returns-then-is_starved-clause-no_memory : goal.returns-then-is_starved-clau
 returns-then-is_starved-clause-no_memory g c = λ _.
     let r = c.receive.ensures.received in
     let a = c.reply.ensures.asked in
-    let source : Source = record { names = g.D.Door.names c.args.door.now; kept = g.D.Door.kept } in
+    let source : Source = record { names = g.D.Door.names c.args.door.now; kept = g.D.Door.kept; is_plain = g.D.Door.is_plain } in
     let past = with_asked a.0 (with_received r.0 begun) in
     let starves : Starves g.D.Door.seen g.D.Door.follows c.args.door.now c.reply.new.door (g.R.Read.remaining (tap_inner c.args.reader.now))
     (g.R.Read.remaining (tap_inner c.receive.new.reader)) = record {
@@ -47,7 +47,7 @@ loop-is_sent-init g c =
     let r = c.receive.ensures.received in
     let a = c.reply.ensures.asked in
     let sent = c.send-is_sent.ensures.sent in
-    let source : Source = record { names = g.D.Door.names c.args.door.now; kept = g.D.Door.kept } in record {
+    let source : Source = record { names = g.D.Door.names c.args.door.now; kept = g.D.Door.kept; is_plain = g.D.Door.is_plain } in record {
       so_far = so_sent {call = c.reply.new.call} {new = c.send-is_sent.new.call} sent.0
           (so_replied c.in-Ok.call c.receive.new.call c.reply.new.call r.0 a.0 (c.in-Ok.ensures.begun source) r.1 r.2 a.1 a.2 a.3 c.reply.ensures.no_end)
           sent.1 sent.2 c.send-is_sent.ensures.watching c.send-is_sent.ensures.ending;
@@ -67,7 +67,7 @@ loop-is_sent-preserved g c =
     let before = c.loop-is_sent.invariant in
     let a = c.step-had.ensures.asked in
     let sent = c.send-is_sent-in-loop-is_sent.ensures.sent in
-    let carries = subst (λ names. CarriesFor (record { names = names; kept = g.D.Door.kept }) c.loop-is_sent.call c.step-had.new.call (with_asked a.0)) before.names a.2 in
+    let carries = subst (λ names. CarriesFor (record { names = names; kept = g.D.Door.kept; is_plain = g.D.Door.is_plain }) c.loop-is_sent.call c.step-had.new.call (with_asked a.0)) before.names a.2 in
     let watching : is_watching c.loop-is_sent.call ≡ true = search rules in record {
       so_far = so_sent {call = c.step-had.new.call} {new = c.send-is_sent-in-loop-is_sent.new.call} sent.0
           (so_stepped {call = c.loop-is_sent.call} {new = c.step-had.new.call} a.0 before.so_far watching a.1 carries a.3 a.4 c.step-had.ensures.most c.step-had.ensures.ends)
@@ -86,7 +86,7 @@ loop-is_sent-preserved g c =
 pub returns-in-Some-clause-ok : goal.returns-in-Some-clause-ok
 returns-in-Some-clause-ok g c =
     let s = c.loop-is_sent.invariant.so_far in
-    let w = whole_of (record { names = g.D.Door.names c.args.door.now; kept = g.D.Door.kept }) s.past c.loop-is_sent.call c.in-Some.outcome (search rules) s.stands in (
+    let w = whole_of (record { names = g.D.Door.names c.args.door.now; kept = g.D.Door.kept; is_plain = g.D.Door.is_plain }) s.past c.loop-is_sent.call c.in-Some.outcome (search rules) s.stands in (
       w.1.head,
       w.1.body,
       s.past.asked,
@@ -103,7 +103,7 @@ pub returns-clause-write : goal.returns-clause-write
 returns-clause-write g c = λ _.
     let s = c.loop-is_sent.invariant.so_far in
     let unsent : c.loop-is_sent.is_sent ≡ false = search rules in
-    let cut = cut_of (record { names = g.D.Door.names c.args.door.now; kept = g.D.Door.kept }) s.past c.loop-is_sent.call c.loop-is_sent.invariant.answered s.stands in (
+    let cut = cut_of (record { names = g.D.Door.names c.args.door.now; kept = g.D.Door.kept; is_plain = g.D.Door.is_plain }) s.past c.loop-is_sent.call c.loop-is_sent.invariant.answered s.stands in (
       c.loop-is_sent.invariant.failed unsent,
       search rules,
       (

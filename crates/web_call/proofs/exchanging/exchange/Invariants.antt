@@ -6,7 +6,7 @@ use Rattle.web_call.proofs.exchanging.exchange.Given as goal
 
 abbrev pub invariant-loop-is_sent : goal.invariant-loop-is_sent
 invariant-loop-is_sent g l = record {
-  so_far : SoFar (record { names = g.D.Door.names l.fn.door; kept = g.D.Door.kept }) g.D.Door.seen g.D.Door.follows g.B.Bell.given g.B.Bell.is_over l.limits.looks l.fn.door l.door l.fn.bell l.bell
+  so_far : SoFar (record { names = g.D.Door.names l.fn.door; kept = g.D.Door.kept; is_plain = g.D.Door.is_plain }) g.D.Door.seen g.D.Door.follows g.B.Bell.given g.B.Bell.is_over l.limits.looks l.fn.door l.door l.fn.bell l.bell
       (g.R.Read.remaining (tap_inner l.fn.reader)) (g.R.Read.remaining (tap_inner l.reader)) (g.W.Write.contents (tap_inner l.fn.writer)) (g.W.Write.contents (tap_inner l.writer))
       l.call l.had;
   answered : is_answered l.call ≡ true;

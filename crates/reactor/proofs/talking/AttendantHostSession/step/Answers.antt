@@ -1,4 +1,4 @@
-use Rattle.std.proofs.Common.{refl}
+use Rattle.std.proofs.Common.{false, refl}
 use Rattle.web_call.specs.Answer.{source_of}
 use Rattle.reactor.specs.Attendant.{stands}
 use Rattle.reactor.specs.TalkingLaws.{said_nothing}
@@ -13,7 +13,7 @@ returns-then-has_line-clause-goes g c =
     let met = c.answer.ensures in (
       was_met (stands c.args.self.now) (c.answer.new.console, c.answer.new.server) c.args.session.now c.answer.new.self c.answer.result met.met met.cut c.requires
           (c.has_line.ensures.0 c.if-has_line.true).0 met.unread met.waiting met.over met.ended
-          (source_of (g.C.Registrar.names c.answer.new.console) g.C.Console.kept) met.names,
+          (source_of (g.C.Registrar.names c.answer.new.console) g.C.Console.kept false) met.names,
       met.names,
       refl,
     )

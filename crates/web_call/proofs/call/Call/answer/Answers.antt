@@ -9,6 +9,6 @@ returns-clause-asked g c =
       asked.1,
       asked.2,
       λ past stands. asked.3 past c.args.self.now.outgoing
-          (subst (λ stage. StandsAt (record { names = g.D.Door.names c.args.door.now; kept = g.D.Door.kept }) past stage c.args.self.now.outgoing)
+          (subst (λ stage. StandsAt (record { names = g.D.Door.names c.args.door.now; kept = g.D.Door.kept; is_plain = g.D.Door.is_plain }) past stage c.args.self.now.outgoing)
           c.in-Reading.is stands),
     )

@@ -10,7 +10,7 @@ told_nothing e = absurd (grind (arith, e))
 
 pub returns-in-Ok-clause-looked : goal.returns-in-Ok-clause-looked
 returns-in-Ok-clause-looked g c = λ past stands.
-    let source : Source = record { names = g.D.Door.names c.args.door.now; kept = g.D.Door.kept } in
+    let source : Source = record { names = g.D.Door.names c.args.door.now; kept = g.D.Door.kept; is_plain = g.D.Door.is_plain } in
     let s = subst (λ stage. StandsAt source past stage c.args.self.now.outgoing) c.in-Watching.is stands in
     looked source past c.in-Watching.watch c.step.new.watch c.args.self.now.outgoing c.follow.new.self c.told.result (g.D.Door.seen c.step.new.self) c.in-Ok.answer
     (λ behind. told_nothing (c.in-Ok.ensures.behind.1 behind)) c.in-Ok.ensures.status c.in-Ok.ensures.watch c.follow.ensures.goes c.told.ensures s
@@ -22,7 +22,7 @@ returns-in-Ok-clause-rests g c = λ watching none.
 
 pub returns-in-Err-clause-looked : goal.returns-in-Err-clause-looked
 returns-in-Err-clause-looked g c = λ past stands.
-    let source : Source = record { names = g.D.Door.names c.args.door.now; kept = g.D.Door.kept } in
+    let source : Source = record { names = g.D.Door.names c.args.door.now; kept = g.D.Door.kept; is_plain = g.D.Door.is_plain } in
     let s = subst (λ stage. StandsAt source past stage c.args.self.now.outgoing) c.in-Watching.is stands in
     subst (λ stage. StandsAt source (with_asked (g.D.Door.seen c.step.new.self ∷ []) past) stage c.close.new.self.outgoing) (sym c.close.ensures.stage)
     (left_behind source past c.in-Watching.watch c.args.self.now.outgoing c.close.new.self.outgoing (g.D.Door.seen c.step.new.self) c.frames-messages.result

@@ -11,9 +11,9 @@ returns-in-Status-clause-asked g c = (
   [],
   omega arith,
   AsksDoor-none,
-  λ head received requested headed.
+  λ head received of_call requested headed.
       ends _ received head c.args.body.now [] (status_pieces c.in-Status.code c.in-Status.text.now) _ c.last.result requested
-      (RefusedByBody c.in-Status.code c.in-Status.text.now (record { method = c.args.method; is_headed = headed; is_asked = c.in-Status.ensures.asked }) refl)
+      (RefusedByBody c.in-Status.code c.in-Status.text.now (record { is_of_call = of_call; method = c.args.method; is_headed = headed; is_asked = c.in-Status.ensures.asked }) refl)
       (StarvedRefusal head c.args.body.now c.args.method c.in-Status.code c.in-Status.text.now requested.is requested.is_head headed c.in-Status.ensures.asked refl)
       (c.last.ensures.told (status_pieces c.in-Status.code c.in-Status.text.now) c.status.ensures),
 )
@@ -24,10 +24,10 @@ returns-in-Check-clause-asked g c =
       seen ∷ [],
       omega arith,
       AsksDoor-once c.check-status.ensures.follows c.check-status.ensures.legal,
-      λ head received requested headed.
+      λ head received of_call requested headed.
           ends _ received head c.args.body.now (seen ∷ []) (check_pieces c.check-status.result) _ c.last-in-Check.result requested
           (checks c.in-Check.name.now seen c.check-status.result c.check_code.result
-          (record { method = c.args.method; is_headed = headed; is_asked = c.in-Check.ensures.asked }) refl c.check-status.ensures.status
+          (record { is_of_call = of_call; method = c.args.method; is_headed = headed; is_asked = c.in-Check.ensures.asked }) refl c.check-status.ensures.status
           c.check_code.ensures)
           (StarvedCheck head c.args.body.now c.args.method c.in-Check.name.now seen requested.is requested.is_head headed c.in-Check.ensures.asked refl)
           (c.last-in-Check.ensures.told (check_pieces c.check-status.result) c.check.ensures),
@@ -39,7 +39,7 @@ returns-in-Watch-clause-asked g c =
       seen ∷ [],
       omega arith,
       AsksDoor-once c.open-watch.ensures.follows c.open-watch.ensures.legal,
-      λ head received requested headed.
-          opens _ received head c.args.body.now c.args.method c.in-Watch.name.now seen c.open-watch.result.0 c.open-watch.result.1 c.new.result requested headed c.in-Watch.ensures.asked
+      λ head received of_call requested headed.
+          opens _ received head c.args.body.now c.args.method c.in-Watch.name.now seen c.open-watch.result.0 c.open-watch.result.1 c.new.result of_call requested headed c.in-Watch.ensures.asked
           c.open-watch.ensures.watch c.open-watch.ensures.status (c.new.ensures.goes _ c.first.ensures),
     )

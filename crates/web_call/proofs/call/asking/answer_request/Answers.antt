@@ -1,4 +1,5 @@
-use Rattle.std.proofs.Common.{refl, sym, ap, subst, ◌∙◌, arith, [], length}
+use Rattle.std.proofs.Common.{refl, sym, ap, subst, ◌∙◌, arith, rules, [], length}
+use Rattle.web_call.specs.Answer.{IsOfCall}
 use Rattle.web_call.specs.Answer.IsStarvedAt.{Head}
 use Rattle.web_call.specs.Answer.Sends.{RefusedByHttp, EndedByHead}
 use Rattle.web_call.specs.Head.{IsHeaded}
@@ -11,7 +12,8 @@ use Rattle.web_call.proofs.call.asking.answer_request.Goals as goal
 
 pub returns-in-Http-clause-asked : goal.returns-in-Http-clause-asked
 returns-in-Http-clause-asked g c =
-    let headed = subst (λ head. IsHeaded head (Refused c.in-Http.http)) c.head.ensures c.in-Http.ensures.headed in (
+    let of_call = subst (λ head. IsOfCall g.D.Door.is_plain head) c.head-head.ensures (c.plain_of.ensures.call (search rules)) in
+    let headed = subst (λ head. IsHeaded head (Refused c.in-Http.http)) c.head-head.ensures c.in-Http.ensures.headed in (
       [],
       omega arith,
       AsksDoor-none,
@@ -19,12 +21,13 @@ returns-in-Http-clause-asked g c =
           let whole = no_body past c.args.intake.now outgoing (Refused c.in-Http.http) c.requires refl reads headed in
           answers_first _ past c.args.intake.now outgoing [] c.last.result reads
           (ends _ past.received c.args.intake.now.head.items [] [] (refusal_pieces c.in-Http.http) _ c.last.result whole.1
-          (RefusedByHttp c.in-Http.http headed refl refl) (Head whole.0 refl) (c.last.ensures.told _ c.refusal.ensures)),
+          (RefusedByHttp c.in-Http.http of_call headed refl refl) (Head whole.0 refl) (c.last.ensures.told _ c.refusal.ensures)),
     )
 
 pub returns-in-Status-clause-asked : goal.returns-in-Status-clause-asked
 returns-in-Status-clause-asked g c =
-    let headed = subst (λ head. IsHeaded head (Ended c.in-Status.code c.in-Status.text.now)) c.head.ensures c.in-Status.ensures.headed in (
+    let of_call = subst (λ head. IsOfCall g.D.Door.is_plain head) c.head-head.ensures (c.plain_of.ensures.call (search rules)) in
+    let headed = subst (λ head. IsHeaded head (Ended c.in-Status.code c.in-Status.text.now)) c.head-head.ensures c.in-Status.ensures.headed in (
       [],
       omega arith,
       AsksDoor-none,
@@ -32,12 +35,13 @@ returns-in-Status-clause-asked g c =
           let whole = no_body past c.args.intake.now outgoing (Ended c.in-Status.code c.in-Status.text.now) c.requires refl reads headed in
           answers_first _ past c.args.intake.now outgoing [] c.last-in-Status.result reads
           (ends _ past.received c.args.intake.now.head.items [] [] (status_pieces c.in-Status.code c.in-Status.text.now) _ c.last-in-Status.result whole.1
-          (EndedByHead c.in-Status.code c.in-Status.text.now headed refl refl) (Head whole.0 refl) (c.last-in-Status.ensures.told _ c.status.ensures)),
+          (EndedByHead c.in-Status.code c.in-Status.text.now of_call headed refl refl) (Head whole.0 refl) (c.last-in-Status.ensures.told _ c.status.ensures)),
     )
 
 pub returns-in-Body-clause-asked : goal.returns-in-Body-clause-asked
 returns-in-Body-clause-asked g c =
-    let headed = subst (λ head. IsHeaded head (Asked c.in-Body.method c.in-Body.length)) c.head.ensures c.in-Body.ensures.headed in
+    let of_call = subst (λ head. IsOfCall g.D.Door.is_plain head) c.head-head.ensures (c.plain_of.ensures.call (search rules)) in
+    let headed = subst (λ head. IsHeaded head (Asked c.in-Body.method c.in-Body.length)) c.head-head.ensures c.in-Body.ensures.headed in
     let asked = c.answer_body.ensures.asked in (
       asked.0,
       asked.1,
@@ -45,7 +49,7 @@ returns-in-Body-clause-asked g c =
       λ past outgoing reads.
           let len = body_is past c.args.intake.now outgoing (Asked c.in-Body.method c.in-Body.length) c.requires reads headed in
           answers_first _ past c.args.intake.now outgoing asked.0 c.answer_body.result reads
-          (asked.3 c.args.intake.now.head.items past.received
+          (asked.3 c.args.intake.now.head.items past.received of_call
           (subst (λ body. IsRequested c.args.intake.now.head.items body past.received) (sym c.body.ensures) (requested past c.args.intake.now outgoing c.requires reads))
           (subst (λ n. IsHeaded c.args.intake.now.head.items (Asked c.in-Body.method n)) (sym len ∙ ap length (sym c.body.ensures)) headed)),
     )
