@@ -1,0 +1,3 @@
+pub mod HealthLemmas
+pub mod HttpLemmas
+pub mod LookoutLemmas

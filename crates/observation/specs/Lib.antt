@@ -1,0 +1,9 @@
+pub mod Answer
+pub mod HealthAnswer
+pub mod HttpAnswer
+pub mod Look
+pub mod Lookout
+pub mod Stage
+pub mod Target
+pub mod Timetable
+pub mod Verdict

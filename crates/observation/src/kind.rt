@@ -1,0 +1,10 @@
+/// How a target is asked.
+#[derive(Clone, Copy, Debug, PartialEq, Eq)]
+pub enum Kind {
+    /// By a connection, and nothing more.
+    Tcp,
+    /// By a GET.
+    Http,
+    /// By a Check of another health server.
+    GrpcWeb,
+}

@@ -1,0 +1,6 @@
+/// What is told of a look at the target of this place.
+#[derive(Clone, Copy, Debug, PartialEq, Eq)]
+pub(crate) struct Report {
+    pub(crate) place: usize,
+    pub(crate) passes: bool,
+}
