@@ -1,8 +1,9 @@
+use crate::command_line::command_line;
 use crate::texts::padded;
 use client::{Ended, Told};
 use commands::ask::{addr_in, call_in, name_in, output_of, run, timeout_in};
 use commands::ask_failure::AskFailure;
-use commands::command::{HOST, command};
+use commands::command::HOST;
 use commands::fault::Fault;
 use std::alloc::Global;
 use std::net::{Net, SocketAddr, TcpListener, TcpStream};
@@ -71,7 +72,7 @@ fn failure_of<R>(rt: &R, words: &[&str]) -> Result<Option<AskFailure>, Fail>
 where
     R: Print + Clock + AllocGlobal + Net<Stream = TcpStream>,
 {
-    let matches = command(rt.alloc())?.try_get_matches_from(words)?;
+    let matches = command_line(rt.alloc())?.try_get_matches_from(words)?;
     let Some((_, matches)) = matches.subcommand() else {
         return Ok(None);
     };
@@ -104,7 +105,7 @@ fn refuses_a_name_that_is_too_long_before_it_connects(rt: HostRuntime) -> Result
 type Read<'a> = (Option<SocketAddr>, &'a str, (Method, u32), Option<u64>);
 
 fn expect_read(alloc: Global, words: &[&str], expected: Read<'_>) -> Result<(), Fail> {
-    let matches = command(alloc)?.try_get_matches_from(words)?;
+    let matches = command_line(alloc)?.try_get_matches_from(words)?;
     let Some((_, matches)) = matches.subcommand() else {
         return Err(Fail::new(format_args!("no command in {words:?}")));
     };

@@ -46,6 +46,7 @@ const CHANGES: (&[u8], &[u8]) = (
 #[derive(Clone, Copy)]
 struct Places<'a> {
     calls: SocketAddr,
+    plain: SocketAddr,
     control: &'a str,
     report: &'a str,
     script: &'a str,
@@ -88,7 +89,22 @@ fn expect_status(told: Result<Told, AskFailure>, expected: u64) -> Result<(), Fa
     }
 }
 
-/// A Check and a Watch, and a session at each place.
+/// A plain request is answered so.
+fn expect_plain<R: Net<Stream = TcpStream>>(
+    rt: &R,
+    alloc: Global,
+    addr: SocketAddr,
+) -> Result<(), Fail> {
+    let mut stream = TcpStream::connect(rt, addr)?;
+    stream.write_all(b"GET /status/a HTTP/1.0\r\n\r\n")?;
+    let mut found = Vec::new(alloc);
+    stream.read_to_end(&mut found)?;
+    let (head, end) = (b"HTTP/1.1 200 OK\r\n", b"\r\n\r\nserving\n");
+    same(&found.starts_with(head), &true, &"the head of its answer")?;
+    same(&found.ends_with(end), &true, &"the end of its answer")
+}
+
+/// A Check and a Watch, a plain request, and a session at each place.
 fn visit<R: Clock + Net<Stream = TcpStream>>(
     rt: &R,
     alloc: Global,
@@ -99,6 +115,7 @@ fn visit<R: Clock + Net<Stream = TcpStream>>(
     expect_status(ask_for_good(rt, alloc, calls, Method::Check, "a", 1), 1)?;
     let time = Duration::from_secs(20);
     expect_status(ask_within(rt, alloc, calls, time, Method::Watch, "b", 1), 2)?;
+    expect_plain(rt, alloc, places.plain)?;
     let reporter = session_at(rt, places.report)?;
     expect_answered(alloc, &reporter, REPORTS)?;
     expect_answered(alloc, session, CHANGES)
@@ -122,6 +139,7 @@ fn options_of(places: Places<'_>) -> Option<RunOptions<'_>> {
     let bounds = Bounds::new(10, 5)?;
     Some(RunOptions {
         listen: places.calls,
+        plain: Some(places.plain),
         control: Some(Place::Path(places.control)),
         report: Some(Place::Path(places.report)),
         script: Source::File(places.script),
@@ -165,6 +183,7 @@ fn serves_at_all_places_until_a_session_stops_it(rt: HostRuntime) -> Result<(), 
     fs::write(rt, script.as_str(), SCRIPT)?;
     let places = Places {
         calls: free_address(rt)?,
+        plain: free_address(rt)?,
         control: &control,
         report: &report,
         script: &script,

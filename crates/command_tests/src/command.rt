@@ -1,7 +1,6 @@
+use crate::command_line::command_line;
 use clap::error::ErrorKind;
-use commands::command::{
-    bad_history_place, bad_host, bad_place, bad_status_place, bad_words, command,
-};
+use commands::command::{bad_history_place, bad_host, bad_place, bad_status_place, bad_words};
 use std::alloc::Global;
 use std::test::Fail;
 use test_support::same;
@@ -223,7 +222,7 @@ fn expect_kind(alloc: Global, words: &[&str], expected: Option<ErrorKind>) -> Re
     let mut all = Vec::new(alloc);
     all.push("healthd")?;
     all.extend_from_slice(words)?;
-    let found = match command(alloc)?.try_get_matches_from(all.as_slice()) {
+    let found = match command_line(alloc)?.try_get_matches_from(all.as_slice()) {
         Ok(_) => None,
         Err(error) => Some(error.kind()),
     };
@@ -239,13 +238,15 @@ fn takes_and_refuses_command_lines(rt: HostRuntime) -> Result<(), Fail> {
 }
 
 /// What the help of `run` has to say: each option with its example, and each line of a script.
-const RUN_HELP: [&str; 25] = [
+const RUN_HELP: [&str; 28] = [
     "--listen <ADDR>",
     "e.g. 0.0.0.0:8080 or [::1]:8080",
+    "--plain <ADDR>",
+    "e.g. 0.0.0.0:8082",
     "--report <PLACE>",
     "its owner's group may open too",
     "--script <FILE>",
-    "e.g. /etc/healthd",
+    "e.g. /etc/healthd/services",
     "--threads <T>",
     "1 to 64, e.g. 4",
     "no more than connections",
@@ -260,6 +261,7 @@ const RUN_HELP: [&str; 25] = [
     "retire NAME",
     "pass NAME, fail NAME",
     "up NAME, down NAME",
+    "expect NAME S",
     "shutdown",
     "resume",
     "begins with # is a comment",
@@ -292,7 +294,7 @@ const TELL_HELP_PARTS: [&str; 9] = [
     "e.g. fail db",
     "standard input",
     "exit status is 3",
-    "refused .., missing, wrong kind, ignored, not allowed",
+    "refused .., missing, wrong kind, ignored",
     "--timeout <S>",
     "1 to 3600, e.g. 2",
 ];
@@ -314,7 +316,7 @@ const HISTORY_HELP_PARTS: [&str; 7] = [
     "--last <N>",
     "0 to 4294967295, e.g. 20",
     "--follow",
-    "exit status 0 where the server ends",
+    "exit status 0 when the server stops",
     "healthd history --control /run/healthd.sock --last 20",
 ];
 
@@ -328,7 +330,7 @@ const JOURNAL_HELP_PARTS: [&str; 4] = [
 
 fn expect_help(alloc: Global, name: &str, parts: &[&str]) -> Result<(), Fail> {
     let words = ["healthd", name, "--help"];
-    let Err(help) = command(alloc)?.try_get_matches_from(words.as_slice()) else {
+    let Err(help) = command_line(alloc)?.try_get_matches_from(words.as_slice()) else {
         return same(&"matches", &"help", &name);
     };
     let text = format!(in alloc; "{help}")?;

@@ -4,20 +4,23 @@ use open_files::OpenFiles;
 use std::test::Fail;
 use test_support::same;
 
-/// Loops and places for sessions, and how many files they have open beside connections, with those that any server has.
-const RESERVED: [(u16, u16, u32); 6] = [
-    (1, 0, 19),
-    (4, 0, 28),
-    (4, 1, 64),
-    (4, 2, 100),
-    (64, 0, 208),
-    (64, 2, 280),
+/// Loops, sockets and places for sessions, and how many files they have open beside connections, with those that any server has.
+const RESERVED: [(u16, u16, u16, u32); 8] = [
+    (1, 1, 0, 19),
+    (4, 1, 0, 28),
+    (4, 1, 1, 64),
+    (4, 1, 2, 100),
+    (4, 2, 2, 104),
+    (64, 1, 0, 208),
+    (64, 1, 2, 280),
+    (64, 2, 2, 344),
 ];
 
 #[test]
 fn reserves_files_for_loops_and_for_places(_rt: HostRuntime) -> Result<(), Fail> {
-    for (loops, places, expected) in RESERVED {
-        same(&reserved(loops, places), &expected, &(loops, places))?;
+    for (loops, sockets, places, expected) in RESERVED {
+        let found = reserved(loops, sockets, places);
+        same(&found, &expected, &(loops, sockets, places))?;
     }
     Ok(())
 }
@@ -49,7 +52,7 @@ fn holds_as_many_connections_as_files_may_be_open_beside_the_others(
     for row in &WITHIN {
         let ((connections, watches), limit, expected) = *row;
         let bounds = Bounds::new(connections, watches);
-        let within = bounds.and_then(|bounds| bounds_within(bounds, limit, reserved(4, 1)));
+        let within = bounds.and_then(|bounds| bounds_within(bounds, limit, reserved(4, 1, 1)));
         let found = within.map(|bounds| (bounds.connections(), bounds.limits().watches as u32));
         same(&found, &expected, row)?;
     }

@@ -1,4 +1,4 @@
-//! Tests of the commands of healthd. They see public calls alone.
+//! Tests of the commands of healthd, and of `readout`. They see public calls alone.
 #![tactic(auto)]
 
 #[cfg(test)]
@@ -14,6 +14,8 @@ mod cause;
 #[cfg(test)]
 mod command;
 #[cfg(test)]
+mod command_line;
+#[cfg(test)]
 mod deadline;
 #[cfg(test)]
 mod expect;
@@ -25,6 +27,10 @@ mod fault;
 mod files;
 #[cfg(test)]
 mod manuals;
+#[cfg(test)]
+mod observe_options;
+#[cfg(test)]
+mod readouts;
 #[cfg(test)]
 mod replay;
 #[cfg(test)]

@@ -1,6 +1,7 @@
 use crate::manuals::Manuals;
 use commands::cause::Cause;
-use commands::run::{listening_line, script_bytes, set_up};
+use commands::listening_lines::listening_line;
+use commands::run::{script_bytes, set_up};
 use commands::run_failure::RunFailure;
 use commands::run_options::Source;
 use desk_core::KeepMany;

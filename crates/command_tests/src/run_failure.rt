@@ -72,8 +72,8 @@ fn tells_each_fault_with_its_cause(rt: HostRuntime) -> Result<(), Fail> {
         ),
         (RunFailure::TooFewFiles, "too few open files"),
         (
-            RunFailure::HandedOver,
-            "LISTEN_FDS: descriptor 3 is no listening TCP socket",
+            RunFailure::HandedOver(4),
+            "LISTEN_FDS: descriptor 4 is no listening TCP socket",
         ),
         (
             RunFailure::EventLoop(cause(24)),

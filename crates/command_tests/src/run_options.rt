@@ -1,5 +1,6 @@
+use crate::command_line::command_line;
 use commands::bounds::Bounds;
-use commands::command::{bad_option, command};
+use commands::command::bad_option;
 use commands::run_options::{RunOptions, Source};
 use control::Place;
 use std::alloc::Global;
@@ -155,11 +156,12 @@ fn words_of<'a>(alloc: Global, options: &[&'a str]) -> Result<Vec<&'a str>, Fail
 
 fn expect_read(alloc: Global, row: &Row<'_>) -> Result<(), Fail> {
     let words = words_of(alloc, row.0)?;
-    let matches = command(alloc)?.try_get_matches_from(words.as_slice())?;
+    let matches = command_line(alloc)?.try_get_matches_from(words.as_slice())?;
     let (listen, script, journal, threads, connections, watches, is_quiet) = row.1;
     let expected = match (listen.parse(), Bounds::new(connections, watches)) {
         (Ok(listen), Some(bounds)) => Some(Ok(RunOptions {
             listen,
+            plain: None,
             control: None,
             report: None,
             script,
@@ -189,7 +191,7 @@ fn expect_place(alloc: Global, text: &str, expected: Place<'_>) -> Result<(), Fa
         ("--report", (None, Some(expected))),
     ] {
         let words = ["healthd", "run", option, text];
-        let matches = command(alloc)?.try_get_matches_from(words.as_slice())?;
+        let matches = command_line(alloc)?.try_get_matches_from(words.as_slice())?;
         let is_read = matches.subcommand().is_some_and(|named| {
             RunOptions::read(named.1).is_ok_and(|read| (read.control, read.report) == places)
         });
@@ -221,8 +223,19 @@ fn reads_where_changes_are_asked_for_and_findings_reported(rt: HostRuntime) -> R
     Ok(())
 }
 
+#[test]
+fn reads_where_plain_requests_are_answered(rt: HostRuntime) -> Result<(), Fail> {
+    let words = ["healthd", "run", "--plain", "[::1]:8082"];
+    let matches = command_line(rt.alloc())?.try_get_matches_from(words.as_slice())?;
+    let expected = SocketAddr::from(([0u16, 0, 0, 0, 0, 0, 0, 1], 8082));
+    let is_read = matches.subcommand().is_some_and(|named| {
+        RunOptions::read(named.1).is_ok_and(|read| read.plain == Some(expected))
+    });
+    same(&is_read, &true, &"the place of plain requests")
+}
+
 /// The words behind `run`, and the first line of the text by which they are refused.
-const BAD: [(&[&str], &str); 14] = [
+const BAD: [(&[&str], &str); 16] = [
     (
         &["--listen", "8080"],
         "error: invalid value '8080' for '--listen <ADDR>': not an address and a port",
@@ -238,6 +251,15 @@ const BAD: [(&[&str], &str); 14] = [
     (
         &["--listen", ""],
         "error: invalid value '' for '--listen <ADDR>': not an address and a port",
+    ),
+    (
+        &["--plain", "8082"],
+        "error: invalid value '8082' for '--plain <ADDR>': not an address and a port",
+    ),
+    // the first of two counts
+    (
+        &["--control", "-", "--plain", ""],
+        "error: invalid value '' for '--plain <ADDR>': not an address and a port",
     ),
     (
         &["--control", "0.0.0.0:8081"],
@@ -284,7 +306,7 @@ const BAD: [(&[&str], &str); 14] = [
 
 fn expect_refused(alloc: Global, options: &[&str], expected: &str) -> Result<(), Fail> {
     let words = words_of(alloc, options)?;
-    let matches = command(alloc)?.try_get_matches_from(words.as_slice())?;
+    let matches = command_line(alloc)?.try_get_matches_from(words.as_slice())?;
     let Some((_, matches)) = matches.subcommand() else {
         return same(&"none", &"a command", &options);
     };

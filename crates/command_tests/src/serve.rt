@@ -1,5 +1,6 @@
+use crate::command_line::command_line;
 use crate::manuals::Manuals;
-use commands::command::{command, port_in};
+use commands::command::port_in;
 use commands::serve::{capacity_in, serve_script};
 use server::Capacity;
 use std::test::Fail;
@@ -17,7 +18,7 @@ fn reads_its_arguments(rt: HostRuntime) -> Result<(), Fail> {
         "--calls",
         "1000",
     ];
-    let matches = command(rt.alloc())?.try_get_matches_from(words.as_slice())?;
+    let matches = command_line(rt.alloc())?.try_get_matches_from(words.as_slice())?;
     let read = matches
         .subcommand()
         .map(|named| (port_in(named.1), capacity_in(named.1)));

@@ -1,3 +1,4 @@
+use crate::command_line::command_line;
 use commands::command::command;
 use commands::tell::{line_in, place_in, tell_line, tell_lines, timeout_in};
 use commands::timed_control::{AnswerTime, TimedControl};
@@ -127,13 +128,29 @@ const PLACES: [(&str, bool); 7] = [
     ("", false),
 ];
 
+/// Whether the command `tell` has a place, with what the environment says and these words behind `healthd`.
+fn has_place(alloc: Global, control: Option<&str>, words: &[&str]) -> Result<bool, Fail> {
+    let matches = command(alloc, control)?.try_get_matches_from(words)?;
+    Ok(
+        matches
+            .subcommand()
+            .is_some_and(|named| place_in(named.1).is_some()),
+    )
+}
+
+/// A place that is told, whatever the environment says, and one that the environment says.
 fn expect_place(alloc: Global, text: &str, expected: bool) -> Result<(), Fail> {
     let words = ["healthd", "tell", "--control", text];
-    let matches = command(alloc)?.try_get_matches_from(words.as_slice())?;
-    let is_place = matches
-        .subcommand()
-        .is_some_and(|named| place_in(named.1).is_some());
-    same(&is_place, &expected, &text)
+    same(
+        &has_place(alloc, Some("nowhere"), &words)?,
+        &expected,
+        &text,
+    )?;
+    same(
+        &has_place(alloc, Some(text), &["healthd", "tell"])?,
+        &expected,
+        &text,
+    )
 }
 
 #[test]
@@ -145,7 +162,7 @@ fn tells_no_other_machine(rt: HostRuntime) -> Result<(), Fail> {
 }
 
 fn expect_line(alloc: Global, words: &[&str], expected: Option<&str>) -> Result<(), Fail> {
-    let matches = command(alloc)?.try_get_matches_from(words)?;
+    let matches = command_line(alloc)?.try_get_matches_from(words)?;
     let Some((_, matches)) = matches.subcommand() else {
         return Err(Fail::new(format_args!("no command in {words:?}")));
     };
@@ -216,7 +233,7 @@ fn gives_each_line_its_own_time(rt: HostRuntime) -> Result<(), Fail> {
 }
 
 fn expect_timeout(alloc: Global, words: &[&str], expected: u64) -> Result<(), Fail> {
-    let matches = command(alloc)?.try_get_matches_from(words)?;
+    let matches = command_line(alloc)?.try_get_matches_from(words)?;
     let Some((_, matches)) = matches.subcommand() else {
         return Err(Fail::new(format_args!("no command in {words:?}")));
     };

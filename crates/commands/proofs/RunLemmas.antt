@@ -29,7 +29,8 @@ use Rattle.commands.specs.declared.run_failure.RunFailure.TheVariants.{Refused}
 use Rattle.live_server.specs.Loop.{EventServer}
 use Rattle.live_server.specs.declared.places.Limits.{Limits}
 use Rattle.live_server.specs.Loop.{empty_table, held_by}
-use Rattle.commands.specs.Run.{AreLoopsOf, AreMadeAlone, EndsSetUp, HasReply, IsWhollySetUp}
+use Rattle.commands.specs.declared.bounds.Bounds.{Bounds}
+use Rattle.commands.specs.Run.{AreLoopsOf, AreMadeAlone, EndsSetUp, HasReply, IsWhollySetUp, limits_in}
 
 -- a change that got a reply has one entry
 one_made : (n most seat : ℕ) (before after : List Entry) (call : Option Call) (result : Result Reply Refusal) (calls : List (Option Call)) (results : List (Result Reply Refusal))
@@ -138,3 +139,8 @@ first_replied (call ∷ calls) (Err refusal ∷ results) = first_replied calls r
 
 pub setup_first : (bytes : List ℕ) (entries : List Entry) → IsSetupOf bytes entries → AreOfFirst entries
 setup_first bytes entries is = subst AreOfFirst (sym is.entries_are) (first_replied (line_changes is.script.names is.script.lines) is.results)
+
+-- limits whose numbers are those of bounds
+pub limits_are : (limits : Limits) (bounds : Bounds) → limits.connections ≡ bounds.connections → limits.watches ≡ bounds.watches → limits ≡ limits_in bounds
+limits_are limits bounds connections_are watches_are =
+    ap (λ n. record { connections = n; watches = limits.watches }) connections_are ∙ ap (λ n. record { connections = bounds.connections; watches = n }) watches_are

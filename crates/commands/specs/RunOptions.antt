@@ -8,7 +8,7 @@ use Rattle.control.specs.Place.{IsPlaceText}
 use Rattle.commands.specs.Bounds.{watches_of}
 use Rattle.commands.specs.declared.bounds.Bounds.{Bounds}
 use Rattle.commands.specs.declared.run_options.BadOption.{BadOption}
-use Rattle.commands.specs.declared.run_options.BadOption.TheVariants.{Listen, Control, Report, Watches}
+use Rattle.commands.specs.declared.run_options.BadOption.TheVariants.{Listen, Plain, Control, Report, Watches}
 use Rattle.commands.specs.declared.run_options.Source.{Source}
 use Rattle.commands.specs.declared.run_options.Source.TheVariants.{StandardInput, File}
 
@@ -26,6 +26,16 @@ text_of (Some text) = Some text.now
 pub record IsReadAs {T E : Type 0} (gives : List ℕ → Result T E → Type 0) (found : Found) (name : List ℕ) (value : Option T) : Type 0 where
   pub none : one_text found name ≡ None → value ≡ None
   pub some : (text : List ℕ) → one_text found name ≡ Some text → ReadsOne gives text value
+
+-- the option of this name is read as this address, and there is none only where there is no such option
+pub record IsAddressIn {T E : Type 0} (gives : List ℕ → Result T E → Type 0) (found : Found) (name : List ℕ) (addr : Option T) : Type 0 where
+  pub is_read : IsReadAs gives found name addr
+  pub unasked : addr ≡ None → first_value found name ≡ None
+
+-- the addresses of the options `listen`, which is always there, and `plain`
+pub record AreAddressesIn {T E : Type 0} (gives : List ℕ → Result T E → Type 0) (found : Found) (listen : T) (plain : Option T) : Type 0 where
+  pub listen_read : IsReadAs gives found (codes "listen") (Some listen)
+  pub plain_is : IsAddressIn gives found (codes "plain") plain
 
 -- the bounds are those of the options `connections` and `watches`, each read as a number
 pub record AreBoundsIn {E : Type 0} (gives : List ℕ → Result ℕ E → Type 0) (found : Found) (bounds : Bounds) : Type 0 where
@@ -69,27 +79,42 @@ module _ {T A E : Type 0} (addr_gives : List ℕ → Result T A → Type 0) (num
   abbrev pub HasListen : Type 0
   HasListen = (addr : T) × IsReadAs addr_gives found (codes "listen") (Some addr)
 
+  -- the address of plain requests is one, or there is none
+  abbrev pub HasPlain : Type 0
+  HasPlain = (addr : Option T) × IsAddressIn addr_gives found (codes "plain") addr
+
   -- the option of this name is there and names a place, or is not there
   abbrev pub HasPlace : List ℕ → Type 0
   HasPlace name = (place : Option Place) × IsPlaceIn (first_value found name) place
 
-  -- the first that is wrong of these: the address to listen at, the place of changes, that of reports, the bounds
+  -- the first that is wrong of these: the address to listen at, that of plain requests, the place of changes, that of reports, the bounds
   abbrev pub IsBadIn : BadOption → Type 0
   IsBadIn (Listen text) = IsReadAs addr_gives found (codes "listen") None × (text.now ≡ unwrap_or (first_value found (codes "listen")) [])
-  IsBadIn (Control text) = HasListen × IsNoPlace found (codes "control") text.now
-  IsBadIn (Report text) = HasListen × HasPlace (codes "control") × IsNoPlace found (codes "report") text.now
-  IsBadIn (Watches watches connections) = HasListen × HasPlace (codes "control") × HasPlace (codes "report") × AreTooMany number_gives found watches connections
+  IsBadIn (Plain text) = HasListen × IsReadAs addr_gives found (codes "plain") None × (first_value found (codes "plain") ≡ Some text.now)
+  IsBadIn (Control text) = HasListen × HasPlain × IsNoPlace found (codes "control") text.now
+  IsBadIn (Report text) = HasListen × HasPlain × HasPlace (codes "control") × IsNoPlace found (codes "report") text.now
+  IsBadIn (Watches watches connections) = HasListen × HasPlain × HasPlace (codes "control") × HasPlace (codes "report") × AreTooMany number_gives found watches connections
 
 -- the bounds alone are wrong
 abbrev pub IsBadBounds : {E : Type 0} → (List ℕ → Result ℕ E → Type 0) → Found → BadOption → Type 0
 IsBadBounds gives found (Listen text) = ⊥
+IsBadBounds gives found (Plain text) = ⊥
 IsBadBounds gives found (Control text) = ⊥
 IsBadBounds gives found (Report text) = ⊥
 IsBadBounds gives found (Watches watches connections) = AreTooMany gives found watches connections
 
+-- the address of plain requests alone is wrong
+abbrev pub IsBadPlain : {T E : Type 0} → (List ℕ → Result T E → Type 0) → Found → BadOption → Type 0
+IsBadPlain gives found (Listen text) = ⊥
+IsBadPlain gives found (Plain text) = IsReadAs gives found (codes "plain") None × (first_value found (codes "plain") ≡ Some text.now)
+IsBadPlain gives found (Control text) = ⊥
+IsBadPlain gives found (Report text) = ⊥
+IsBadPlain gives found (Watches watches connections) = ⊥
+
 -- the place of changes alone is wrong
 abbrev pub IsBadControl : Found → BadOption → Type 0
 IsBadControl found (Listen text) = ⊥
+IsBadControl found (Plain text) = ⊥
 IsBadControl found (Control text) = IsNoPlace found (codes "control") text.now
 IsBadControl found (Report text) = ⊥
 IsBadControl found (Watches watches connections) = ⊥
@@ -97,6 +122,7 @@ IsBadControl found (Watches watches connections) = ⊥
 -- the place of reports alone is wrong
 abbrev pub IsBadReport : Found → BadOption → Type 0
 IsBadReport found (Listen text) = ⊥
+IsBadReport found (Plain text) = ⊥
 IsBadReport found (Control text) = ⊥
 IsBadReport found (Report text) = IsNoPlace found (codes "report") text.now
 IsBadReport found (Watches watches connections) = ⊥

@@ -1,5 +1,6 @@
 use crate::bounds::MAX_LOOPS;
 use crate::expect::STATUS_NAMES;
+use crate::observe_options::BadObserve;
 use crate::run_options::BadOption;
 use clap::error::ErrorKind;
 use clap::{Arg, ArgAction, ArgMatches, Command, value_parser};
@@ -46,6 +47,8 @@ and after these, in any order:
       for a service with a threshold
   up NAME, down NAME
       for a manual service
+  expect NAME S
+      down if it is not reported for S seconds, 1 to 86400; 0 ends it
   shutdown
       every service is NOT_SERVING, and pass, fail, up and down are ignored,
       until resume
@@ -55,10 +58,19 @@ and after these, in any order:
 A change that is not answered done or replaced ends the run before anything listens.";
 
 const TELL_HELP: &str = "\
-Each line has one answer, which is printed before the next line is sent; a line without a byte has none. \
+Each line has one answer, which is printed before the next line is sent; an empty line has none. \
+A line is one of
+
+  pass, fail, up, down, register, retire, shutdown, resume, expect
+      a change, as in a script
+  check NAME, list, why NAME, status NAME, entry N, board, stats
+      a question
+  stop
+      the server is to end
+
 The exit status is 3 if an answer is one of
 
-  refused .., missing, wrong kind, ignored, not allowed
+  refused .., missing, wrong kind, ignored
       no service was changed
   bad line, line too long
       the line was not understood
@@ -85,26 +97,50 @@ For example
   healthd history --control /run/healthd.sock --last 20
   healthd history --control /run/healthd.sock --last 0 --follow --json
 
-With --follow, history ends with exit status 0 where the server ends.";
+With --follow it ends with exit status 0 when the server stops.";
 
 const JOURNAL_HELP: &str = "\
 Each entry is a line as healthd history has it: its place in the history, when it was made and by \
-whom, the change, and what it came to. A file that was written anew begins with entries that stand \
-for older ones: they have - in place of theirs. The file is only read, also while a server writes \
+whom, the change, and what it came to. The first entries of a file that was written anew stand for \
+older ones, and have - for their place. The file is only read, also while a server writes \
 it. For example
 
   healthd journal /var/lib/healthd/journal
   healthd journal /var/lib/healthd/journal --json";
 
-/// The command line. A command that is not listed here is refused with clap's text.
-pub fn command<'a>(alloc: Global) -> Result<Command<'a>, AllocError> {
+const OBSERVE_HELP: &str = "\
+Each target is the name of a service and what is looked at for it:
+
+  NAME=tcp://HOST:PORT
+      a connection is taken
+  NAME=http://HOST:PORT/PATH
+      a GET is answered with a status from 200 to 399
+  NAME=grpc-web://HOST:PORT/SERVICE
+      a Check of SERVICE, at another healthd, is answered SERVING
+
+A look that passes is told as pass NAME, and one that fails, or takes longer than --timeout, as \
+fail NAME. Looks are spread over the time between them, and names of hosts are looked up for each. \
+Where the server cannot be told, observe tries again, once a second at most; what could not be told is not kept. \
+With --once it looks once at each target, prints what each was, and ends with exit status 0, or 3 if \
+one failed, or 1 if one could not be told. For example
+
+  healthd observe --control /run/healthd-report.sock db=tcp://10.0.0.5:5432
+  healthd observe --control 127.0.0.1:8081 --every 1 --timeout 0.5 web=http://10.0.0.6:80/live";
+
+/// The environment variable that says where a running server is asked, for the commands that are not told.
+pub const CONTROL_VARIABLE: &str = "HEALTHD_CONTROL";
+
+/// The command line. A command that is not listed here is refused with clap's text. A running server is asked at this place, if there is
+/// one, where a command is told no other.
+pub fn command<'a>(alloc: Global, control: Option<&'a str>) -> Result<Command<'a>, AllocError> {
     with_scripts(alloc)?
         .subcommand(run(alloc)?)?
         .subcommand(ask(alloc)?)?
-        .subcommand(tell(alloc)?)?
-        .subcommand(status(alloc)?)?
-        .subcommand(history(alloc)?)?
-        .subcommand(journal_file(alloc)?)
+        .subcommand(tell(alloc, control)?)?
+        .subcommand(status(alloc, control)?)?
+        .subcommand(history(alloc, control)?)?
+        .subcommand(journal_file(alloc)?)?
+        .subcommand(observe(alloc, control)?)
 }
 
 /// The program, with the commands that read all that they are told from their words and from standard input.
@@ -113,7 +149,7 @@ fn with_scripts<'a>(alloc: Global) -> Result<Command<'a>, AllocError> {
         "Run the script on standard input, and print what each of its lines comes to",
     );
     Command::new(alloc, "healthd")
-        .about("gRPC's health checking service over gRPC-Web")
+        .about("A gRPC health checking server (gRPC-Web over HTTP/1.1)")
         .version(VERSION)
         .subcommand_required(true)
         .subcommand(body(alloc)?)?
@@ -162,18 +198,21 @@ fn run<'a>(alloc: Global) -> Result<Command<'a>, AllocError> {
     let script = Arg::new(alloc, "script")
         .long("script")
         .value_name("FILE")
-        .help("The script of the setup, e.g. /etc/healthd; without it standard input to its end");
+        .help(
+            "The script of the setup, e.g. /etc/healthd/services; without it standard input to its end",
+        );
     let threads = Arg::new(alloc, "threads")
         .long("threads")
         .value_name("T")
         .help(
-            "How many event loops serve, 1 to 64, e.g. 4; without it as many as there are processors, 64 at most; there are no more than connections",
+            "Event loops, 1 to 64, e.g. 4; without it one a processor; there are no more than connections",
         )
         .value_parser(value_parser!(u16).range(1..=i64::from(MAX_LOOPS)));
     Command::new(alloc, "run")
-        .about("Set services up by a script, and serve calls until it is told to stop")
+        .about("Serve calls, with services that a script sets up, until told to stop")
         .after_help(SCRIPT_HELP)
         .arg(listen(alloc))?
+        .arg(plain(alloc))?
         .arg(control(alloc))?
         .arg(report(alloc))?
         .arg(script)?
@@ -192,12 +231,21 @@ fn listen<'a>(alloc: Global) -> Arg<'a> {
         .default_value("127.0.0.1:8080")
 }
 
+fn plain<'a>(alloc: Global) -> Arg<'a> {
+    Arg::new(alloc, "plain")
+        .long("plain")
+        .value_name("ADDR")
+        .help(
+            "Where plain HTTP is answered, for balancers, Prometheus, curl and browsers: an address and a port, e.g. 0.0.0.0:8082; without it nowhere",
+        )
+}
+
 fn control<'a>(alloc: Global) -> Arg<'a> {
     Arg::new(alloc, "control")
         .long("control")
         .value_name("PLACE")
         .help(
-            "Where changes are asked for, as by healthd tell: a loopback address and a port, e.g. 127.0.0.1:8081, or a path of a Unix socket that only its owner may open, e.g. /run/healthd.sock; without it there are no changes after the script's",
+            "Where changes are asked for, and tell, status and history ask: a loopback address and a port, e.g. 127.0.0.1:8081, or a path of a Unix socket that only its owner may open, e.g. /run/healthd.sock; without it nothing changes after the script",
         )
 }
 
@@ -206,7 +254,7 @@ fn report<'a>(alloc: Global) -> Arg<'a> {
         .long("report")
         .value_name("PLACE")
         .help(
-            "Where findings are reported, as by healthd tell, and nothing else is changed: a loopback address and a port, or a path of a Unix socket that its owner's group may open too, e.g. /run/healthd-report.sock; without it findings are reported at the control place",
+            "Where checkers report, pass and fail and questions only: a loopback address and a port, or a path of a Unix socket that its owner's group may open too, e.g. /run/healthd-report.sock; without it they report at the control place",
         )
 }
 
@@ -215,7 +263,7 @@ fn journal<'a>(alloc: Global) -> Arg<'a> {
         .long("journal")
         .value_name("PATH")
         .help(
-            "The file that the history is kept in, which a restart goes on from, e.g. /var/lib/healthd/journal; without it a restart begins with the script again",
+            "Keep the history in this file, e.g. /var/lib/healthd/journal; a restart resumes from it, and without it begins with the script again",
         )
 }
 
@@ -255,7 +303,7 @@ pub fn bad_option(alloc: Global, bad: BadOption<'_>) -> Result<clap::Error, Allo
 
 fn ask<'a>(alloc: Global) -> Result<Command<'a>, AllocError> {
     Command::new(alloc, "ask")
-        .about("Ask a server for the status of a service, and print what it tells")
+        .about("Ask for the status of a service, and print it")
         .arg(port(alloc))?
         .arg(host(alloc))?
         .arg(name(alloc))?
@@ -323,14 +371,7 @@ pub fn bad_host(alloc: Global, host: &str) -> Result<clap::Error, AllocError> {
         .error(ErrorKind::ValueValidation, &message)
 }
 
-fn tell<'a>(alloc: Global) -> Result<Command<'a>, AllocError> {
-    let control = Arg::new(alloc, "control")
-        .long("control")
-        .value_name("PLACE")
-        .help(
-            "Where the server takes changes: a loopback address and a port, e.g. 127.0.0.1:8081, or the path of a Unix socket, e.g. /run/healthd",
-        )
-        .required(true);
+fn tell<'a>(alloc: Global, control: Option<&'a str>) -> Result<Command<'a>, AllocError> {
     let words = Arg::new(alloc, "WORD")
         .help("The words of one line, e.g. fail db; without them the lines of standard input")
         .action(ArgAction::Append)
@@ -339,7 +380,7 @@ fn tell<'a>(alloc: Global) -> Result<Command<'a>, AllocError> {
     Command::new(alloc, "tell")
         .about("Send lines to a server that takes changes while it runs, and print its answers")
         .after_help(TELL_HELP)
-        .arg(control)?
+        .arg(asked_place(alloc, control))?
         .arg(answer_timeout(alloc))?
         .arg(words)
 }
@@ -353,36 +394,39 @@ fn answer_timeout<'a>(alloc: Global) -> Arg<'a> {
         .value_parser(value_parser!(u16).range(1..=3_600))
 }
 
-fn status<'a>(alloc: Global) -> Result<Command<'a>, AllocError> {
+fn status<'a>(alloc: Global, control: Option<&'a str>) -> Result<Command<'a>, AllocError> {
     let json = json(alloc, "Print an array of JSON, an object for each service");
     Command::new(alloc, "status")
-        .about("Print how each service of a server stands, since when, and why")
+        .about("Show each service's status, since when, and why")
         .after_help(STATUS_HELP)
-        .arg(asked_place(alloc))?
+        .arg(asked_place(alloc, control))?
         .arg(answer_timeout(alloc))?
         .arg(json)
 }
 
-fn history<'a>(alloc: Global) -> Result<Command<'a>, AllocError> {
+fn history<'a>(alloc: Global, control: Option<&'a str>) -> Result<Command<'a>, AllocError> {
     let json = json(alloc, "Print an object of JSON for each entry, one a line");
     Command::new(alloc, "history")
         .about("Print the changes that a server has made, the oldest first")
         .after_help(HISTORY_HELP)
-        .arg(asked_place(alloc))?
+        .arg(asked_place(alloc, control))?
         .arg(answer_timeout(alloc))?
         .arg(last(alloc))?
         .arg(follow(alloc))?
         .arg(json)
 }
 
-fn asked_place<'a>(alloc: Global) -> Arg<'a> {
-    Arg::new(alloc, "control")
+fn asked_place<'a>(alloc: Global, control: Option<&'a str>) -> Arg<'a> {
+    let place = Arg::new(alloc, "control")
         .long("control")
         .value_name("PLACE")
         .help(
-            "Where the server takes changes or reports: a loopback address and a port, e.g. 127.0.0.1:8081, or the path of a Unix socket, e.g. /run/healthd",
-        )
-        .required(true)
+            "Where the server takes changes or reports: a loopback address and a port, e.g. 127.0.0.1:8081, or the path of a Unix socket, e.g. /run/healthd.sock; without it what the environment variable HEALTHD_CONTROL says",
+        );
+    match control {
+        Some(control) => place.default_value(control),
+        None => place.required(true),
+    }
 }
 
 fn json<'a>(alloc: Global, help: &'static str) -> Arg<'a> {
@@ -411,7 +455,7 @@ fn follow<'a>(alloc: Global) -> Arg<'a> {
 
 /// The command line of a `tell` that is refused for this reason, with the text that clap has for such.
 fn bad_tell(alloc: Global, message: &str) -> Result<clap::Error, AllocError> {
-    tell(alloc)?
+    tell(alloc, None)?
         .bin_name("healthd tell")?
         .error(ErrorKind::ValueValidation, message)
 }
@@ -424,7 +468,7 @@ pub fn bad_place(alloc: Global, text: &str) -> Result<clap::Error, AllocError> {
 /// The same, where `status` is to ask there.
 pub fn bad_status_place(alloc: Global, text: &str) -> Result<clap::Error, AllocError> {
     let message = no_place(alloc, text)?;
-    status(alloc)?
+    status(alloc, None)?
         .bin_name("healthd status")?
         .error(ErrorKind::ValueValidation, &message)
 }
@@ -432,7 +476,7 @@ pub fn bad_status_place(alloc: Global, text: &str) -> Result<clap::Error, AllocE
 /// The same, where `history` is to ask there.
 pub fn bad_history_place(alloc: Global, text: &str) -> Result<clap::Error, AllocError> {
     let message = no_place(alloc, text)?;
-    history(alloc)?
+    history(alloc, None)?
         .bin_name("healthd history")?
         .error(ErrorKind::ValueValidation, &message)
 }
@@ -465,13 +509,63 @@ pub fn port_in(matches: &ArgMatches<'_>) -> u16 {
     matches.get_one::<u16>("port").unwrap_or(0)
 }
 
+fn observe<'a>(alloc: Global, control: Option<&'a str>) -> Result<Command<'a>, AllocError> {
+    let once = Arg::new(alloc, "once")
+        .long("once")
+        .help("Look once at each target, print what each was, and end")
+        .action(ArgAction::SetTrue);
+    let verbose = Arg::new(alloc, "verbose")
+        .short('v')
+        .long("verbose")
+        .help("Print what each look came to")
+        .action(ArgAction::SetTrue);
+    let targets = Arg::new(alloc, "TARGET")
+        .help("A service and what is looked at for it, e.g. db=tcp://10.0.0.5:5432")
+        .action(ArgAction::Append)
+        .num_args(1..)
+        .required(true);
+    Command::new(alloc, "observe")
+        .about("Look at targets, and report what each look found to a server")
+        .after_help(OBSERVE_HELP)
+        .arg(asked_place(alloc, control))?
+        .arg(every(alloc))?
+        .arg(look_timeout(alloc))?
+        .arg(once)?
+        .arg(verbose)?
+        .arg(targets)
+}
+
+fn every<'a>(alloc: Global) -> Arg<'a> {
+    Arg::new(alloc, "every")
+        .long("every")
+        .value_name("S")
+        .help("Seconds from a look at a target to the next, 0.001 to 86400, e.g. 1")
+        .default_value("5")
+}
+
+fn look_timeout<'a>(alloc: Global) -> Arg<'a> {
+    Arg::new(alloc, "timeout")
+        .long("timeout")
+        .value_name("S")
+        .help("Seconds that a look may take, fewer than those of --every, e.g. 0.5")
+        .default_value("2")
+}
+
+/// The command line of an `observe` that is refused, with the text that clap has for such.
+pub fn bad_observe(alloc: Global, bad: BadObserve<'_>) -> Result<clap::Error, AllocError> {
+    let message = format!(in alloc; "{bad}")?;
+    observe(alloc, None)?
+        .bin_name("healthd observe")?
+        .error(ErrorKind::ValueValidation, &message)
+}
+
 fn journal_file<'a>(alloc: Global) -> Result<Command<'a>, AllocError> {
     let path = Arg::new(alloc, "PATH")
         .help("The file of the journal, e.g. /var/lib/healthd/journal")
         .required(true);
     let json = json(alloc, "Print an object of JSON for each entry, one a line");
     Command::new(alloc, "journal")
-        .about("Print the changes that are in the file of a journal, the oldest first")
+        .about("Print the changes in a journal's file, the oldest first")
         .after_help(JOURNAL_HELP)
         .arg(path)?
         .arg(json)

@@ -1,14 +1,10 @@
-ghost use Rattle.std.specs.Net.Text.{socket_text};
-ghost use Rattle.std.specs.Prelude.{◌≡◌, ◌↔◌, ◌≤◌, ◌<◌, ◌+◌, ◌++◌, [], List, Option, None, Some, IfOk, IfErr, IfSome, IsSome, true, codes, decimal, drop, length, string_bytes, vec_len};
+ghost use Rattle.std.specs.Prelude.{◌≡◌, ◌↔◌, ◌≤◌, ◌<◌, ◌+◌, ◌++◌, [], List, Option, None, Some, IfOk, IfErr, IfSome, IsSome, true, codes, decimal, length, string_bytes, vec_len};
 ghost use Rattle.desk_core.specs.declared.call.Call.{Call};
 ghost use Rattle.desk_core.specs.Past.{past};
 ghost use Rattle.hall.specs.Seats.{new_seats};
 ghost use Rattle.server.specs.Setup.{AreSetUp};
-ghost use Rattle.control.specs.declared.terms.Terms.{Terms};
-ghost use Rattle.control_server.specs.Server.{terms_of};
 ghost use Rattle.live_run.specs.Sitting.{terms_by};
 ghost use Rattle.live_run.specs.Loops.{HaveServedAll};
-ghost use Rattle.control.specs.Place.{place_text};
 ghost use Rattle.live_run.specs.WholeRun.{AreNone, HasRun, HasRunLoops, HaveEnded, HaveTerms};
 ghost use Rattle.live_run.specs.declared.run_fault.RunFault.TheVariants.{NoMemory};
 ghost use Rattle.commands.specs.declared.run_failure.RunFailure.TheVariants.{OutOfMemory, Refused};
@@ -19,17 +15,20 @@ use crate::expected::{entries_of, expected_in, first_failure, waking, watch_over
 use crate::files::{bounds_within, reserved};
 use crate::input::read_script_bytes;
 use crate::journaled::set_up_over;
+use crate::listening::{Listening, listen_at_all};
+use crate::listening_lines::{ListeningLines, lines_of};
+use crate::loops::{event_loops, notifying, session_loop};
 use crate::run_failure::{RunFailure, failure_by, script_failure};
 use crate::run_options::{RunOptions, Source};
 use crate::supervisor::Supervisor;
+use crate::tallies::{counters_of, gauges_of};
 use chronicle::{Who, wall_micros};
-use control::{Access, ControlListener, Place, Rights, Terms};
-use control_server::{ControlServer, MAX_SESSIONS, SESSION_SEATS};
+use control::{Rights, Terms};
+use control_server::{MAX_SESSIONS, SESSION_SEATS};
 use desk_core::{Keep, KeepAll, KeepMany};
 use diary::{Held, Setup};
-use handover::{HandedOver, Notifier};
-use live_run::{Gauges, Ran, RefusedLine, RunFault, SessionPlaces, first_refused, run_live};
-use live_server::{Acceptor, EventServer, Limits, News, Places, Tally};
+use live_run::{Counters, Ran, RefusedLine, RunFault, SessionPlaces, first_refused, run_live};
+use live_server::{EventServer, News};
 use open_files::open_files;
 use probe_core::{Maker, Probe};
 use script::{Expected, Mode, read_script};
@@ -41,7 +40,7 @@ use std::rt::Files;
 use std::sync::{Arc, Wait};
 use std::thread::Threads;
 use std::time::Clock;
-use std::{fs, io, thread};
+use std::{fs, thread};
 use watchdog::Expectations;
 
 /// The command `run`, with the probes that `maker` gives. It ends where a session asks for it, or a signal ends the process.
@@ -67,7 +66,8 @@ where
     let alloc = rt.alloc();
     let bytes = script_bytes(rt, alloc, options.script)?;
     let threads = options.threads.unwrap_or_else(|| processors(rt));
-    let bounds = bounded(rt, alloc, options, threads)?;
+    let sockets = sockets_of(options, &supervisor);
+    let bounds = bounded(rt, alloc, options, threads, sockets)?;
     let options = RunOptions { bounds, ..options };
     let loops = bounds.loops(threads);
     match options.journal {
@@ -205,8 +205,9 @@ where
         servers,
         news,
         places,
+        counters,
     } = begin(rt, alloc, &made, setting, supervisor)?;
-    let ran = serve_to_end(rt, alloc, made, servers, places, maker, &news)?;
+    let ran = serve_to_end(rt, alloc, made, servers, places, maker, &counters, &news)?;
     remove_sockets(rt, &ran);
     let line = journal_line(alloc, &ran)?;
     // Whoever reads the line may have the journal's file.
@@ -228,20 +229,35 @@ fn store_of<P: Probe, K: Keep>(ran: Ran<P, K>) -> Option<K>
     desk.into_store()
 }
 
-/// The bounds of a run with so many threads, as far as the files allow that the process may have open. Where they allow less, standard
+/// How many sockets there are for calls and plain requests.
+fn sockets_of(options: RunOptions<'_>, supervisor: &Supervisor) -> u16
+    ensures { result ≤ 2 }
+{
+    if options.plain.is_some() || supervisor.sockets.left() > 1 {
+        2
+    } else {
+        1
+    }
+}
+
+/// The bounds of a run with so many threads and sockets, as far as the files allow that the process may have open. Where they allow less, standard
 /// error is told.
 fn bounded<'a, R: Files + Eprint>(
     rt: &R,
     alloc: Global,
     options: RunOptions<'a>,
     threads: u16,
-) -> Result<Bounds, RunFailure<'a>> {
+    sockets: u16,
+) -> Result<Bounds, RunFailure<'a>>
+    requires { sockets ≤ 2 }
+{
     let bounds = options.bounds;
     let Ok(limit) = open_files(rt, alloc) else {
         return Ok(bounds);
     };
     let places = u16::from(options.control.is_some()) + u16::from(options.report.is_some());
-    let Some(within) = bounds_within(bounds, limit, reserved(bounds.loops(threads), places)) else {
+    let reserved = reserved(bounds.loops(threads), sockets, places);
+    let Some(within) = bounds_within(bounds, limit, reserved) else {
         return Err(RunFailure::TooFewFiles);
     };
     if within != bounds {
@@ -259,6 +275,8 @@ pub struct Begun {
     pub servers: Vec<EventServer>,
     pub news: News,
     pub places: SessionPlaces,
+    /// What plain requests are told of the server.
+    pub counters: Arc<Counters>,
 }
 
 /// Listens at all places with so many loops, for a hall that is set up, and prints the lines that tell so.
@@ -298,16 +316,20 @@ where
         notifier,
         outlet,
     } = supervisor;
-    let listener = listener_of(rt, made, options.listen, &mut sockets)?;
-    let address = address_of(&listener, options.listen)?;
-    let control = sessions_at(rt, alloc, made, options.control, Access::Owner)?;
-    let report = sessions_at(rt, alloc, made, options.report, Access::Group)?;
+    let listening = listen_at_all(rt, alloc, made, options, &mut sockets)?;
+    let lines = lines_of(alloc, &listening)?;
+    let Listening {
+        calls,
+        address,
+        plain,
+        plain_address: _,
+        control,
+        report,
+    } = listening;
     // Each loop has the socket too, and closes it at the end, so that clients which come late are refused.
-    let (servers, news) = event_loops(rt, alloc, &listener, options.bounds.limits(), loops)?;
+    let (servers, news) = event_loops(rt, alloc, &calls, &plain, options.bounds.limits(), loops)?;
     let watching = watch_over(rt, alloc, made, expected, expectations)?;
     let news = waking(news, &watching)?;
-    let control_line = place_line(alloc, "control", &control)?;
-    let report_line = place_line(alloc, "report", &report)?;
     let most = made.most();
     let told = &watching.expectations;
     let all = terms_with(Rights::All, most);
@@ -316,12 +338,11 @@ where
     let report = session_loop(rt, alloc, report, &servers, reports, told)?;
     let has_sessions = options.control.is_some() || options.report.is_some();
     let gauges = gauges_of(alloc, &servers, &control, &report)?;
+    let counters = counters_of(alloc, most, &gauges, told)?;
     let setup = setup_of(made, address, options.bounds);
     let outlet = if options.is_quiet { None } else { outlet };
     let watching = watching.telling(alloc, outlet, setup, gauges)?;
-    print_line(rt, &listening_line(alloc, address)?)?;
-    tell_place(rt, control_line)?;
-    tell_place(rt, report_line)?;
+    print_lines(rt, &lines)?;
     let _ = notifier.ready();
     Ok(Begun {
         servers,
@@ -331,19 +352,8 @@ where
             control: notifying(control, notifier),
             report,
         },
+        counters,
     })
-}
-
-/// The loop over the control place, if there is one, which tells a supervisor once it is told to stop.
-fn notifying(server: Option<ControlServer>, notifier: Notifier) -> Option<ControlServer>
-    ensures some { IsSome result ↔ IsSome server }
-    ensures terms { (terms : Terms) → IfSome server (λ one. terms_of one ≡ terms) → IfSome result
-        (λ one. terms_of one ≡ terms) }
-{
-    match server {
-        Some(server) => Some(server.notifying(notifier)),
-        None => None,
-    }
 }
 
 /// The terms of sessions with these rights, over a history of at most so many entries.
@@ -424,76 +434,6 @@ fn refused<'a, P: Probe, K: Keep>(made: SetUpHall<P, K>, line: RefusedLine) -> R
     }
 }
 
-/// The socket that calls come to, for a hall that is set up: the first that was handed over, or else one that listens at the address.
-fn listener_of<'a, R, P: Probe, K: Keep>(
-    rt: &R,
-    made: &SetUpHall<P, K>,
-    addr: SocketAddr,
-    sockets: &mut HandedOver,
-) -> Result<TcpListener, RunFailure<'a>>
-where
-    R: Net<Listener = TcpListener, Stream = TcpStream>,
-    // nothing is bound before
-    requires set_up { (calls : List (Option Call)) × IsWhollySetUp calls made.now }
-    ensures one { sockets.new ≡ drop 1 sockets.old }
-{
-    match sockets.take() {
-        Some(Ok(listener)) => Ok(listener),
-        Some(Err(_)) => Err(RunFailure::HandedOver),
-        None => listen(rt, made, addr),
-    }
-}
-
-/// A socket that listens and does not wait, for a hall that is set up.
-pub fn listen<'a, R, P: Probe, K: Keep>(
-    rt: &R,
-    _made: &SetUpHall<P, K>,
-    addr: SocketAddr,
-) -> Result<TcpListener, RunFailure<'a>>
-where
-    R: Net<Listener = TcpListener, Stream = TcpStream>,
-    // nothing is bound before
-    requires set_up { (calls : List (Option Call)) × IsWhollySetUp calls _made.now }
-{
-    match mio::net::TcpListener::bind(rt, addr) {
-        Ok(listener) => Ok(TcpListener::from(listener)),
-        Err(error) => Err(bind_failure(error, Place::Address(addr))),
-    }
-}
-
-fn bind_failure<'a>(error: io::Error, place: Place<'a>) -> RunFailure<'a> {
-    failure_by(error, |cause| RunFailure::Bind(place, cause))
-}
-
-/// A socket that listens at a place for sessions, if there is one, for a hall that is set up.
-pub fn sessions_at<'a, R: Files + Net, P: Probe, K: Keep>(
-    rt: &R,
-    alloc: Global,
-    _made: &SetUpHall<P, K>,
-    place: Option<Place<'a>>,
-    access: Access,
-) -> Result<Option<ControlListener>, RunFailure<'a>>
-    // nothing is bound before
-    requires set_up { (calls : List (Option Call)) × IsWhollySetUp calls _made.now }
-    ensures some { IfOk result (λ listener. IsSome listener ↔ IsSome place.entry) }
-{
-    let Some(place) = place else {
-        return Ok(None);
-    };
-    match ControlListener::bind(rt, alloc, place, access) {
-        Ok(listener) => Ok(Some(listener)),
-        Err(error) => Err(bind_failure(error, place)),
-    }
-}
-
-/// Where the socket listens, which tells the port that the system picked for port 0.
-fn address_of<'a>(listener: &TcpListener, asked: SocketAddr) -> Result<SocketAddr, RunFailure<'a>> {
-    match listener.local_addr() {
-        Ok(address) => Ok(address),
-        Err(error) => Err(bind_failure(error, Place::Address(asked))),
-    }
-}
-
 /// What a diary is told of a hall that is set up, and serves here within these bounds.
 fn setup_of<P: Probe, K: Keep>(
     made: &SetUpHall<P, K>,
@@ -512,64 +452,6 @@ fn setup_of<P: Probe, K: Keep>(
     }
 }
 
-/// What tells how much a server holds by these loops and these places for sessions.
-fn gauges_of(
-    alloc: Global,
-    servers: &[EventServer],
-    control: &Option<ControlServer>,
-    report: &Option<ControlServer>,
-) -> Result<Gauges, AllocError> {
-    let mut sessions = Vec::with_capacity(alloc, 2)?;
-    if let Some(server) = control {
-        sessions.push(server.tally()?)?;
-    }
-    if let Some(server) = report {
-        sessions.push(server.tally()?)?;
-    }
-    Ok(Gauges {
-        calls: tallies_of(alloc, servers)?,
-        sessions,
-    })
-}
-
-/// Prints the line of a place for sessions, if there is one.
-fn tell_place<'a, R: Print>(rt: &R, line: Option<String>) -> Result<(), RunFailure<'a>> {
-    match line {
-        Some(line) => print_line(rt, &line),
-        None => Ok(()),
-    }
-}
-
-/// The line that tells where calls are answered.
-pub fn listening_line(alloc: Global, addr: SocketAddr) -> Result<String, AllocError>
-    ensures { IfOk result (λ line. string_bytes line ≡ codes "listening " ++ socket_text addr) }
-{
-    format!(in alloc; "listening {addr}")
-}
-
-/// The line that tells where sessions are held, if they are, behind this word.
-fn place_line<'a>(
-    alloc: Global,
-    word: &str,
-    listener: &Option<ControlListener>,
-) -> Result<Option<String>, RunFailure<'a>> {
-    let Some(listener) = listener else {
-        return Ok(None);
-    };
-    match listener.place() {
-        Ok(place) => Ok(Some(session_line(alloc, word, place)?)),
-        Err(error) => Err(failure_by(error, RunFailure::EventLoop)),
-    }
-}
-
-/// The line that tells where sessions are held.
-fn session_line(alloc: Global, word: &str, place: Place<'_>) -> Result<String, AllocError>
-    ensures { IfOk result (λ line. string_bytes line ≡ word.now ++ codes " " ++ place_text
-        place.entry) }
-{
-    format!(in alloc; "{word} {place}")
-}
-
 /// The line that tells how many entries the history has.
 fn journal_line<P: Probe, K: Keep>(alloc: Global, ran: &Ran<P, K>) -> Result<String, AllocError>
     ensures { IfOk result (λ line. string_bytes line ≡ codes "journal " ++ decimal
@@ -579,86 +461,19 @@ fn journal_line<P: Probe, K: Keep>(alloc: Global, ran: &Ran<P, K>) -> Result<Str
     format!(in alloc; "journal {entries}")
 }
 
+/// Prints the lines that there are, in their order.
+fn print_lines<'a, R: Print>(rt: &R, lines: &ListeningLines) -> Result<(), RunFailure<'a>> {
+    for line in lines.iter().flatten() {
+        print_line(rt, line)?;
+    }
+    Ok(())
+}
+
 fn print_line<'a, R: Print>(rt: &R, line: &str) -> Result<(), RunFailure<'a>> {
     match println!(rt; "{line}") {
         Ok(()) => Ok(()),
         Err(error) => Err(failure_by(error, RunFailure::Write)),
     }
-}
-
-/// So many loops, which share places for these limits, and what tells them news.
-pub fn event_loops<'a, R>(
-    rt: &R,
-    alloc: Global,
-    listener: &TcpListener,
-    limits: Limits,
-    loops: u16,
-) -> Result<(Vec<EventServer>, News), RunFailure<'a>>
-where
-    R: Clock + Net<Listener = TcpListener, Stream = TcpStream>,
-    ensures each { IfOk result (λ made. vec_len made.0 ≡ loops) }
-    ensures limits { IfOk result (λ made. AreLoopsOf limits made.0.items) }
-{
-    match loops_with(rt, alloc, listener, limits, loops) {
-        Ok(made) => Ok(made),
-        Err(error) => Err(failure_by(error, RunFailure::EventLoop)),
-    }
-}
-
-fn loops_with<R>(
-    rt: &R,
-    alloc: Global,
-    listener: &TcpListener,
-    limits: Limits,
-    loops: u16,
-) -> io::Result<(Vec<EventServer>, News)>
-where
-    R: Clock + Net<Listener = TcpListener, Stream = TcpStream>,
-    ensures each { IfOk result (λ made. vec_len made.0 ≡ loops) }
-    ensures limits { IfOk result (λ made. AreLoopsOf limits made.0.items) }
-{
-    let mut servers = Vec::new(alloc);
-    let mut wakers = Vec::new(alloc);
-    let places = Arc::new(alloc, Places::new(limits))?;
-    for _ in 0..loops {
-        let listener = mio::net::TcpListener::from_std(listener.try_clone()?);
-        let server = EventServer::new(rt, alloc, Acceptor::new(listener), places.clone()?)?;
-        wakers.push(server.waker()?)?;
-        servers.push(server)?;
-    }
-    Ok((servers, News::new(wakers)))
-}
-
-/// A loop over the sessions of a place, if there is one.
-pub fn session_loop<'a, R: Clock + Net>(
-    rt: &R,
-    alloc: Global,
-    listener: Option<ControlListener>,
-    servers: &[EventServer],
-    terms: Terms,
-    expectations: &Arc<Expectations>,
-) -> Result<Option<ControlServer>, RunFailure<'a>>
-    ensures some { IfOk result (λ server. IsSome server ↔ IsSome listener) }
-    ensures terms { IfOk result (λ server. IfSome server (λ server. terms_of server ≡ terms)) }
-{
-    let Some(listener) = listener else {
-        return Ok(None);
-    };
-    let tallies = tallies_of(alloc, servers)?;
-    let expectations = expectations.clone()?;
-    match ControlServer::new(rt, alloc, listener, tallies, terms, expectations) {
-        Ok(server) => Ok(Some(server)),
-        Err(error) => Err(failure_by(error, RunFailure::EventLoop)),
-    }
-}
-
-/// What the loops count while they serve.
-fn tallies_of(alloc: Global, servers: &[EventServer]) -> Result<Vec<Arc<Tally>>, AllocError> {
-    let mut tallies = Vec::with_capacity(alloc, servers.len())?;
-    for server in servers {
-        tallies.push(server.tally()?)?;
-    }
-    Ok(tallies)
 }
 
 /// Serves until `news` tells that all is to end, and gives back what is left of the hall then.
@@ -669,6 +484,7 @@ pub fn serve_to_end<'a, R, P: Probe + Send, K: Keep + Send, M: Maker<P> + Sync>(
     servers: Vec<EventServer>,
     places: SessionPlaces,
     maker: &M,
+    counters: &Arc<Counters>,
     news: &News,
 ) -> Result<Ran<P, K>, RunFailure<'a>>
 where
@@ -688,7 +504,7 @@ where
     ensures sessions { IfOk result (λ ran. HaveEnded places ran.places) }
     ensures failure { IfErr result (λ failure. failure ≡ OutOfMemory) }
 {
-    match run_live(rt, alloc, made, servers, places, maker, news) {
+    match run_live(rt, alloc, made, servers, places, maker, counters, news) {
         Ok(ran) => Ok(ran),
         Err(fault) => Err(failure_to_run(fault)),
     }

@@ -34,9 +34,9 @@ pub enum RunFailure<'a> {
     /// The process may have no files open for connections.
     #[error("too few open files")]
     TooFewFiles,
-    /// What a supervisor handed over can't be listened at.
-    #[error("LISTEN_FDS: descriptor 3 is no listening TCP socket")]
-    HandedOver,
+    /// The descriptor that a supervisor handed over can't be listened at.
+    #[error("LISTEN_FDS: descriptor {0} is no listening TCP socket")]
+    HandedOver(u32),
     /// A loop has no way to wait for its sockets, say for want of descriptors.
     #[error("event loop: {0}")]
     EventLoop(Cause),

@@ -1,6 +1,6 @@
 ghost use Rattle.std.specs.Prelude.{◌≡◌, Some, IfOk, IfErr, codes};
 ghost use Rattle.clap.specs.Words.{found_of, first_value, one_text};
-ghost use Rattle.commands.specs.RunOptions.{AreBoundsIn, IsBadBounds, IsBadControl, IsBadIn, IsBadReport, IsFlagIn, IsPlaceIn, IsReadAs, path_of, text_of};
+ghost use Rattle.commands.specs.RunOptions.{AreAddressesIn, AreBoundsIn, IsAddressIn, IsBadBounds, IsBadControl, IsBadIn, IsBadPlain, IsBadReport, IsFlagIn, IsPlaceIn, IsReadAs, path_of, text_of};
 
 use crate::bounds::{Bounds, bounds_of};
 use clap::ArgMatches;
@@ -29,6 +29,8 @@ impl fmt::Display for Source<'_> {
 #[derive(Clone, Copy, Debug, PartialEq, Eq)]
 pub struct RunOptions<'a> {
     pub listen: SocketAddr,
+    /// Where plain requests are answered, if they are.
+    pub plain: Option<SocketAddr>,
     /// Where changes are asked for, if they are.
     pub control: Option<Place<'a>>,
     /// Where findings are reported, if they are.
@@ -48,6 +50,8 @@ pub struct RunOptions<'a> {
 pub enum BadOption<'a> {
     /// The text is no address with a port.
     Listen(&'a str),
+    /// The same of the place of plain requests.
+    Plain(&'a str),
     /// The text is no loopback address with a port, and no path of a socket.
     Control(&'a str),
     /// The same of the place where findings are reported.
@@ -62,6 +66,10 @@ impl fmt::Display for BadOption<'_> {
             BadOption::Listen(text) => write!(
                 f,
                 "invalid value '{text}' for '--listen <ADDR>': not an address and a port"
+            ),
+            BadOption::Plain(text) => write!(
+                f,
+                "invalid value '{text}' for '--plain <ADDR>': not an address and a port"
             ),
             BadOption::Control(text) => write!(
                 f,
@@ -85,8 +93,9 @@ impl fmt::Display for BadOption<'_> {
 impl<'a> RunOptions<'a> {
     /// Reads what the command line has, where each number is in its range.
     pub fn read(matches: &ArgMatches<'a>) -> Result<RunOptions<'a>, BadOption<'a>>
-        ensures listen { IfOk result (λ options. IsReadAs ⟦<SocketAddr as FromStr>⟧.from_str_gives
-            (found_of matches.now) (codes "listen") (Some options.listen)) }
+        ensures addresses { IfOk result (λ options. AreAddressesIn
+            ⟦<SocketAddr as FromStr>⟧.from_str_gives (found_of matches.now) options.listen
+            options.plain) }
         ensures control { IfOk result (λ options. IsPlaceIn (first_value (found_of matches.now)
             (codes "control")) options.control) }
         ensures report { IfOk result (λ options. IsPlaceIn (first_value (found_of matches.now)
@@ -106,11 +115,13 @@ impl<'a> RunOptions<'a> {
         let Some(listen) = matches.get_one::<SocketAddr>("listen") else {
             return Err(BadOption::Listen(matches.get_str("listen").unwrap_or("")));
         };
+        let plain = plain_in(matches)?;
         let control = control_in(matches)?;
         let report = report_in(matches)?;
         let bounds = bounds_in(matches)?;
         Ok(RunOptions {
             listen,
+            plain,
             control,
             report,
             script: source_in(matches),
@@ -119,6 +130,22 @@ impl<'a> RunOptions<'a> {
             bounds,
             is_quiet: matches.get_flag("quiet"),
         })
+    }
+}
+
+/// The address of the place of plain requests, if the command line has one.
+fn plain_in<'a>(matches: &ArgMatches<'a>) -> Result<Option<SocketAddr>, BadOption<'a>>
+    ensures plain { IfOk result (IsAddressIn ⟦<SocketAddr as FromStr>⟧.from_str_gives
+        (found_of matches.now) (codes "plain")) }
+    ensures bad { IfErr result (IsBadPlain ⟦<SocketAddr as FromStr>⟧.from_str_gives
+        (found_of matches.now)) }
+{
+    match (
+        matches.get_one::<SocketAddr>("plain"),
+        matches.get_str("plain"),
+    ) {
+        (None, Some(text)) => Err(BadOption::Plain(text)),
+        (addr, _) => Ok(addr),
     }
 }
 

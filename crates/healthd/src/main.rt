@@ -6,6 +6,8 @@ ghost use Rattle.probe_core.specs.Made.{IsAsked};
 use clap::ArgMatches;
 use clap::error::ErrorKind;
 use commands::fault::Fault;
+use commands::observe::run_observe;
+use commands::observe_options::{ObserveOptions, targets_in};
 use commands::run_options::{RunOptions, Source};
 use commands::show_journal::run_journal;
 use commands::supervisor::Supervisor;
@@ -63,7 +65,9 @@ where
         Ok(words) => words.collect(alloc)?,
         Err(error) => return refuse_words(rt, &error),
     };
-    let matches = match command::command(alloc)?.try_get_matches_from(words.as_slice()) {
+    let control = env::var(rt, command::CONTROL_VARIABLE).ok();
+    let place = control.as_deref().filter(|place| !place.is_empty());
+    let matches = match command::command(alloc, place)?.try_get_matches_from(words.as_slice()) {
         Ok(matches) => matches,
         Err(error) => return refuse(rt, &error),
     };
@@ -140,6 +144,7 @@ where
         Some(("status", matches)) => return show_status(rt, matches),
         Some(("history", matches)) => return show_history(rt, matches),
         Some(("journal", matches)) => return show_journal(rt, matches),
+        Some(("observe", matches)) => return observe_targets(rt, matches),
         _ => return Ok(ExitCode::from(REFUSED)),
     }
     Ok(ExitCode::SUCCESS)
@@ -261,6 +266,33 @@ where
     match run_journal(rt, path, matches.get_flag("json")) {
         Ok(()) => Ok(ExitCode::SUCCESS),
         Err(failure) => Ok(failed(rt, &failure)),
+    }
+}
+
+/// The command `observe`, whose faults tell their cause.
+fn observe_targets<R>(rt: &R, matches: &ArgMatches<'_>) -> Result<ExitCode, Fault>
+where
+    R: Print
+        + Eprint
+        + Clock
+        + AllocGlobal
+        + Wait
+        + Threads
+        + Sync
+        + Net<Listener = TcpListener, Stream = TcpStream>,
+{
+    let alloc = rt.alloc();
+    let options = match ObserveOptions::read(matches) {
+        Ok(options) => options,
+        Err(bad) => return refuse(rt, &command::bad_observe(alloc, bad)?),
+    };
+    let targets = match targets_in(alloc, matches)? {
+        Ok(targets) => targets,
+        Err(bad) => return refuse(rt, &command::bad_observe(alloc, bad)?),
+    };
+    match run_observe(rt, options, &targets) {
+        Ok(status) => Ok(ExitCode::from(status)),
+        Err(fault) => Ok(failed(rt, &fault)),
     }
 }
 

@@ -18,6 +18,3 @@ pub use crate::names::names_in;
 pub use crate::row::{Row, read_standing};
 pub use crate::rows::rows_json;
 pub use crate::status::Status;
-
-#[cfg(test)]
-mod tests;

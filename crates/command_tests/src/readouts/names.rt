@@ -1,4 +1,4 @@
-use crate::names_in;
+use readout::names_in;
 use std::test::Fail;
 use test_support::same;
 

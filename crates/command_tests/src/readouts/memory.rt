@@ -1,5 +1,5 @@
 use super::{Told, rows_of};
-use crate::{Row, entry_json, names_in, read_standing, rows_json, table};
+use readout::{Row, entry_json, names_in, read_standing, rows_json, table};
 use std::alloc::{AllocError, Global};
 use std::test::Fail;
 use test_support::{Scarcity, same};

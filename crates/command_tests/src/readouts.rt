@@ -4,7 +4,7 @@ mod names;
 mod standings;
 mod tables;
 
-use crate::{Row, read_standing};
+use readout::{Row, read_standing};
 use std::alloc::{AllocError, Global};
 
 /// A name, and the answer that tells how its service stands.

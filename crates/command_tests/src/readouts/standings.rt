@@ -1,4 +1,4 @@
-use crate::{Moment, Row, Status, read_standing};
+use readout::{Moment, Row, Status, read_standing};
 use std::test::Fail;
 use test_support::same;
 

@@ -1,5 +1,5 @@
 use super::{Told, rows_of};
-use crate::{rows_json, table};
+use readout::{rows_json, table};
 use std::test::Fail;
 use test_support::same;
 

@@ -1,4 +1,4 @@
-use crate::entry_json;
+use readout::entry_json;
 use std::test::Fail;
 use test_support::same;
 

@@ -1,7 +1,7 @@
 use Rattle.std.proofs.Common.{rules, ◌≡◌, ◌+◌, [], ◌∷◌, ◌++◌, length}
 use Rattle.live_server.specs.Loop.{empty_table, held_by}
 use Rattle.commands.proofs.RunLemmas.{one_loop_more}
-use Rattle.commands.proofs.run.loops_with.Goals as goal
+use Rattle.commands.proofs.loops.loops_with.Goals as goal
 
 pub loop-preserved : goal.loop-preserved
 loop-preserved g c =

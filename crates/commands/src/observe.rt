@@ -1,0 +1,95 @@
+use crate::observe_options::ObserveOptions;
+use control::Place;
+use observation::{Target, Verdict, exit_status};
+use observing::{Note, ObserveFault, Observed, Sink, observe, observe_once};
+use std::io;
+use std::net::{Net, TcpListener, TcpStream};
+use std::sync::Wait;
+use std::thread::Threads;
+use std::time::Clock;
+
+/// The exit status of an observer that nobody reads any more.
+const UNREAD: u8 = 1;
+
+/// The command `observe`. With `--once` it prints what each target was, in their order; else it goes on until its process is ended. It
+/// tells the exit status.
+pub fn run_observe<R>(
+    rt: &R,
+    options: ObserveOptions<'_>,
+    targets: &[Target],
+) -> Result<u8, ObserveFault>
+where
+    R: Print
+        + Eprint
+        + Wait
+        + Threads
+        + Clock
+        + AllocGlobal
+        + Sync
+        + Net<Listener = TcpListener, Stream = TcpStream>,
+{
+    let ObserveOptions {
+        place,
+        terms,
+        is_once,
+        is_verbose,
+    } = options;
+    let mut printer = Printer {
+        rt,
+        place,
+        is_verbose: is_verbose && !is_once,
+        is_unread: false,
+    };
+    if !is_once {
+        observe(rt, place, targets, terms, &mut printer)?;
+        return Ok(UNREAD);
+    }
+    let Observed { verdicts, telling } = observe_once(rt, place, targets, terms, &mut printer)?;
+    for (target, verdict) in targets.iter().zip(verdicts.iter()) {
+        print_look(rt, target, *verdict)?;
+    }
+    Ok(exit_status(&verdicts, telling.untold == 0))
+}
+
+/// What a look came to, in a line.
+fn print_look<R: Print>(rt: &R, target: &Target, verdict: Verdict) -> io::Result<()> {
+    let name = target.name();
+    println!(rt; "{name} {verdict}")
+}
+
+/// Prints looks to standard output where that is asked for, and what else there is to know to standard error.
+#[derive(Drop)]
+struct Printer<'a, R> {
+    rt: &'a R,
+    place: Place<'a>,
+    is_verbose: bool,
+    /// Whether standard output takes no more.
+    is_unread: bool,
+}
+
+impl<R: Print + Eprint> Sink for Printer<'_, R> {
+    fn looked(&mut self, target: &Target, verdict: Verdict) {
+        if self.is_verbose && print_look(self.rt, target, verdict).is_err() {
+            self.is_unread = true;
+        }
+    }
+
+    fn noted(&mut self, targets: &[Target], note: &Note) {
+        let (rt, place) = (self.rt, self.place);
+        let _ = match note {
+            Note::Refused(number, answer) => match targets.get(*number) {
+                Some(target) => {
+                    let name = target.name();
+                    eprintln!(rt; "healthd: {place} answered {answer} to reports of {name}")
+                }
+                None => Ok(()),
+            },
+            Note::Lost(kind) => eprintln!(rt; "healthd: {place}: {kind}"),
+            Note::Found => eprintln!(rt; "healthd: {place} is told again"),
+        };
+    }
+
+    fn goes_on(&self) -> bool {
+        !self.is_unread
+    }
+}
