@@ -45,6 +45,3 @@ mod words;
 
 pub use crate::diary::{Diary, Setup};
 pub use crate::held::Held;
-
-#[cfg(test)]
-mod tests;

@@ -1,4 +1,4 @@
-//! Tests of the watchdog over halls, by public calls alone, at readings of the clock that a test picks.
+//! Tests of the watchdog and the diary over halls, by public calls alone, at readings of the clock that a test picks.
 #![tactic(auto)]
 
 #[cfg(test)]
@@ -9,5 +9,7 @@ mod reporting;
 mod rows;
 #[cfg(test)]
 mod stage;
+#[cfg(test)]
+mod telling;
 #[cfg(test)]
 mod watching;

@@ -3,9 +3,9 @@
 ghost use Rattle.std.specs.Prelude.{IfOk};
 ghost use Rattle.hall.specs.Seats.{IsOf};
 
-use super::*;
 use chronicle::Who;
 use desk_core::{Catalogue, Entry, Finding, Keep, KeepMany, NotStored, Refusal, Reply};
+use diary::{Diary, Held, Setup};
 use hall::{Hall, Seat};
 use log_lines::Outlet;
 use probe_core::{Start, Threshold};
