@@ -5,7 +5,7 @@
 set -eu
 
 # What a check leaves running, it ends.
-trap 'running=$(jobs -p); [ -z "$running" ] || { kill $running; wait; }' EXIT
+trap 'running=$(jobs -p); [ -z "$running" ] || { kill $running 2>/dev/null || true; wait; }' EXIT
 
 fail() { # NAME WHY
   echo "FAILED $1: $2"

@@ -15,6 +15,8 @@ pid $WORK/nginx.pid;
 error_log $WORK/nginx.log;
 events {}
 http {
+    # Without a time of its own nginx.conf would have a Watch cut after a second of silence, and not only after a minute.
+    proxy_read_timeout 1s;
     types { text/html html; }
     access_log off;
     client_body_temp_path $WORK/body_temp;

@@ -43,6 +43,17 @@ told("fail", "db")
 told("fail", "db")
 told("pass", "db")
 
+# The place of the environment, for each command that asks a server; `--control` goes before it.
+for words in (["tell", "list"], ["status"], ["history"]):
+    at_place = ran(*words)
+    by_variable = subprocess.run([HEALTHD, *words], capture_output=True, text=True, timeout=30, env={**PLAIN, "HEALTHD_CONTROL": server.control})
+    holds(f"{words[0]} asks where HEALTHD_CONTROL says", (by_variable.stdout, by_variable.stderr, by_variable.returncode) == at_place, str(by_variable))
+PLAIN["HEALTHD_CONTROL"] = "/nowhere"
+holds("--control goes before HEALTHD_CONTROL", ran("status")[2] == 0)
+del PLAIN["HEALTHD_CONTROL"]
+unsaid = subprocess.run([HEALTHD, "status"], capture_output=True, text=True, timeout=30, env={**PLAIN, "HEALTHD_CONTROL": ""})
+holds("an empty HEALTHD_CONTROL says nothing", unsaid.returncode == 2 and "--control <PLACE>" in unsaid.stderr, str(unsaid))
+
 # The table of a small outage.
 table = shown("status")
 lines = table.splitlines()

@@ -3,8 +3,8 @@
 
   HEALTHD=PROGRAM integration/measure.py [ROUNDS [PART..]]
 
-A PART is checks, servers, watches or memory; without one it is all of them. Prints tables. Wants nothing else to run beside it.
-nginx, wrk and a C compiler are used where they are installed; without wrk, Checks are made by clients of its own.
+A PART is checks, grpc_go, servers, watches or memory; without one it is all of them. Prints tables. Wants nothing else to run beside it.
+nginx, wrk, a C compiler, and Go with golang-google-grpc-dev are used where they are installed; without wrk, Checks are made by clients of its own.
 """
 import os
 import resource
@@ -23,7 +23,7 @@ import load
 import servers
 from servers import HEALTHD, HERE, NOT_SERVING, OK, REQUEST, SERVING, Server, ask_line, connect, head, holds, until
 
-PARTS = ("checks", "servers", "watches", "memory")
+PARTS = ("checks", "grpc_go", "servers", "watches", "memory")
 CLIENTS = (1, 2, 4, 64)
 CORES = len(os.sched_getaffinity(0))
 PATH = f"{os.environ['PATH']}:/usr/sbin:/sbin"
@@ -131,6 +131,31 @@ def checks(rounds):
                           ("99th percentile, microseconds", lambda runs, _: median(run.slow for run in runs))):
         table(title, [f"{clients} client{'s' * (clients > 1)}" for clients in CLIENTS],
               [(name, [figure(found[name, clients], found[first, clients]) for clients in CLIENTS]) for name in ports])
+
+
+def grpc_go(rounds):
+    """Checks of the health server of grpc-go, in turns, by clients that are all of one program."""
+    compiler, sources = shutil.which("go"), "/usr/share/gocode"
+    if not compiler or not os.path.isdir(f"{sources}/src/google.golang.org/grpc/health"):
+        print("grpc-go: not installed")
+        return
+    with Places() as places:
+        program = f"{places.folder}/grpc_go"
+        subprocess.run([compiler, "build", "-o", program, f"{HERE}/grpc_go.go"], check=True,
+                       env={**os.environ, "GO111MODULE": "off", "GOPATH": sources, "GOCACHE": f"{places.folder}/cache"})
+        port = int(places.started(program, "serve", stdout=subprocess.PIPE).stdout.readline())
+        kinds = {"healthd, a connection for each": ("web", places.healthd("--threads", str(CORES)).port),
+                 "grpc-go, a connection for each": ("grpc", port), "grpc-go, a connection for each client": ("kept", port)}
+        found = defaultdict(list)
+        for _ in range(rounds):
+            for clients in CLIENTS:
+                for name, (kind, at) in kinds.items():
+                    said = subprocess.check_output([program, "ask", kind, str(at), str(clients), "1"], text=True)
+                    found[name, clients].append([float(it) for it in said.split()])
+    for title, figure in (("Checks a second, of clients by Go, a second each", 0), ("Time of a Check, median, microseconds", 1),
+                          ("99th percentile, microseconds", 2)):
+        table(title, [f"{clients} client{'s' * (clients > 1)}" for clients in CLIENTS],
+              [(name, [median(run[figure] for run in found[name, clients]) for clients in CLIENTS]) for name in kinds])
 
 
 def by_serve(clients):
@@ -275,4 +300,4 @@ if rounds < 1 or any(part not in PARTS for part in parts):
     sys.exit(__doc__)
 print(f"{os.uname().machine}, {CORES} processors, load {os.getloadavg()[0]}, {rounds} rounds")
 for part in parts:
-    {"checks": checks, "servers": servers_beside, "watches": watches, "memory": memory}[part](rounds)
+    {"checks": checks, "grpc_go": grpc_go, "servers": servers_beside, "watches": watches, "memory": memory}[part](rounds)

@@ -35,6 +35,12 @@ def holds(name, fact, why=""):
         print(f"ok {CHECK} {name}", flush=True)
 
 
+def fails(name, why):
+    """Ends the check, where what has to be so in any case is not."""
+    print(f"FAILED {CHECK} {name}: {why}", flush=True)
+    sys.exit(1)
+
+
 def measured(name, seconds, most):
     """Holds where it took no longer, and tells how long it took."""
     holds(f"{name}, within {most:g} s", seconds <= most, f"it took {seconds:.2f} s")
@@ -79,7 +85,7 @@ class Server:
         self.err = open(f"{self.folder}/err", "w+")
         command = [*before, HEALTHD, "run", "--listen", "127.0.0.1:0", *(("--control", self.control) if control else ()),
                    "--script", f"{self.folder}/script", *options]
-        pass_fds = ()
+        pass_fds, handed = (), []
         if socket_of is not None:
             # The socket has to be descriptor 3, and the process has to know its own id.
             handed = [socket_of] if hasattr(socket_of, "fileno") else socket_of
@@ -93,7 +99,8 @@ class Server:
         if not starts:
             self.process.wait(20)
             return
-        places = 1 + sum(option == "--report" for option in options) + bool(control)
+        has_plain = "--plain" in options or len(handed) > 1
+        places = 1 + has_plain + ("--report" in options) + bool(control)
         if out is None:
             self.lines = [self.process.stdout.readline().strip() for _ in range(places)]
         else:
@@ -101,8 +108,11 @@ class Server:
         found = re.fullmatch(r"listening 127\.0\.0\.1:(\d+)", self.lines[0])
         holds("a server listens", found, f"it said {self.lines} and {self.said()}")
         self.port = int(found[1])
+        told = dict(line.partition(" ")[::2] for line in self.lines)
+        if has_plain:
+            self.plain = int(told["plain"].rpartition(":")[2])
         if control:
-            self.control = self.lines[1].removeprefix("control ")
+            self.control = told["control"]
 
     def said(self):
         """What it has written to standard error so far, without its log."""
@@ -168,11 +178,14 @@ class Server:
         self.process.wait(5)
         shutil.rmtree(self.folder)
 
-    def stop(self):
-        """Tells it to stop, and waits until it has ended: its exit status."""
+    def stop(self, expected=0):
+        """Tells it to stop, and waits until it has ended, with the exit status that is expected and how many entries there were."""
         said, _ = self.tell("stop")
         holds("a server stops", said == "stopping", said)
         status = self.process.wait(40)
+        last = self.process.stdout.read().strip() if self.process.stdout else "journal 0"
+        if status != expected or status == 0 and not re.fullmatch(r"journal \d+", last):
+            fails("a server that was stopped", f"its exit status is {status}, its last line {last!r}, and it said {self.said()!r}")
         shutil.rmtree(self.folder)
         return status
 

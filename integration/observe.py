@@ -1,0 +1,195 @@
+"""`healthd observe`: targets that answer well, badly, late and not at all, many at once, and a control place that comes and goes."""
+import os
+import re
+import signal
+import socket
+import subprocess
+import threading
+import time
+
+from servers import HEALTHD, Server, holds, measured, until
+
+NAMES = "good bad moved away silent closed cut slowly down other refused"
+SCRIPT = "".join([f"catalogue {NAMES} -\n", *(f"register {name} threshold 1 1 unknown\n" for name in NAMES.split()), "register - manual\n"])
+
+
+class Target:
+    """A server of its own thread, which serves each client by a function."""
+
+    def __init__(self, serve):
+        self.listener = socket.create_server(("127.0.0.1", 0), backlog=256)
+        self.port = self.listener.getsockname()[1]
+        self.serve = serve
+        self.clients = 0
+        self.asked = b""
+        self.starts = []
+        threading.Thread(target=self.run, daemon=True).start()
+
+    def run(self):
+        while True:
+            try:
+                client, _ = self.listener.accept()
+            except OSError:
+                return
+            self.clients += 1
+            self.starts.append(time.monotonic())
+            threading.Thread(target=self.one, args=(client,), daemon=True).start()
+
+    def one(self, client):
+        with client:
+            try:
+                self.serve(self, client)
+            except OSError:
+                pass
+
+
+def answers(*parts, pause=0.0):
+    """Reads the head of a request, and sends these bytes one after the other."""
+    def serve(target, client):
+        asked = b""
+        while b"\r\n\r\n" not in asked:
+            part = client.recv(4096)
+            if not part:
+                return
+            asked += part
+        target.asked = asked
+        for part in parts:
+            client.sendall(part)
+            time.sleep(pause)
+    return serve
+
+
+def is_silent(target, client):
+    time.sleep(20)
+
+
+def closes(target, client):
+    pass
+
+
+def observe(server, *words, place=None, timeout=60):
+    ran = subprocess.run([HEALTHD, "observe", "--control", place or server.control, *words],
+                         capture_output=True, text=True, timeout=timeout)
+    return ran.stdout, ran.stderr, ran.returncode
+
+
+def status(server, name):
+    return server.tell("check", name)[0]
+
+
+OK = b"HTTP/1.1 200 OK\r\ncontent-length: 2\r\n\r\nok"
+healthd = Server(script="catalogue up down -\nregister up manual\nregister down manual\nregister - manual\ndown down\n")
+server = Server("--report", "/tmp/healthd-observe-report", script=SCRIPT)
+good = Target(answers(OK))
+bad = Target(answers(b"HTTP/1.1 503 Service Unavailable\r\ncontent-length: 0\r\n\r\n"))
+moved = Target(answers(b"HTTP/1.1 302 Found\r\nlocation: /elsewhere\r\ncontent-length: 0\r\n\r\n"))
+silent = Target(is_silent)
+closed = Target(closes)
+cut = Target(answers(b"HTTP/1.1 20"))
+slowly = Target(answers(*(bytes([byte]) for byte in OK[:24]), pause=0.01))
+nobody = socket.create_server(("127.0.0.1", 0))
+away = nobody.getsockname()[1]
+nobody.close()
+TARGETS = {
+    "good": (f"http://127.0.0.1:{good.port}/live?x=1", "pass"),
+    "bad": (f"http://localhost:{bad.port}/", "fail: status 503"),
+    "moved": (f"http://127.0.0.1:{moved.port}/", "pass"),
+    "away": (f"tcp://127.0.0.1:{away}", "fail: refused"),
+    "silent": (f"http://127.0.0.1:{silent.port}/", "fail: late"),
+    "closed": (f"http://127.0.0.1:{closed.port}/", "fail: closed before its answer"),
+    "cut": (f"http://127.0.0.1:{cut.port}/", "fail: closed before its answer"),
+    "slowly": (f"http://127.0.0.1:{slowly.port}/", "pass"),
+    "down": (f"grpc-web://127.0.0.1:{healthd.port}/down", "fail: not_serving"),
+    "other": (f"grpc-web://127.0.0.1:{healthd.port}/up", "pass"),
+    "refused": (f"tcp://127.0.0.1:{silent.port}", "pass"),
+}
+words = [f"{name}={url}" for name, (url, _) in TARGETS.items()]
+
+# Once: each target as it is, printed and told.
+printed, said, code = observe(server, "--once", "--every", "8", "--timeout", "4", *words, place="/tmp/healthd-observe-report")
+holds("--once ends with 3 where one failed", code == 3, f"{code} {said}")
+holds("--once says nothing else", said == "", said)
+for line, (name, (_, expected)) in zip(printed.split("\n"), TARGETS.items()):
+    holds(f"--once prints what {name} was", line == f"{name} {expected}", line)
+for name, (_, expected) in TARGETS.items():
+    word = "serving" if expected == "pass" else "not serving"
+    holds(f"{name} is told", status(server, name) == word, status(server, name))
+holds("a GET has its host and path", good.asked.startswith(b"GET /live?x=1 HTTP/1.1\r\n") and f"127.0.0.1:{good.port}".encode() in good.asked,
+      str(good.asked))
+entries = server.stats()["entries"]
+holds("each look is one report", entries == 12 + len(TARGETS), str(entries))
+printed, said, code = observe(server, "--once", f"good=tcp://localhost:{good.port}")
+holds("one name alone is looked up and looked at", (printed, code) == ("good pass\n", 0), f"{printed} {code} {said}")
+printed, said, code = observe(server, "--once", "-v", f"good=tcp://127.0.0.1:{good.port}")
+holds("--once -v prints each once", printed == "good pass\n", printed)
+holds("the whole server of another healthd is looked at", observe(server, "--once", f"other=grpc-web://127.0.0.1:{healthd.port}/")[2] == 0)
+printed, said, code = observe(server, "--once", f"good=tcp://127.0.0.1:{good.port}", "nobody=tcp://127.0.0.1:1")
+holds("what is refused is said, and ends with 1", code == 1 and "nobody" in said and "good" not in said, f"{code} {said}")
+printed, said, code = observe(server, "--once", f"good=tcp://127.0.0.1:{good.port}", place="/tmp/healthd-nobody")
+holds("a place where nobody is ends with 1", code == 1 and "/tmp/healthd-nobody" in said, f"{code} {said}")
+
+# A hundred looks at once, spread over a second.
+many = Target(answers(OK))
+begins = time.monotonic()
+process = subprocess.Popen([HEALTHD, "observe", "--control", server.control, "--every", "1", "--timeout", "0.8",
+                            *(f"good=http://127.0.0.1:{many.port}/{number}" for number in range(100))],
+                           stdout=subprocess.DEVNULL, stderr=subprocess.PIPE, text=True)
+time.sleep(4.5)
+process.send_signal(signal.SIGTERM)
+process.wait(5)
+rate = sum(begins + 1.5 <= start < begins + 3.5 for start in many.starts) / 2
+holds("a hundred targets are looked at each second", 70 <= rate <= 110, f"{rate} looks a second")
+fullest = max(sum(start <= other < start + 0.1 for other in many.starts) for start in many.starts)
+holds("their looks are spread", fullest <= 40, f"{fullest} within a tenth of a second")
+
+# Reports come in time where there are many.
+listener = socket.create_server(("127.0.0.1", 0), backlog=512)
+port = listener.getsockname()[1]
+process = subprocess.Popen([HEALTHD, "observe", "--control", server.control, "--every", "1", "--timeout", "0.8",
+                            *(f"moved=tcp://127.0.0.1:{many.port}" for _ in range(299)), f"away=tcp://127.0.0.1:{port}"],
+                           stdout=subprocess.DEVNULL, stderr=subprocess.DEVNULL)
+until("one of three hundred is serving", lambda: status(server, "away"), "serving", 10)
+time.sleep(3)
+listener.close()
+begins = time.monotonic()
+until("one of three hundred that has gone is not", lambda: status(server, "away"), "not serving", 10)
+measured("one of three hundred that has gone is not", time.monotonic() - begins, 4)
+process.kill()
+process.wait(5)
+
+# A target that comes and goes, a control place that is started again, and an observer that is killed.
+server.tell("expect", "good", "2")
+listener = socket.create_server(("127.0.0.1", 0), backlog=64)
+port = listener.getsockname()[1]
+listener.listen(64)
+place = "/tmp/healthd-observe-control"
+other = Server(script="catalogue a -\nregister a threshold 1\nregister - depends a\nexpect a 2\n", control=place)
+process = subprocess.Popen([HEALTHD, "observe", "-v", "--control", place, "--every", "0.3", "--timeout", "0.2", f"a=tcp://127.0.0.1:{port}"],
+                           stdout=subprocess.PIPE, stderr=subprocess.PIPE, text=True)
+until("a target that is there is serving", lambda: status(other, "a"), "serving")
+listener.close()
+until("a target that has gone is not", lambda: status(other, "a"), "not serving", 5)
+listener = socket.create_server(("127.0.0.1", port), backlog=64)
+until("a target that is there again is serving", lambda: status(other, "a"), "serving", 5)
+other.stop()
+time.sleep(1.5)
+other = Server(script="catalogue a -\nregister a threshold 1 1 unknown\nregister - depends a\nexpect a 2\n", control=place)
+until("a server that is started again is told", lambda: status(other, "a"), "serving", 8)
+process.kill()
+begins = time.monotonic()
+until("a dead observer is a failing service", lambda: status(other, "a"), "not serving", 6)
+measured("a dead observer is a failing service", time.monotonic() - begins, 3)
+printed, said = process.communicate(timeout=5)
+holds("-v prints each look", len(re.findall(r"^a pass$", printed, re.M)) > 5 and "a fail: refused" in printed, printed[-200:])
+holds("a place that is lost and found is said", said.count(place) == 2, said)
+other.stop()
+listener.close()
+
+# What is refused.
+for words, expected in [(["--timeout", "5", "a=tcp://h:1"], "not below"), (["a=tcp://h:1/x"], "a path"), (["a=udp://h:1"], "another scheme"),
+                        (["a"], "no URL"), (["a=tcp://h"], "no port"), ([], "TARGET")]:
+    printed, said, code = observe(server, *words)
+    holds(f"{words} is refused", code == 2 and expected in said, f"{code} {said}")
+server.stop()
+healthd.stop()
+os.path.exists(place) and os.remove(place)
