@@ -185,6 +185,16 @@ holds("a place that is lost and found is said", said.count(place) == 2, said)
 other.stop()
 listener.close()
 
+# An observer that has nothing to look at for long rests.
+process = subprocess.Popen([HEALTHD, "observe", "--control", server.control, "--every", "60", f"good=tcp://127.0.0.1:{good.port}"],
+                           stdout=subprocess.DEVNULL, stderr=subprocess.DEVNULL)
+time.sleep(4)
+with open(f"/proc/{process.pid}/stat") as file:
+    ticks = sum(int(it) for it in file.read().rpartition(")")[2].split()[11:13])
+process.kill()
+process.wait(5)
+holds("an observer that waits takes next to no time of the processor", ticks < 0.1 * os.sysconf("SC_CLK_TCK"), f"{ticks} ticks in 4 s")
+
 # What is refused.
 for words, expected in [(["--timeout", "5", "a=tcp://h:1"], "not below"), (["a=tcp://h:1/x"], "a path"), (["a=udp://h:1"], "another scheme"),
                         (["a"], "no URL"), (["a=tcp://h"], "no port"), ([], "TARGET")]:

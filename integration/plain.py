@@ -400,6 +400,13 @@ for client in taken:
 late.close()
 holds("it ends", server.stop() == 0)
 
+try:
+    connect(server.plain).close()
+    found = "somebody listens"
+except ConnectionRefusedError:
+    found = ""
+holds("nobody listens at its plain place any more", found == "", found)
+
 # Sockets that are handed over, and places that there are not.
 with socket.create_server(("127.0.0.1", 0)) as first, socket.create_server(("127.0.0.1", 0)) as second:
     server = Server("--plain", "127.0.0.1:0", script=SCRIPT, socket_of=(first, second))

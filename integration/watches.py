@@ -6,7 +6,7 @@ import subprocess
 import threading
 import time
 
-from servers import HEALTHD, NOT_SERVING, OK, Server, ask_line, holds, until
+from servers import HEALTHD, NOT_SERVING, OK, Server, ask_line, connect, holds, rest_of, until
 
 SCRIPT = "catalogue a b -\nmax 10000\nregister a manual\nregister - manual\n"
 TIMES = 1_000
@@ -138,7 +138,7 @@ with socket.socket() as listener:
     listener.setsockopt(socket.SOL_SOCKET, socket.SO_SNDBUF, 2_048)
     listener.bind(("127.0.0.1", 0))
     listener.listen()
-    server = Server("--threads", "1", "--quiet", script="catalogue a -\nregister a manual\n", socket_of=listener)
+    server = Server("--threads", "1", "--quiet", "--plain", "127.0.0.1:0", script="catalogue a -\nregister a manual\n", socket_of=listener)
 client = socket.socket()
 client.setsockopt(socket.SOL_SOCKET, socket.SO_RCVBUF, 2_048)
 client.settimeout(20)
@@ -175,5 +175,8 @@ told += idle.to_end()
 holds("it is told the first statuses, which its socket held, in their order, and then the end",
       100 < len(told) < FULL and told == [1 + number % 2 for number in range(len(told))], f"{len(told)}: {told[:3]}, {told[-3:]}")
 until("it is counted as behind", counted, [KEPT, 1, 1, 1, 0, 1])
+with connect(server.plain) as asking:
+    asking.sendall(b"GET /metrics HTTP/1.1\r\nhost: localhost\r\n\r\n")
+    holds("/metrics has it as behind", b"\nhealthd_behind_total 1\n" in rest_of(asking))
 session.close()
 server.stop()
