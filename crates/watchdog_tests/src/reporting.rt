@@ -103,19 +103,24 @@ fn register<R: Wait>(rt: &R, hall: &Hall<Threshold, KeepMany>, seat: &mut Seat<T
     let _ = hall.register(rt, seat, "a", Threshold::new(3, 1, Start::Up));
 }
 
-/// Has `a` be expected every second, over a new hall.
-fn play<R: Wait>(rt: &R, alloc: Global) -> Result<(), Fail> {
+fn catalogue_of_a(alloc: Global) -> Result<Catalogue, Fail> {
     let mut names = Vec::new(alloc);
     for text in ["a", ""] {
         names.push(String::from_str(alloc, text)?)?;
     }
-    let catalogue = Catalogue::new(alloc, names)?;
-    let (hall, mut seats) = Hall::<Threshold, KeepMany>::new(alloc, catalogue, 100, 2)?;
-    let mut others = seats.pop().ok_or("no seat")?;
-    let mut own = seats.pop().ok_or("no seat")?;
+    Ok(Catalogue::new(alloc, names)?)
+}
+
+/// Has `a` be expected every second, over a new hall. What may fail comes first, since each exit has to be proved to drop what there is by then.
+fn play<R: Wait>(rt: &R, alloc: Global) -> Result<(), Fail> {
+    let catalogue = catalogue_of_a(alloc)?;
+    let slot = catalogue.slot("a").ok_or("no slot")?;
     let expectations = Arc::new(alloc, Expectations::new(alloc)?)?;
     let mut watchdog = Watchdog::new(alloc, expectations.clone()?)?;
-    let slot = hall.catalogue().slot("a").ok_or("no slot")?;
+    let (hall, mut seats) = Hall::<Threshold, KeepMany>::new(alloc, catalogue, 100, 2)?;
+    let (Some(mut others), Some(mut own)) = (seats.pop(), seats.pop()) else {
+        return Err(Fail::new(format_args!("no seats")));
+    };
     let wish = Wish {
         seconds: 1,
         behind: 1,

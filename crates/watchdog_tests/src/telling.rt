@@ -269,8 +269,16 @@ fn set_up<R: Wait, K: Keep>(rt: &R, hall: &Hall<Threshold, K>, seat: &mut Seat<T
     hall.extent(rt, seat).entries
 }
 
+fn catalogue_of_three(alloc: Global) -> Result<Catalogue, Fail> {
+    let mut names = Vec::new(alloc);
+    for text in ["db", "api", ""] {
+        names.push(String::from_str(alloc, text)?)?;
+    }
+    Ok(Catalogue::new(alloc, names)?)
+}
+
 /// Plays the steps over a hall with room for so many entries, with `db` registered to fall by two fails and `api` by one, and tells
-/// what is written to an outlet.
+/// what is written to an outlet. What may fail comes first, since each exit has to be proved to drop what there is by then.
 fn play<R: Wait, K: Keep>(
     rt: &R,
     alloc: Global,
@@ -278,21 +286,9 @@ fn play<R: Wait, K: Keep>(
     most: u32,
     steps: &[Step],
 ) -> Result<(), Fail> {
-    let mut names = Vec::new(alloc);
-    for text in ["db", "api", ""] {
-        names.push(String::from_str(alloc, text)?)?;
-    }
-    let catalogue = Catalogue::new(alloc, names)?;
-    let (hall, mut seats) = Hall::<Threshold, K>::new(alloc, catalogue, most, 2)?;
-    let mut others = seats.pop().ok_or("no seat")?;
-    let mut own = seats.pop().ok_or("no seat")?;
-    let expectations = Arc::new(alloc, Expectations::new(alloc)?)?;
-    let mut watchdog = Watchdog::new(alloc, expectations.clone()?)?;
-    let entries = set_up(rt, &hall, &mut own);
-    expectations.chronicle().note_all(entries, 0, Who::Setup);
     let setup = Setup {
         address: "127.0.0.1:8080".parse()?,
-        entries,
+        entries: 2,
         most,
         room: Held {
             connections: 10,
@@ -300,7 +296,16 @@ fn play<R: Wait, K: Keep>(
             sessions: 4,
         },
     };
+    let expectations = Arc::new(alloc, Expectations::new(alloc)?)?;
+    let mut watchdog = Watchdog::new(alloc, expectations.clone()?)?;
     let mut diary = Diary::new(alloc, outlet, expectations.clone()?, setup)?;
+    let catalogue = catalogue_of_three(alloc)?;
+    let (hall, mut seats) = Hall::<Threshold, K>::new(alloc, catalogue, most, 2)?;
+    let (Some(mut others), Some(mut own)) = (seats.pop(), seats.pop()) else {
+        return Err(Fail::new(format_args!("no seats")));
+    };
+    let entries = set_up(rt, &hall, &mut own);
+    expectations.chronicle().note_all(entries, 0, Who::Setup);
     play_over(
         rt,
         &hall,
