@@ -24,14 +24,11 @@
 //! ```
 #![tactic(auto)]
 
+mod held_connection;
 mod laws;
-mod place;
 mod refused;
 mod table;
 
 pub use crate::laws::{counts_change, one_key_changes};
 pub use crate::refused::{NotTaken, Refused};
 pub use crate::table::Table;
-
-#[cfg(test)]
-mod tests;

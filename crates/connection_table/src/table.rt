@@ -1,4 +1,4 @@
-use crate::place::Place;
+use crate::held_connection::HeldConnection;
 use crate::refused::{NotTaken, Refused};
 use slab::Slab;
 use std::alloc::Global;
@@ -13,7 +13,7 @@ const LAST_KEY: usize = usize::MAX - 2;
 /// What was ever taken in is what has ended and what is held. `C` is a connection, which the table never looks into.
 #[derive(Drop)]
 pub struct Table<C> {
-    places: Slab<Place<C>>,
+    places: Slab<HeldConnection<C>>,
     watches: usize,
     counted: u64,
     most: usize,
@@ -117,7 +117,7 @@ impl<C> Table<C> {
                 connection,
             });
         }
-        let place = Place {
+        let place = HeldConnection {
             connection,
             is_watch: false,
         };

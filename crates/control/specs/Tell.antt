@@ -2,8 +2,8 @@
 use Rattle.std.specs.Prelude.{ℕ, ◌≡◌, ◌+◌, ◌≤◌, Option, None, Some, List, ◌++◌, length}
 use Rattle.std.specs.Io.KnownBytes.{Appends, Consumes, IsAtEnd, Keeps}
 use Rattle.control.specs.declared.line.TheConstants.{MAX_LINE_LEN}
-use Rattle.control.specs.declared.tell_fault.TellFault.{TellFault}
-use Rattle.control.specs.declared.tell_fault.TellFault.TheVariants.{Write, Read, NoAnswer, TooLong, OutOfMemory}
+use Rattle.control.specs.declared.answer_fault.AnswerFault.{AnswerFault}
+use Rattle.control.specs.declared.answer_fault.AnswerFault.TheVariants.{Write, Read, NoAnswer, TooLong, OutOfMemory}
 use Rattle.control.specs.Line.{IsPartOfLine, IsSilent, ended}
 
 -- a writer took a front of the text, which may be all of it
@@ -30,12 +30,12 @@ IsAnswered line before after None = IsSilent line × Keeps before after
 IsAnswered line before after (Some answer) = ¬ IsSilent line × IsAnswer before after answer
 
 -- what a fault says of the writer, before and after, and of the reader
-abbrev pub IsTellFault : List ℕ → Option (List ℕ) → Option (List ℕ) → Option (List ℕ) → Option (List ℕ) → TellFault → Type 0
-IsTellFault line written written_after before after (Write error) = AppendsFront written written_after (ended line) × Keeps before after
-IsTellFault line written written_after before after (Read error) = Appends written written_after (ended line)
+abbrev pub IsAnswerFault : List ℕ → Option (List ℕ) → Option (List ℕ) → Option (List ℕ) → Option (List ℕ) → AnswerFault → Type 0
+IsAnswerFault line written written_after before after (Write error) = AppendsFront written written_after (ended line) × Keeps before after
+IsAnswerFault line written written_after before after (Read error) = Appends written written_after (ended line)
     × ((bytes : List ℕ) × IsPartRead before after bytes × (length bytes ≤ MAX_LINE_LEN))
-IsTellFault line written written_after before after NoAnswer = Appends written written_after (ended line)
+IsAnswerFault line written written_after before after NoAnswer = Appends written written_after (ended line)
     × ((bytes : List ℕ) × IsPartRead before after bytes × (length bytes ≤ MAX_LINE_LEN)) × IsAtEnd after
-IsTellFault line written written_after before after TooLong = Appends written written_after (ended line)
+IsAnswerFault line written written_after before after TooLong = Appends written written_after (ended line)
     × ((bytes : List ℕ) × IsPartRead before after bytes × (length bytes ≡ MAX_LINE_LEN + 1))
-IsTellFault line written written_after before after OutOfMemory = Keeps written written_after × Keeps before after
+IsAnswerFault line written written_after before after OutOfMemory = Keeps written written_after × Keeps before after

@@ -46,7 +46,7 @@
 //! ghost use Rattle.std.specs.Io.KnownBytes.{Appends};
 //! ghost use Rattle.control.specs.Line.{IsPartOfLine, ended};
 //!
-//! use control::{TellFault, is_refused, tell};
+//! use control::{AnswerFault, is_refused, tell};
 //! use std::alloc::Global;
 //! use std::io::{Read, Write};
 //!
@@ -56,7 +56,7 @@
 //!     reader: &mut R,
 //!     writer: &mut W,
 //!     line: &[u8],
-//! ) -> Result<bool, TellFault>
+//! ) -> Result<bool, AnswerFault>
 //!     requires one_line { IsPartOfLine line.now }
 //!     ensures sent { OnOk result (Appends (W.contents writer.old) (W.contents writer.new) (ended line.now)) }
 //! {
@@ -69,6 +69,7 @@
 #![tactic(auto)]
 
 mod answer;
+mod answer_fault;
 mod client;
 mod description;
 mod description_text;
@@ -92,7 +93,6 @@ mod server;
 mod session;
 mod stats;
 mod stream;
-mod tell_fault;
 mod telling;
 mod terms;
 mod unix_place;
@@ -100,6 +100,7 @@ mod words;
 mod writing;
 
 pub use answer::Answer;
+pub use answer_fault::AnswerFault;
 pub use client::{ControlClient, connect, connect_within};
 pub use description::Description;
 pub use entry_text::{call_text, push_done, push_note};
@@ -118,7 +119,6 @@ pub use server::Server;
 pub use session::Session;
 pub use stats::{Counts, Ended, OpenNow, Stats};
 pub use stream::ControlStream;
-pub use tell_fault::TellFault;
 pub use telling::tell;
 pub use terms::Terms;
 pub use unix_place::{Access, UnixPlace};

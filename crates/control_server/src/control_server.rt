@@ -11,7 +11,7 @@ use control::{ControlListener, ControlStream, Session, Terms};
 use desk_core::Keep;
 use hall::Seat;
 use handover::Notifier;
-use live_server::{EventLoop, Limits, Places, Tally, connections_stand};
+use live_server::{EventLoop, Places, ServerLimits, Tally, connections_stand};
 use probe_core::{Maker, Probe};
 use std::alloc::{AllocError, Global};
 use std::io;
@@ -23,7 +23,7 @@ use std::time::Clock;
 use watchdog::Expectations;
 
 /// The connections of a control place. No Watches are among them.
-const LIMITS: Limits = Limits {
+const LIMITS: ServerLimits = ServerLimits {
     connections: SESSION_SEATS as usize,
     watches: 0,
 };

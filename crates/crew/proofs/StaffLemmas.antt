@@ -25,7 +25,7 @@ use Rattle.crew.specs.CommandRun.{HaveRun, IsEquipped, IsReady}
 use Rattle.desk_core.specs.Mutation.{IsAnswered, Taken, NotListed, BadRule, Full, NoMemory, NotStored, AreAnswered, Ends, Then}
 use Rattle.hall.specs.CarriedOut.{HasCarriedOut, replied}
 use Rattle.hall.specs.Looking.{HasLooked}
-use Rattle.crew.specs.Serve.{HasServed, lists_in}
+use Rattle.crew.specs.Serve.{CrewHasServed, lists_in}
 use Rattle.crew.specs.Staff.{IsEmptyFor, IsStaffOf, orders_of, seats_of}
 use Rattle.crew.specs.Worker.{HaveLooked}
 use Rattle.hall.proofs.CarryingOut.{are_ours, looked_ours}
@@ -144,7 +144,7 @@ parts_sum f v w xs ys zs =
 -- all parts together
 pub has_served : {P : Type 0} (names : List (List ℕ)) (workers workers' : List (Worker P)) (runs runs' : List (CommandRun P)) (spare : List SeatState) (count : ℕ)
     → length workers ≡ count → length workers' ≡ length workers → length runs' ≡ length runs → HaveLooked workers workers' → HaveRun names runs runs'
-    → HasServed names count (map (λ run. run.commands.orders.items) runs) (map (λ run. run.commands.results.items) runs')
+    → CrewHasServed names count (map (λ run. run.commands.orders.items) runs) (map (λ run. run.commands.results.items) runs')
     (map (λ worker. worker.seat) workers ++ (map (λ run. run.seat) runs ++ spare)) (map (λ worker. worker.seat) workers' ++ (map (λ run. run.seat) runs' ++ spare))
 has_served {P} names workers workers' runs runs' spare count len same same' looked ran =
     let worker_seat : Worker P → SeatState = λ worker. worker.seat in
@@ -175,7 +175,7 @@ has_served {P} names workers workers' runs runs' spare count len same same' look
 
 -- one seat after it has served is the hall's if it was before
 one_ours : (hall : HallState) (names : List (List ℕ)) (workers : ℕ) (lists : List (List Order)) (results : List (List (Result Reply Refusal))) (old new : List SeatState)
-    → HasServed names workers lists results old new → (place : ℕ) (d : SeatState) → IsOf hall (get_or old place d) → IsOf hall (get_or new place d)
+    → CrewHasServed names workers lists results old new → (place : ℕ) (d : SeatState) → IsOf hall (get_or old place d) → IsOf hall (get_or new place d)
 one_ours hall names workers lists results old new served place d ours =
     ⊎_elim
     (λ below. looked_ours hall _ _ ours (served.looked place d below))
@@ -189,7 +189,7 @@ one_ours hall names workers lists results old new served place d ours =
 
 -- all seats stay the hall's
 pub served_ours : (hall : HallState) (names : List (List ℕ)) (workers : ℕ) (lists : List (List Order)) (results : List (List (Result Reply Refusal))) (old new : List SeatState)
-    → HasServed names workers lists results old new → All (IsOf hall) old → All (IsOf hall) new
+    → CrewHasServed names workers lists results old new → All (IsOf hall) old → All (IsOf hall) new
 served_ours hall names workers lists results old [] served ours = λ place d below. absurd (omega (arith, below))
 served_ours hall names workers lists results old (seat ∷ new) served ours =
     All-from_get_or (IsOf hall) (seat ∷ new) seat
@@ -251,7 +251,7 @@ pub staff_served : {P : Type 0} (names : List (List ℕ)) (staff : Staff P) (wor
     (results : List (Vec (Result Reply Refusal) Global)) → length workers' ≡ length staff.workers.items → length runs' ≡ length staff.runs.items
     → HaveLooked staff.workers.items workers' → HaveRun names staff.runs.items runs'
     → seats ≡ map (λ worker. worker.seat) workers' ++ (map (λ run. run.seat) runs' ++ into_iter_items staff.spare) → results ≡ map (λ run. run.commands.results) runs'
-    → HasServed names (vec_len staff.workers) (orders_of staff) (map (λ list. list.items) results) (seats_of staff) seats
+    → CrewHasServed names (vec_len staff.workers) (orders_of staff) (map (λ list. list.items) results) (seats_of staff) seats
 staff_served {P} names staff workers' runs' seats results same same' looked ran home told =
     let answers : map (λ (list : Vec (Result Reply Refusal) Global). list.items) results ≡ map (λ (run : CommandRun P). run.commands.results.items) runs' =
     ap (map (λ list. list.items)) told ∙ map-map (λ list. list.items) (λ run. run.commands.results) runs' in

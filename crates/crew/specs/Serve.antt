@@ -17,7 +17,7 @@ lists_in vectors = map (λ vector. vector.items) vectors.items
 -- A crew of so many workers has served, over a catalogue of these names, and has run these lists of orders with these results.
 -- The first seats are the workers', which have at most looked. Those behind them are the lists', in their order: each was asked for
 -- what its orders ask for. The others are as they were. So all seats together have made as many changes more as got a reply
-pub record HasServed (names : List (List ℕ)) (workers : ℕ) (lists : List (List Order)) (results : List (List (Result Reply Refusal)))
+pub record CrewHasServed (names : List (List ℕ)) (workers : ℕ) (lists : List (List Order)) (results : List (List (Result Reply Refusal)))
     (old new : List SeatState) : Type 0 where
   pub seats : length new ≡ length old
   pub answered : length results ≡ length lists

@@ -4,7 +4,7 @@ ghost use Rattle.desk_core.specs.declared.refusal.Refusal.{Refusal};
 ghost use Rattle.desk_core.specs.declared.reply.Reply.{Reply};
 ghost use Rattle.hall.specs.Seats.{IsOf};
 ghost use Rattle.crew.specs.CrewWhy.{crew_fault, IsOtherReason};
-ghost use Rattle.crew.specs.Serve.{HasServed, lists_in};
+ghost use Rattle.crew.specs.Serve.{CrewHasServed, lists_in};
 
 use crate::crew_why::CrewWhy;
 use crate::gathering::{fault_of, gather};
@@ -60,12 +60,12 @@ where
 
     // That each end is its own call's, tests show.
     ensures calls { IfOk result (λ report. vec_len report.calls ≡ vec_len jobs) }
-    ensures served { IfOk result (λ report. HasServed hall.now.names workers (lists_in orders)
+    ensures served { IfOk result (λ report. CrewHasServed hall.now.names workers (lists_in orders)
         (lists_in report.orders) seats.items report.seats.items) }
 
     // Without a report the seats are as they were, or the crew has served.
     ensures left { IfErr result (λ fault. (fault.seats ≡ seats)
-        ⊎ ((results : List (List (Result Reply Refusal))) × HasServed hall.now.names workers
+        ⊎ ((results : List (List (Result Reply Refusal))) × CrewHasServed hall.now.names workers
         (lists_in orders) results seats.items fault.seats.items)) }
     ensures still_ours { MatchResult result (λ report. All (IsOf hall.now) report.seats.items)
         (λ fault. All (IsOf hall.now) fault.seats.items) }

@@ -85,7 +85,7 @@ impl<P: Probe + Send> Staff<P> {
     ghost use Rattle.std.specs.List.{All};
     ghost use Rattle.std.specs.Vec.Iter.{into_iter_len};
     ghost use Rattle.hall.specs.Seats.{IsOf};
-    ghost use Rattle.crew.specs.Serve.{HasServed, lists_in};
+    ghost use Rattle.crew.specs.Serve.{CrewHasServed, lists_in};
     ghost use Rattle.crew.specs.CommandRun.{IsEquipped};
     ghost use Rattle.crew.specs.Staff.{HasMemory, IsEmptyFor, IsStaffOf, IsVacant, orders_of, reports_of, seats_of};
 
@@ -164,7 +164,7 @@ impl<P: Probe + Send> Staff<P> {
         J::Output: Send,
         requires seats { All (IsOf place.now.hall.now) (seats_of self) }
         requires memory { HasMemory self }
-        ensures served { HasServed place.now.hall.now.names (vec_len self.workers)
+        ensures served { CrewHasServed place.now.hall.now.names (vec_len self.workers)
             (orders_of self) (lists_in result.results) (seats_of self) result.seats.items }
         ensures ours { All (IsOf place.now.hall.now) result.seats.items }
     {

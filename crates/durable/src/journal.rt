@@ -4,8 +4,8 @@ ghost use Rattle.journal_store.specs.Record.{restored_of};
 ghost use Rattle.server.specs.Storing.{HasItsEntries};
 ghost use Rattle.durable.specs.Journal.{FirstHasSeenIts};
 
-use crate::journal_fault::JournalFault;
 use crate::new_file::NewFile;
+use crate::opening_fault::OpeningFault;
 use crate::place::place_of;
 use chronicle::{Chronicle, Who};
 use desk_core::{Catalogue, Entry, Keep};
@@ -72,7 +72,7 @@ impl<'a, R: Files<File = File> + AllocGlobal, W: Witness> Journal<'a, R, W> {
         path: &str,
         witness: W,
         catalogue: Catalogue,
-    ) -> Result<Journal<'a, R, W>, JournalFault>
+    ) -> Result<Journal<'a, R, W>, OpeningFault>
         ensures names { IfOk result (λ journal. journal.names ≡ catalogue) }
         ensures in_file { IfOk result (λ journal. journal.in_file ≡ catalogue) }
     {
@@ -85,7 +85,7 @@ impl<'a, R: Files<File = File> + AllocGlobal, W: Witness> Journal<'a, R, W> {
         let mut log = RecordLog::new(device);
         let found = match log.open(alloc) {
             Ok(found) => found,
-            Err(fault) => return Err(JournalFault::of_opening(fault, log.device.error())),
+            Err(fault) => return Err(OpeningFault::of_opening(fault, log.device.error())),
         };
         let named = String::from_str(alloc, path)?;
         let medium = FileMedium::new(rt, String::from_str(alloc, path)?);
@@ -98,7 +98,7 @@ impl<'a, R: Files<File = File> + AllocGlobal, W: Witness> Journal<'a, R, W> {
             Err(fault) => return Err(fault_in(&found, fault)),
         };
         if !are_same(store.preface().names(), own.names()) {
-            return Err(JournalFault::AnotherCatalogue);
+            return Err(OpeningFault::AnotherCatalogue);
         }
         let entries = entries_of(alloc, &stored)?;
         let was_missing = was_missing && found.is_empty();
@@ -120,7 +120,7 @@ impl<'a, R: Files<File = File> + AllocGlobal, W: Witness> Journal<'a, R, W> {
     }
 
     /// Puts the entries of a setup into a journal that has none: all of them or, where it is refused or a crash comes, none.
-    pub fn begin(&mut self, entries: Vec<Entry>) -> Result<(), JournalFault>
+    pub fn begin(&mut self, entries: Vec<Entry>) -> Result<(), OpeningFault>
         requires new { self.old.entries ≡ [] }
         requires first { AreOfFirst entries.items }
         ensures begun { OnOk result (self.new.entries ≡ entries.items) }
@@ -133,7 +133,7 @@ impl<'a, R: Files<File = File> + AllocGlobal, W: Witness> Journal<'a, R, W> {
                 self.entries = entries;
                 Ok(())
             }
-            Err(_) => Err(JournalFault::of_device(self.error())),
+            Err(_) => Err(OpeningFault::of_device(self.error())),
         }
     }
 
@@ -167,7 +167,7 @@ impl<'a, R: Files<File = File> + AllocGlobal, W: Witness> Journal<'a, R, W> {
         max_entries: u32,
         maker: &M,
         seats: u16,
-    ) -> Result<SetUpHall<P, FileStore<'a, R, W>>, JournalFault>
+    ) -> Result<SetUpHall<P, FileStore<'a, R, W>>, OpeningFault>
         requires some { 1 ≤ seats }
         requires not_too_many { seats ≤ 1024 }
         ensures hall { IfOk result (λ made. (made.hall.names ≡ self.entry.names)
@@ -188,16 +188,16 @@ impl<'a, R: Files<File = File> + AllocGlobal, W: Witness> Journal<'a, R, W> {
         } = self;
         new_file.keep();
         let Ok(len) = u32::try_from(entries.len()) else {
-            return Err(JournalFault::TooLong);
+            return Err(OpeningFault::TooLong);
         };
         let most = max_entries.max(len);
         let front = catalogue.len() + 1;
         let again = match hall_again(rt, alloc, catalogue, most, &entries, maker, seats) {
             Ok(again) => again,
-            Err(AgainFault::Memory) => return Err(JournalFault::Memory),
+            Err(AgainFault::Memory) => return Err(OpeningFault::Memory),
             Err(AgainFault::Illegal(number)) => {
                 let place = place_of(&found, front.saturating_add(number));
-                return Err(JournalFault::Damaged(place));
+                return Err(OpeningFault::Damaged(place));
             }
         };
         let made = stored_in(rt, again, store)?;
@@ -210,7 +210,7 @@ fn stored_in<S: Wait, P: Probe, K: Keep>(
     rt: &S,
     made: SetUpHall<P, K>,
     store: K,
-) -> Result<SetUpHall<P, K>, JournalFault>
+) -> Result<SetUpHall<P, K>, OpeningFault>
     requires has { HasItsEntries K.stands K.left store made }
     ensures same { IfOk result (λ stored. stored ≡ made) }
     ensures seen { IfOk result (λ stored. FirstHasSeenIts made) }
@@ -218,14 +218,14 @@ fn stored_in<S: Wait, P: Probe, K: Keep>(
     let mut made = made;
     match made.store_in(rt, store) {
         Ok(()) => Ok(made),
-        Err(_) => Err(JournalFault::NotStored),
+        Err(_) => Err(OpeningFault::NotStored),
     }
 }
 
 /// Whether there is no file at a path. A link is no journal.
-fn is_missing<R: Files<File = File>>(rt: &R, path: &str) -> Result<bool, JournalFault> {
+fn is_missing<R: Files<File = File>>(rt: &R, path: &str) -> Result<bool, OpeningFault> {
     match fs::symlink_metadata(rt, path) {
-        Ok(found) if found.is_symlink() => Err(JournalFault::NotAFile),
+        Ok(found) if found.is_symlink() => Err(OpeningFault::NotAFile),
         Ok(_) => Ok(false),
         Err(error) => Ok(error.kind() == io::ErrorKind::NotFound),
     }
@@ -233,13 +233,13 @@ fn is_missing<R: Files<File = File>>(rt: &R, path: &str) -> Result<bool, Journal
 
 /// Why the file at a path is no journal: one begins as one may that a journal was put into, whatever came of that. Any other is somebody
 /// else's, and is not written to.
-fn fault_of_file<R: Files<File = File>>(rt: &R, path: &str) -> Option<JournalFault> {
+fn fault_of_file<R: Files<File = File>>(rt: &R, path: &str) -> Option<OpeningFault> {
     let Ok(mut file) = fs::open(rt, path) else {
         return None;
     };
     let mut found = [0; 19];
     match file.read(&mut found) {
-        Ok(_) if !is_beginning(&found) => Some(JournalFault::Damaged(0)),
+        Ok(_) if !is_beginning(&found) => Some(OpeningFault::Damaged(0)),
         _ => None,
     }
 }
@@ -270,11 +270,11 @@ fn are_same(names: &[Vec<u8>], other: &[Vec<u8>]) -> bool
 }
 
 /// What is told of a fault of what was found in a file.
-fn fault_in(found: &[Vec<u8>], fault: RecordFault) -> JournalFault {
+fn fault_in(found: &[Vec<u8>], fault: RecordFault) -> OpeningFault {
     match fault {
-        RecordFault::Memory => JournalFault::Memory,
-        RecordFault::Preface(_) | RecordFault::TooFew => JournalFault::Damaged(0),
-        RecordFault::NotAnEntry(number) => JournalFault::Damaged(place_of(found, number)),
+        RecordFault::Memory => OpeningFault::Memory,
+        RecordFault::Preface(_) | RecordFault::TooFew => OpeningFault::Damaged(0),
+        RecordFault::NotAnEntry(number) => OpeningFault::Damaged(place_of(found, number)),
     }
 }
 

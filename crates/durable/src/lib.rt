@@ -3,10 +3,10 @@
 
 mod attendance;
 mod journal;
-mod journal_fault;
 mod new_file;
+mod opening_fault;
 mod place;
 
 pub use crate::attendance::Attendance;
 pub use crate::journal::Journal;
-pub use crate::journal_fault::JournalFault;
+pub use crate::opening_fault::OpeningFault;

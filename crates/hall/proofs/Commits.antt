@@ -14,10 +14,10 @@ use Rattle.desk_core.specs.Reply.{reply_to}
 use Rattle.desk_core.specs.Seats.{calls_by}
 use Rattle.desk_core.specs.Watch.{IsOlder}
 use Rattle.hall.specs.declared.view.Held.{Held}
-use Rattle.hall.specs.declared.view.Stage.{Stage}
-use Rattle.hall.specs.declared.view.Stage.TheVariants.{Idle, Queued, Served}
+use Rattle.hall.specs.declared.view.GateStage.{GateStage}
+use Rattle.hall.specs.declared.view.GateStage.TheVariants.{Idle, Queued, Served}
 use Rattle.hall.specs.declared.view.View.{View}
-use Rattle.hall.specs.declared.view.Limits.{Limits}
+use Rattle.hall.specs.declared.view.HallLimits.{HallLimits}
 use Rattle.hall.specs.Views.{held, waits, serves, made_by, at_stage, after_commit, desk_view}
 use Rattle.hall.specs.Gates.{Moment, IsHome, IsHeld, IsStage, IsView, IsGated}
 use Rattle.hall.specs.Steps.{Seated, Committed, Passed}
@@ -53,7 +53,7 @@ passing m = record {
 }
 
 -- the stages of others are as before a commit
-stage_committed : (m : Moment) (entry : Entry) (view j : ℕ) (stage : Stage) → j ≢ view → m.holder m.served ≡ view → IsStage m j stage → IsStage (committed m entry) j stage
+stage_committed : (m : Moment) (entry : Entry) (view j : ℕ) (stage : GateStage) → j ≢ view → m.holder m.served ≡ view → IsStage m j stage → IsStage (committed m entry) j stage
 unfolding committed
 stage_committed m entry view j Idle other holds is = tt
 stage_committed m entry view j (Queued ticket) other holds is =
@@ -61,7 +61,7 @@ stage_committed m entry view j (Queued ticket) other holds is =
 stage_committed m entry view j (Served ticket history) other holds is = absurd (other (sym is.2 ∙ (ap m.holder is.0 ∙ holds)))
 
 -- the stages of others after the turn was passed
-stage_passed : (m : Moment) (view j : ℕ) (stage : Stage) → j ≢ view → m.holder m.served ≡ view → IsStage m j stage → IsStage (passing m) j stage
+stage_passed : (m : Moment) (view j : ℕ) (stage : GateStage) → j ≢ view → m.holder m.served ≡ view → IsStage m j stage → IsStage (passing m) j stage
 unfolding passing
 stage_passed m view j Idle other holds is = tt
 stage_passed m view j (Queued ticket) other holds is =
@@ -70,7 +70,7 @@ stage_passed m view j (Queued ticket) other holds is =
 stage_passed m view j (Served ticket history) other holds is = absurd (other (sym is.2 ∙ (ap m.holder is.0 ∙ holds)))
 
 -- The seat that has the desk commits an entry of its own
-pub commits : (key : Limits) (slots id number most ticket : ℕ) (history : List Entry) (entry : Entry)
+pub commits : (key : HallLimits) (slots id number most ticket : ℕ) (history : List Entry) (entry : Entry)
     → entry.seat ≡ number → entry.reply ≡ reply_to history entry.call → IsLawfulCall entry.call → length history < most
     → let me : Seated = (desk_view number history most ticket history, (0, None) ∷ []) in
     Allows (IsGated key) slots id me 0 (λ found. board_of (entry ∷ history)) (λ found. Committed entry me (board_of (entry ∷ history)))
@@ -138,7 +138,7 @@ commits key slots id number most ticket history entry seat reply lawful room tab
     )
 
 -- The seat that has the desk gives it back and passes the turn
-pub passes : (key : Limits) (slots id number most ticket : ℕ) (seen history : List Entry) (desk : State)
+pub passes : (key : HallLimits) (slots id number most ticket : ℕ) (seen history : List Entry) (desk : State)
     → past desk.journal ≡ history → desk.max_entries ≡ most
     → let me : Seated = (desk_view number seen most ticket history, (0, Some desk) ∷ []) in
     Allows (IsGated key) slots id me 2 (λ found. (found + 1) % 2 ^ 64) (Passed me)

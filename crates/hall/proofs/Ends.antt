@@ -9,9 +9,9 @@ use Rattle.desk_core.specs.Desk.{State}
 use Rattle.desk_core.specs.Legal.{IsLegal}
 use Rattle.desk_core.specs.Past.{past}
 use Rattle.hall.specs.declared.view.Held.{Held}
-use Rattle.hall.specs.declared.view.Stage.TheVariants.{Idle}
+use Rattle.hall.specs.declared.view.GateStage.TheVariants.{Idle}
 use Rattle.hall.specs.declared.view.View.{View}
-use Rattle.hall.specs.declared.view.Limits.{Limits}
+use Rattle.hall.specs.declared.view.HallLimits.{HallLimits}
 use Rattle.hall.specs.Views.{serves, made_by}
 use Rattle.hall.specs.Gates.{IsHome, IsGated}
 use Rattle.hall.specs.Steps.{AllBegin}
@@ -32,7 +32,7 @@ none_made : (seats : List Held) → length seats ≡ 0 → made_by seats ≡ 0
 none_made [] zero_long = refl
 none_made (seat ∷ seats) zero_long = absurd (omega arith)
 
-pub ends : (key : Limits) (table : Table (Option State) View) (id : ℕ) (v : View) → IsGated key table → get_elem? table.views id ≡ some v → v.stage ≡ Idle
+pub ends : (key : HallLimits) (table : Table (Option State) View) (id : ℕ) (v : View) → IsGated key table → get_elem? table.views id ≡ some v → v.stage ≡ Idle
     → length v.seats ≡ key.seats → IsWhole key.most table v.seats
 ends key table id v r at idle all =
     let m = r.moment in
@@ -55,7 +55,7 @@ ends key table id v r at idle all =
     }
 
 -- what is found in the slot of such a hall
-pub found_desk : (key : Limits) (table : Table (Option State) View) (id : ℕ) (v : View) (slots : List (Option State)) (found : Option State) → Seen (IsGated key) id v table → v.stage ≡ Idle
+pub found_desk : (key : HallLimits) (table : Table (Option State) View) (id : ℕ) (v : View) (slots : List (Option State)) (found : Option State) → Seen (IsGated key) id v table → v.stage ≡ Idle
     → length v.seats ≡ key.seats → ((k : ℕ) (y : Option State) → get_elem? table.homes k ≡ some (some y) → get_elem? slots k ≡ some y) → get_elem? slots 0 ≡ some found
     → (whole : IsWhole key.most table v.seats) × (found ≡ Some whole.desk)
 found_desk key table id v slots found seen idle all homes at =

@@ -6,7 +6,7 @@ use Rattle.atomic_table.specs.Table.{rest}
 use Rattle.desk_core.specs.declared.entry.Entry.{Entry}
 use Rattle.desk_core.specs.Desk.{State}
 use Rattle.desk_core.specs.Past.{past}
-use Rattle.hall.specs.declared.view.Stage.TheVariants.{Queued, Served}
+use Rattle.hall.specs.declared.view.GateStage.TheVariants.{Queued, Served}
 use Rattle.hall.specs.Views.{at_stage, seat_view, desk_view}
 use Rattle.hall.specs.Steps.{Seated, HasTurn, Looks, HasDesk, Follows}
 

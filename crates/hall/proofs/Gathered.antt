@@ -6,7 +6,7 @@ use Rattle.atomic_table.specs.Seated.{TableId}
 use Rattle.desk_core.specs.declared.entry.Entry.{Entry}
 use Rattle.desk_core.specs.Seats.{calls_by}
 use Rattle.hall.specs.declared.view.Held.{Held}
-use Rattle.hall.specs.declared.view.Stage.TheVariants.{Idle}
+use Rattle.hall.specs.declared.view.GateStage.TheVariants.{Idle}
 use Rattle.hall.specs.Views.{made_by}
 use Rattle.hall.specs.Seats.{SeatState, IsSeenIn, held_of, own_calls}
 use Rattle.hall.specs.Steps.{Seated, IsSeat, AllBegin}

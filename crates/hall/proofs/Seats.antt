@@ -18,10 +18,10 @@ use Rattle.desk_core.specs.Past.{past}
 use Rattle.desk_core.specs.Seats.{calls_by}
 use Rattle.desk_core.specs.Watch.{IsOlder}
 use Rattle.hall.specs.declared.view.Held.{Held}
-use Rattle.hall.specs.declared.view.Stage.{Stage}
-use Rattle.hall.specs.declared.view.Stage.TheVariants.{Idle, Queued, Served}
+use Rattle.hall.specs.declared.view.GateStage.{GateStage}
+use Rattle.hall.specs.declared.view.GateStage.TheVariants.{Idle, Queued, Served}
 use Rattle.hall.specs.declared.view.View.{View}
-use Rattle.hall.specs.declared.view.Limits.{Limits}
+use Rattle.hall.specs.declared.view.HallLimits.{HallLimits}
 use Rattle.hall.specs.Views.{held, waits, serves, made_by, seen_of, dealer, seat_view, note_view, after_note, with_seats}
 use Rattle.hall.specs.Gates.{Moment, IsHeld, IsStage, IsView, IsGated, HasNumber}
 use Rattle.hall.proofs.Sums.{sum-set, each_set, at_end}
@@ -45,7 +45,7 @@ first_view most zero view at = subst (IsView (beginning most) 0) (some-injective
 first_view most (suc j) view at = absurd (some-ne-none view (sym at))
 
 -- a hall begins with the empty history, the desk at home and nothing drawn
-pub opens : (key : Limits) (desk : State) → key.most < 2 ^ 32 → key.seats < 2 ^ 16 → desk ≡ new_desk key.most
+pub opens : (key : HallLimits) (desk : State) → key.most < 2 ^ 32 → key.seats < 2 ^ 16 → desk ≡ new_desk key.most
     → IsGated key (opening (0 ∷ 0 ∷ 0 ∷ []) (Some desk ∷ []) (dealer 0 key.most))
 unfolding beginning packed
 opens key desk most seats empty = record {
@@ -81,7 +81,7 @@ dealing m place = record {
 }
 
 -- a stage is as before where a number was dealt out
-stage_kept : (m : Moment) (place j : ℕ) (stage : Stage) → IsStage m j stage → IsStage (dealing m place) j stage
+stage_kept : (m : Moment) (place j : ℕ) (stage : GateStage) → IsStage m j stage → IsStage (dealing m place) j stage
 unfolding dealing
 stage_kept m place j Idle is = tt
 stage_kept m place j (Queued ticket) is = is
@@ -92,7 +92,7 @@ made_none : (number : ℕ) → made_by (held number [] ∷ []) ≡ 0
 made_none number = sum_by-cons (λ (seat : Held). length (calls_by seat.seen seat.number)) (held number []) []
 
 -- the view that deals has dealt out fewer seats than the hall has: it deals out the next
-pub deals : (key : Limits) (id dealt most : ℕ) → dealt < key.seats → Splits (IsGated key) id (dealer dealt most) (dealer (dealt + 1) most) (seat_view dealt [] most)
+pub deals : (key : HallLimits) (id dealt most : ℕ) → dealt < key.seats → Splits (IsGated key) id (dealer dealt most) (dealer (dealt + 1) most) (seat_view dealt [] most)
 unfolding dealing
 deals key id dealt most more table r at =
     let m = r.moment in
@@ -162,7 +162,7 @@ deals key id dealt most more table r at =
     }
 
 -- one view is replaced by another that makes the same of the seats' numbers, tickets and changes
-replaced : (key : Limits) (table : Table (Option State) View) (r : IsGated key table) (id : ℕ) (v w : View) → get_elem? table.views id ≡ some v → IsView r.moment id w
+replaced : (key : HallLimits) (table : Table (Option State) View) (r : IsGated key table) (id : ℕ) (v w : View) → get_elem? table.views id ≡ some v → IsView r.moment id w
     → length w.seats ≡ length v.seats → waits w.stage ≡ waits v.stage → serves w.stage ≡ serves v.stage → made_by w.seats ≡ made_by v.seats
     → ((n : ℕ) → HasNumber n v.seats → HasNumber n w.seats) → IsGated key (record { words = table.words; homes = table.homes; views = set table.views id w })
 replaced key table r id v w at own few waiting serving made keeps = record {
@@ -195,7 +195,7 @@ note_is m j seen older = record {
 }
 
 -- a view writes a note of what its first seat has seen
-pub tells : (key : Limits) (id : ℕ) (v : View) → Splits (IsGated key) id v v (note_view (seen_of v.seats))
+pub tells : (key : HallLimits) (id : ℕ) (v : View) → Splits (IsGated key) id v v (note_view (seen_of v.seats))
 tells key id v table r at =
     let m = r.moment in
     let u = note_view (seen_of v.seats) in
@@ -221,7 +221,7 @@ tells key id v table r at =
     })
 
 -- a view takes a note in, which is spent
-pub meets : (key : Limits) (id : ℕ) (v : View) (other : ℕ) (seen : List Entry) → Joins (IsGated key) id v other (note_view seen) (after_note v (note_view seen)) (note_view [])
+pub meets : (key : HallLimits) (id : ℕ) (v : View) (other : ℕ) (seen : List Entry) → Joins (IsGated key) id v other (note_view seen) (after_note v (note_view seen)) (note_view [])
 unfolding replaced
 meets key id v other seen table r at apart there =
     let m = r.moment in
@@ -255,14 +255,14 @@ moving m number place = record {
 }
 
 -- a stage is as before where a seat changed hands
-stage_moved : (m : Moment) (number place j : ℕ) (stage : Stage) → IsStage m j stage → IsStage (moving m number place) j stage
+stage_moved : (m : Moment) (number place j : ℕ) (stage : GateStage) → IsStage m j stage → IsStage (moving m number place) j stage
 unfolding moving
 stage_moved m number place j Idle is = tt
 stage_moved m number place j (Queued ticket) is = is
 stage_moved m number place j (Served ticket history) is = is
 
 -- a view that has a seat takes over a seat that asks for nothing, whose view is spent
-pub gathers : (key : Limits) (id : ℕ) (v : View) (other number : ℕ) (seen : List Entry) (most : ℕ) → 0 < length v.seats
+pub gathers : (key : HallLimits) (id : ℕ) (v : View) (other number : ℕ) (seen : List Entry) (most : ℕ) → 0 < length v.seats
     → Joins (IsGated key) id v other (seat_view number seen most) (with_seats v (seat_view number seen most)) (note_view [])
 unfolding moving
 gathers key id v other number seen most some_seat table r at apart there =

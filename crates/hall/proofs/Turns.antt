@@ -11,10 +11,10 @@ use Rattle.atomic_table.specs.Table.{State as Table, Allows, Act, keeps, takes, 
 use Rattle.atomic_table.proofs.Lists.{one_turn, set_again}
 use Rattle.desk_core.specs.Board.{board_of}
 use Rattle.desk_core.specs.Desk.{State}
-use Rattle.hall.specs.declared.view.Stage.{Stage}
-use Rattle.hall.specs.declared.view.Stage.TheVariants.{Idle, Queued, Served}
+use Rattle.hall.specs.declared.view.GateStage.{GateStage}
+use Rattle.hall.specs.declared.view.GateStage.TheVariants.{Idle, Queued, Served}
 use Rattle.hall.specs.declared.view.View.{View}
-use Rattle.hall.specs.declared.view.Limits.{Limits}
+use Rattle.hall.specs.declared.view.HallLimits.{HallLimits}
 use Rattle.hall.specs.Views.{held, waits, serves, made_by, at_stage, after_look}
 use Rattle.hall.specs.Gates.{Moment, IsHome, IsStage, IsView, IsGated}
 use Rattle.hall.specs.Steps.{Seated, Drawn, Turned, Looked}
@@ -22,13 +22,13 @@ use Rattle.hall.proofs.Sums.{sum-set, sum-mono, each_set}
 use Rattle.hall.proofs.Views.{older_nil, looked_held, looked_made, held_begin, stage_out, serves_waits, placed_set, mapped_number}
 
 -- as many tickets are out as views wait, of which there are no more than seats
-few_out : (key : Limits) (table : Table (Option State) View) (r : IsGated key table) → r.moment.drawn ≤ r.moment.served + key.seats
+few_out : (key : HallLimits) (table : Table (Option State) View) (r : IsGated key table) → r.moment.drawn ≤ r.moment.served + key.seats
 few_out key table r =
     let less = sum-mono (λ (view : View). waits view.stage) (λ (view : View). length view.seats) table.views (λ j view at. (r.each j view at).seated) in
     omega (arith, less, r.numbers, r.tickets, r.few)
 
 -- where all drawn tickets were served, the desk is at home
-none_out : (key : Limits) (table : Table (Option State) View) (r : IsGated key table) → r.moment.drawn ≡ r.moment.served → r.moment.out ≡ 0
+none_out : (key : HallLimits) (table : Table (Option State) View) (r : IsGated key table) → r.moment.drawn ≡ r.moment.served → r.moment.out ≡ 0
 none_out key table r same =
     let less = sum-mono (λ (view : View). serves view.stage) (λ (view : View). waits view.stage) table.views (λ j view at. serves_waits view.stage) in
     omega (arith, less, r.serving, r.tickets, same)
@@ -54,7 +54,7 @@ drawing m view = record {
   holder = λ ticket. if ticket == m.drawn then view else m.holder ticket;
 }
 
-stage_drawn : (m : Moment) (view j : ℕ) (stage : Stage) → IsStage m j stage → IsStage (drawing m view) j stage
+stage_drawn : (m : Moment) (view j : ℕ) (stage : GateStage) → IsStage m j stage → IsStage (drawing m view) j stage
 unfolding drawing
 stage_drawn m view j Idle is = tt
 stage_drawn m view j (Queued ticket) is =
@@ -63,7 +63,7 @@ stage_drawn m view j (Served ticket history) is =
     (is.0, omega (arith, is.1), other_holder m.holder ticket m.drawn view (λ same. omega (arith, is.1, same)) ∙ is.2, is.3, is.4)
 
 -- a seat that waits for nothing draws a ticket
-pub draws : (key : Limits) (slots id : ℕ) (me : Seated) → me.0.stage ≡ Idle → 0 < length me.0.seats
+pub draws : (key : HallLimits) (slots id : ℕ) (me : Seated) → me.0.stage ≡ Idle → 0 < length me.0.seats
     → Allows (IsGated key) slots id me 1 (λ found. (found + 1) % 2 ^ 64) (Drawn me)
 unfolding drawing
 draws key slots id me idle seated table r _ at small =
@@ -110,7 +110,7 @@ draws key slots id me idle seated table r _ at small =
     )
 
 -- which ticket a stage waits for
-ticket_of : Stage → ℕ
+ticket_of : GateStage → ℕ
 ticket_of Idle = 0
 ticket_of (Queued ticket) = ticket
 ticket_of (Served ticket history) = ticket
@@ -130,7 +130,7 @@ taking m = record {
 }
 
 -- the stages of others, where this view holds the ticket served
-stage_taken : (m : Moment) (view j : ℕ) (stage : Stage) → j ≢ view → m.holder m.served ≡ view → IsStage m j stage → IsStage (taking m) j stage
+stage_taken : (m : Moment) (view j : ℕ) (stage : GateStage) → j ≢ view → m.holder m.served ≡ view → IsStage m j stage → IsStage (taking m) j stage
 unfolding taking
 stage_taken m view j Idle other holds is = tt
 stage_taken m view j (Queued ticket) other holds is =
@@ -138,7 +138,7 @@ stage_taken m view j (Queued ticket) other holds is =
 stage_taken m view j (Served ticket history) other holds is = absurd (other (sym is.2 ∙ (ap m.holder is.0 ∙ holds)))
 
 -- a seat whose ticket is served takes the desk, which is at home
-takes_turn : (key : Limits) (id ticket : ℕ) (me : Seated) (table : Table (Option State) View) (r : IsGated key table)
+takes_turn : (key : HallLimits) (id ticket : ℕ) (me : Seated) (table : Table (Option State) View) (r : IsGated key table)
     → get_elem? table.views id ≡ some me.0 → me.0.stage ≡ Queued ticket → r.moment.served ≡ ticket → IsHome 0 r.moment.history r.moment.most table.homes
     → slice_index table.words 2 ≡ r.moment.served % 2 ^ 64
     → (w : View) × (a : Act (Option State)) × Valid table.homes me.1 a
@@ -195,7 +195,7 @@ takes_turn key id ticket me table r at queued served home found =
     )
 
 -- a seat whose ticket is not served looks in vain
-waits_on : (key : Limits) (id ticket : ℕ) (me : Seated) (table : Table (Option State) View) (r : IsGated key table)
+waits_on : (key : HallLimits) (id ticket : ℕ) (me : Seated) (table : Table (Option State) View) (r : IsGated key table)
     → get_elem? table.views id ≡ some me.0 → me.0.stage ≡ Queued ticket → r.moment.served % 2 ^ 64 ≢ ticket % 2 ^ 64
     → slice_index table.words 2 ≡ r.moment.served % 2 ^ 64
     → (w : View) × (a : Act (Option State)) × Valid table.homes me.1 a
@@ -230,7 +230,7 @@ waits_on key id ticket me table r at queued other found =
     )
 
 -- a seat that has drawn a ticket looks whether it is served
-pub turns : (key : Limits) (slots id ticket : ℕ) (me : Seated) → me.0.stage ≡ Queued ticket
+pub turns : (key : HallLimits) (slots id ticket : ℕ) (me : Seated) → me.0.stage ≡ Queued ticket
     → Allows (IsGated key) slots id me 2 (λ found. found) (Turned me)
 turns key slots id ticket me queued table r _ at small =
     let m = r.moment in
@@ -243,7 +243,7 @@ turns key slots id ticket me queued table r _ at small =
     (λ no. waits_on key id ticket me table r at queued no found)
 
 -- a seat looks at the board
-pub looks : (key : Limits) (slots id : ℕ) (me : Seated) → Allows (IsGated key) slots id me 0 (λ found. found) (Looked me)
+pub looks : (key : HallLimits) (slots id : ℕ) (me : Seated) → Allows (IsGated key) slots id me 0 (λ found. found) (Looked me)
 looks key slots id me table r _ at small =
     let m = r.moment in
     let v = me.0 in

@@ -11,8 +11,8 @@ use Rattle.desk_core.specs.declared.entry.Entry.{Entry}
 use Rattle.desk_core.specs.Seats.{calls_by}
 use Rattle.desk_core.specs.Watch.{IsOlder}
 use Rattle.hall.specs.declared.view.Held.{Held}
-use Rattle.hall.specs.declared.view.Stage.{Stage}
-use Rattle.hall.specs.declared.view.Stage.TheVariants.{Idle, Queued, Served}
+use Rattle.hall.specs.declared.view.GateStage.{GateStage}
+use Rattle.hall.specs.declared.view.GateStage.TheVariants.{Idle, Queued, Served}
 use Rattle.hall.specs.declared.view.View.{View}
 use Rattle.hall.specs.Views.{held, made_by, seen_of, waits, serves}
 use Rattle.hall.specs.Gates.{Moment, AreHeld, IsStage, HasNumber, IsPlaced}
@@ -100,13 +100,13 @@ joined_held history dealt owner view [] more are also = also
 joined_held history dealt owner view (seat ∷ seats) more are also = (are.0, joined_held history dealt owner view seats more are.1 also)
 
 -- a desk that is out has the whole history
-pub stage_out : (moment : Moment) (view : ℕ) (stage : Stage) → IsStage moment view stage → HasOut moment.history stage
+pub stage_out : (moment : Moment) (view : ℕ) (stage : GateStage) → IsStage moment view stage → HasOut moment.history stage
 stage_out moment view Idle is = tt
 stage_out moment view (Queued ticket) is = tt
 stage_out moment view (Served ticket history) is = is.4
 
 -- what is served waits
-pub serves_waits : (stage : Stage) → serves stage ≤ waits stage
+pub serves_waits : (stage : GateStage) → serves stage ≤ waits stage
 serves_waits Idle = omega arith
 serves_waits (Queued ticket) = omega arith
 serves_waits (Served ticket history) = omega arith

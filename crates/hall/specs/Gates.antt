@@ -13,10 +13,10 @@ use Rattle.desk_core.specs.Past.{past}
 use Rattle.desk_core.specs.Seats.{calls_by}
 use Rattle.desk_core.specs.Watch.{IsOlder}
 use Rattle.hall.specs.declared.view.Held.{Held}
-use Rattle.hall.specs.declared.view.Stage.{Stage}
-use Rattle.hall.specs.declared.view.Stage.TheVariants.{Idle, Queued, Served}
+use Rattle.hall.specs.declared.view.GateStage.{GateStage}
+use Rattle.hall.specs.declared.view.GateStage.TheVariants.{Idle, Queued, Served}
 use Rattle.hall.specs.declared.view.View.{View}
-use Rattle.hall.specs.declared.view.Limits.{Limits}
+use Rattle.hall.specs.declared.view.HallLimits.{HallLimits}
 use Rattle.hall.specs.Views.{waits, serves, made_by}
 
 -- A hall between two steps: its history, and how long that may get; how many tickets were drawn, and which is served; whether
@@ -54,7 +54,7 @@ AreHeld history dealt owner view (seat ∷ seats) = IsHeld history dealt owner v
 
 -- a ticket is this view's alone; the tickets out are those from the one served up to those drawn; the desk is out just with the
 -- view whose ticket is served, and has the whole history
-abbrev pub IsStage : Moment → ℕ → Stage → Type 0
+abbrev pub IsStage : Moment → ℕ → GateStage → Type 0
 IsStage moment view Idle = Unit {0}
 IsStage moment view (Queued ticket) =
     (moment.served ≤ ticket) × (ticket < moment.drawn) × (moment.holder ticket ≡ view) × (ticket ≡ moment.served → moment.out ≡ 0)
@@ -86,7 +86,7 @@ pub record IsPlaced (views : List View) (number : ℕ) : Type 0 where
 -- The rule of a hall. An entry is by a number that was dealt out (`fresh`), some view has the seat of that number (`placed`),
 -- and that seat has seen the entry (`IsHeld`). Of the sums: there are as many seats as numbers were dealt out, as many views
 -- wait as tickets are out, the desk is out just where a view has it, and the seats made all entries
-pub record IsGated (key : Limits) (table : Table (Option State) View) : Type 0 where
+pub record IsGated (key : HallLimits) (table : Table (Option State) View) : Type 0 where
   pub moment : Moment
   pub bounds : (key.most < 2 ^ 32) × (key.seats < 2 ^ 16)
   pub most : moment.most ≡ key.most

@@ -10,8 +10,8 @@ use Rattle.desk_core.specs.Past.{past}
 use Rattle.desk_core.specs.Seats.{calls_by}
 use Rattle.desk_core.specs.Watch.{IsOlder}
 use Rattle.hall.specs.declared.view.Held.{Held}
-use Rattle.hall.specs.declared.view.Stage.{Stage}
-use Rattle.hall.specs.declared.view.Stage.TheVariants.{Idle, Queued, Served}
+use Rattle.hall.specs.declared.view.GateStage.{GateStage}
+use Rattle.hall.specs.declared.view.GateStage.TheVariants.{Idle, Queued, Served}
 use Rattle.hall.specs.declared.view.View.{View}
 use Rattle.hall.specs.Views.{at_stage, after_look, after_commit, seen_of, seat_view, desk_view}
 
@@ -42,7 +42,7 @@ AllBegin history (seat ∷ seats) =
     IsOlder seat.seen history × (calls_by history seat.number ≡ calls_by seat.seen seat.number) × AllBegin history seats
 
 -- a desk in hand has this history
-abbrev pub HasOut : List Entry → Stage → Type 0
+abbrev pub HasOut : List Entry → GateStage → Type 0
 HasOut history Idle = Unit {0}
 HasOut history (Queued ticket) = Unit {0}
 HasOut history (Served ticket out) = out ≡ history

@@ -4,8 +4,8 @@ use Rattle.std.specs.List.{sum_by}
 use Rattle.desk_core.specs.declared.entry.Entry.{Entry}
 use Rattle.desk_core.specs.Seats.{calls_by}
 use Rattle.hall.specs.declared.view.Held.{Held}
-use Rattle.hall.specs.declared.view.Stage.{Stage}
-use Rattle.hall.specs.declared.view.Stage.TheVariants.{Idle, Queued, Served}
+use Rattle.hall.specs.declared.view.GateStage.{GateStage}
+use Rattle.hall.specs.declared.view.GateStage.TheVariants.{Idle, Queued, Served}
 use Rattle.hall.specs.declared.view.View.{View}
 
 -- a seat that has seen this history
@@ -57,7 +57,7 @@ dealer dealt most = record {
 }
 
 -- the same view at another stage
-abbrev pub at_stage : View → Stage → View
+abbrev pub at_stage : View → GateStage → View
 at_stage view stage = record {
   seats = view.seats;
   told = view.told;
@@ -79,7 +79,7 @@ after_look history view = record {
 }
 
 -- a desk in hand has one more entry
-abbrev pub appended : Entry → Stage → Stage
+abbrev pub appended : Entry → GateStage → GateStage
 appended entry Idle = Idle
 appended entry (Queued ticket) = Queued ticket
 appended entry (Served ticket history) = Served ticket (entry ∷ history)
@@ -123,13 +123,13 @@ seen_of [] = []
 seen_of (seat ∷ seats) = seat.seen
 
 -- 1 for a view that holds a ticket
-abbrev pub waits : Stage → ℕ
+abbrev pub waits : GateStage → ℕ
 waits Idle = 0
 waits (Queued ticket) = 1
 waits (Served ticket history) = 1
 
 -- 1 for a view whose ticket is served
-abbrev pub serves : Stage → ℕ
+abbrev pub serves : GateStage → ℕ
 serves Idle = 0
 serves (Queued ticket) = 0
 serves (Served ticket history) = 1

@@ -1,13 +1,13 @@
 ghost use Rattle.std.specs.Prelude.{◌≡◌, ◌<◌, [], length, map};
 ghost use Rattle.std.specs.List.{All};
-ghost use Rattle.hall.specs.declared.view.Stage.TheVariants.{Idle};
+ghost use Rattle.hall.specs.declared.view.GateStage.TheVariants.{Idle};
 ghost use Rattle.hall.specs.Seats.{held_of};
 ghost use Rattle.hall.specs.Steps.{IsHall};
 
 use crate::gate::DESK;
 use crate::hall::Hall;
 use crate::seat::Seat;
-use crate::steps::{Gather, Place, Shared};
+use crate::steps::{GateSeat, Gather, Shared};
 use desk_core::{Catalogue, Desk, Keep, KeepAll};
 use probe_core::Probe;
 
@@ -77,7 +77,7 @@ impl<P: Probe, K: Keep> Hall<P, K> {
 }
 
 /// One view for all seats.
-fn gather<P: Probe, K: Keep>(shared: &Shared<P, K>, seats: Vec<Seat<P, K>>) -> Place<P, K>
+fn gather<P: Probe, K: Keep>(shared: &Shared<P, K>, seats: Vec<Seat<P, K>>) -> GateSeat<P, K>
     requires table { IsHall shared.now.table_id }
     requires seats { All (λ seat. seat.table ≡ shared.now.table_id) seats.items }
     requires some { 0 < length seats.items }

@@ -1,11 +1,11 @@
 ghost use Rattle.std.specs.Prelude.{◌≡◌, ◌+◌, ◌≤◌, ◌<◌, ◌%◌, ◌^◌, ℕ, [], ◌∷◌, length};
 ghost use Rattle.desk_core.specs.Legal.{IsLegal};
 ghost use Rattle.desk_core.specs.Past.{past};
-ghost use Rattle.hall.specs.declared.view.Stage.TheVariants.{Queued};
+ghost use Rattle.hall.specs.declared.view.GateStage.TheVariants.{Queued};
 ghost use Rattle.hall.specs.Views.{at_stage, seat_view};
 ghost use Rattle.hall.specs.Steps.{IsHall, Rests, HasDesk, Follows, number_in, seen_in};
 
-use crate::steps::{Commit, Draw, Look, Making, Pass, Place, Shared, Turn};
+use crate::steps::{Commit, Draw, GateSeat, Look, Making, Pass, Shared, Turn};
 use desk_core::{Desk, Entry, Keep};
 use probe_core::Probe;
 use std::marker::Brand;
@@ -31,7 +31,7 @@ const SPINS: u32 = 100;
 pub(crate) fn enter<P: Probe, K: Keep, R: Wait>(
     rt: &R,
     shared: &Shared<P, K>,
-    place: &mut Place<P, K>,
+    place: &mut GateSeat<P, K>,
 ) -> Desk<P, K>
     requires table { IsHall shared.now.table_id × (place.old.table_id ≡ shared.now.table_id) }
     requires rests { Rests place.old.me }
@@ -60,7 +60,7 @@ pub(crate) fn enter<P: Probe, K: Keep, R: Wait>(
     unreachable!()
 }
 
-fn draw<P: Probe, K: Keep>(shared: &Shared<P, K>, place: &mut Place<P, K>) -> u64
+fn draw<P: Probe, K: Keep>(shared: &Shared<P, K>, place: &mut GateSeat<P, K>) -> u64
     requires table { IsHall shared.now.table_id × (place.old.table_id ≡ shared.now.table_id) }
     requires rests { Rests place.old.me }
     ensures place { place.new.table_id ≡ place.old.table_id }
@@ -73,7 +73,7 @@ fn draw<P: Probe, K: Keep>(shared: &Shared<P, K>, place: &mut Place<P, K>) -> u6
 /// Stores the board of a desk whose newest entry is this one.
 fn commit<P: Probe, K: Keep, J: Making>(
     shared: &Shared<P, K>,
-    place: &mut Place<P, K>,
+    place: &mut GateSeat<P, K>,
     entry: Entry,
     desk: &Desk<P, K>,
 )
@@ -92,7 +92,7 @@ fn commit<P: Probe, K: Keep, J: Making>(
 /// Commits the newest entry of the desk, counts it, gives the desk back and passes the turn.
 pub(crate) fn finish<P: Probe, K: Keep>(
     shared: &Shared<P, K>,
-    place: &mut Place<P, K>,
+    place: &mut GateSeat<P, K>,
     made: &mut u64,
     desk: Desk<P, K>,
     entry: Entry,
@@ -117,7 +117,7 @@ pub(crate) fn finish<P: Probe, K: Keep>(
 /// Gives the desk back, and passes the turn.
 pub(crate) fn leave<P: Probe, K: Keep>(
     shared: &Shared<P, K>,
-    place: &mut Place<P, K>,
+    place: &mut GateSeat<P, K>,
     desk: Desk<P, K>,
 )
     requires table { IsHall shared.now.table_id × (place.old.table_id ≡ shared.now.table_id) }

@@ -5,8 +5,8 @@ ghost use Rattle.hall.specs.Steps.{IsHall};
 
 use crate::fault::HallFault;
 use crate::seat::Seat;
-use crate::steps::{Deal, Place, Table};
-use crate::view::Limits;
+use crate::steps::{Deal, GateSeat, Table};
+use crate::view::HallLimits;
 use desk_core::{Catalogue, Desk, Keep, KeepAll};
 use probe_core::Probe;
 use std::alloc::{AllocError, Global};
@@ -89,7 +89,7 @@ fn lay<P: Probe, K: Keep>(
     alloc: Global,
     most: u32,
     seats: u16,
-) -> Result<(Table<P, K>, Place<P, K>), AllocError>
+) -> Result<(Table<P, K>, GateSeat<P, K>), AllocError>
     ensures table { IfOk result (λ made. IsHall made.0.shared.table_id
         × (made.0.shared.key ≡ record { most = most; seats = seats })) }
     ensures dealer { IfOk result (λ made. (made.1.table_id ≡ made.0.shared.table_id)
@@ -97,7 +97,7 @@ fn lay<P: Probe, K: Keep>(
 {
     let mut slots = Vec::with_capacity(alloc, 1)?;
     slots.push(Some(Desk::new(alloc, most)))?;
-    let limits = Limits { most, seats };
+    let limits = HallLimits { most, seats };
     match Table::new(alloc, &[0, 0, 0], slots, &limits) {
         Ok(made) => Ok(made),
         Err(_) => Err(AllocError),
@@ -108,7 +108,7 @@ fn lay<P: Probe, K: Keep>(
 fn deal<P: Probe, K: Keep>(
     alloc: Global,
     table: &Table<P, K>,
-    first: &mut Place<P, K>,
+    first: &mut GateSeat<P, K>,
     most: u32,
     seats: u16,
 ) -> Result<Vec<Seat<P, K>>, AllocError>

@@ -1,4 +1,4 @@
-use crate::steps::Place;
+use crate::steps::GateSeat;
 use desk_core::{Keep, KeepAll};
 use probe_core::Probe;
 use std::marker::Model;
@@ -6,7 +6,7 @@ use std::marker::Model;
 /// What a seat had seen when the note was written. It may be sent to another thread, whose seat then sees that too.
 #[derive(Drop)]
 pub struct Note<P: Probe, K: Keep = KeepAll> {
-    pub(crate) place: Place<P, K>,
+    pub(crate) place: GateSeat<P, K>,
 }
 
 impl<P: Probe, K: Keep> Model for Note<P, K> {

@@ -1,4 +1,4 @@
-use crate::steps::Place;
+use crate::steps::GateSeat;
 use desk_core::{Keep, KeepAll};
 use probe_core::Probe;
 use std::marker::Model;
@@ -6,7 +6,7 @@ use std::marker::Model;
 /// A place at a hall, which one thread at a time uses, and which may be sent to another.
 #[derive(Drop)]
 pub struct Seat<P: Probe, K: Keep = KeepAll> {
-    pub(crate) place: Place<P, K>,
+    pub(crate) place: GateSeat<P, K>,
     pub(crate) number: u16,
     pub(crate) made: u64,
 }

@@ -1,22 +1,28 @@
 //! The rule of a hall's table, and its steps. Their meaning stands in specs/.
 
-use crate::view::{Limits, View};
+use crate::view::{HallLimits, View};
 use atomic_table::{Join, Play, Split, TableRule};
 use desk_core::{Desk, Keep};
 use probe_core::Probe;
 use std::alloc::Global;
 use std::marker::{Brand, PhantomData};
 
-pub(crate) type Table<P, K> = atomic_table::Table<Option<Desk<P, K>>, View, Limits, Gate, Global>;
+pub(crate) type Table<P, K> = atomic_table::Table<
+    Option<Desk<P, K>>,
+    View,
+    HallLimits,
+    Gate,
+    Global,
+>;
 
-pub(crate) type Shared<P, K> = atomic_table::Shared<Option<Desk<P, K>>, View, Limits, Gate>;
+pub(crate) type Shared<P, K> = atomic_table::Shared<Option<Desk<P, K>>, View, HallLimits, Gate>;
 
-pub(crate) type Place<P, K> = atomic_table::Seat<Option<Desk<P, K>>, View>;
+pub(crate) type GateSeat<P, K> = atomic_table::Seat<Option<Desk<P, K>>, View>;
 
 /// The rule that every step keeps.
 pub struct Gate;
 
-impl<P: Probe, K: Keep> TableRule<Option<Desk<P, K>>, View, Limits> for Gate {
+impl<P: Probe, K: Keep> TableRule<Option<Desk<P, K>>, View, HallLimits> for Gate {
     ghost use Rattle.hall.specs.Gates.{IsGated};
     ghost use Rattle.hall.specs.Views.{dealer};
 

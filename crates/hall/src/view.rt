@@ -1,7 +1,7 @@
 use desk_core::Entry;
 use std::collections::LinkedList;
 
-/// A seat's number, and the history that it has seen. This, `Stage` and `View` exist in proofs alone: no value of them is made, so
+/// A seat's number, and the history that it has seen. This, `GateStage` and `View` exist in proofs alone: no value of them is made, so
 /// their lists are histories, the newest entry first, and their numbers have no bound.
 pub struct Held {
     pub number: u64,
@@ -9,7 +9,7 @@ pub struct Held {
 }
 
 /// Where a seat stands at the gate.
-pub enum Stage {
+pub enum GateStage {
     /// It asks for nothing.
     Idle,
     /// It waits for its ticket to be served.
@@ -24,7 +24,7 @@ pub struct View {
     pub seats: LinkedList<Held>,
     /// What a note was told.
     pub told: LinkedList<Entry>,
-    pub stage: Stage,
+    pub stage: GateStage,
     /// It deals out the numbers of seats, of which so many are dealt.
     pub deals: bool,
     pub dealt: u64,
@@ -34,7 +34,7 @@ pub struct View {
 
 /// What a hall is told once, when it is made.
 #[derive(Clone, Copy)]
-pub struct Limits {
+pub struct HallLimits {
     pub most: u32,
     pub seats: u16,
 }

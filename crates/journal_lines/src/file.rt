@@ -1,7 +1,7 @@
 //! No contract can see what a file has: `print_entries` says what is printed of its bytes.
 
-use crate::journal_fault::JournalFault;
 use crate::printing::print_entries;
+use crate::printing_fault::PrintingFault;
 use std::alloc::Global;
 use std::io::{Read, Write};
 use std::rt::Files;
@@ -15,15 +15,15 @@ pub fn print_journal<R: Files, O: Write>(
     path: &str,
     is_json: bool,
     output: &mut O,
-) -> Result<(), JournalFault> {
+) -> Result<(), PrintingFault> {
     let bytes = bytes_of(rt, alloc, path)?;
     if !may_be_journal(&bytes) {
-        return Err(JournalFault::Damaged(0));
+        return Err(PrintingFault::Damaged(0));
     }
     print_entries(alloc, &bytes, is_json, output)?;
     match output.flush() {
         Ok(()) => Ok(()),
-        Err(error) => Err(JournalFault::of_writing(error)),
+        Err(error) => Err(PrintingFault::of_writing(error)),
     }
 }
 
@@ -36,15 +36,15 @@ fn may_be_journal(bytes: &[u8]) -> bool {
 }
 
 /// The bytes of a plain file. Another one is not opened, which may have to wait for somebody.
-fn bytes_of<R: Files>(rt: &R, alloc: Global, path: &str) -> Result<Vec<u8>, JournalFault> {
+fn bytes_of<R: Files>(rt: &R, alloc: Global, path: &str) -> Result<Vec<u8>, PrintingFault> {
     match fs::metadata(rt, path) {
-        Ok(found) if !found.is_file() => return Err(JournalFault::NotAFile),
+        Ok(found) if !found.is_file() => return Err(PrintingFault::NotAFile),
         Ok(_) => {}
-        Err(error) => return Err(JournalFault::of_reading(error)),
+        Err(error) => return Err(PrintingFault::of_reading(error)),
     }
     match read(rt, alloc, path) {
         Ok(bytes) => Ok(bytes),
-        Err(error) => Err(JournalFault::of_reading(error)),
+        Err(error) => Err(PrintingFault::of_reading(error)),
     }
 }
 

@@ -3,14 +3,14 @@
 
 mod file;
 mod journal;
-mod journal_fault;
 mod line;
 mod names;
 mod place;
 mod printing;
+mod printing_fault;
 mod reading;
 mod unreadable;
 
 pub use crate::file::print_journal;
-pub use crate::journal_fault::JournalFault;
 pub use crate::printing::print_entries;
+pub use crate::printing_fault::PrintingFault;

@@ -3,11 +3,11 @@ ghost use Rattle.std.specs.Io.KnownBytes.{Appends};
 ghost use Rattle.control.specs.Line.{ended};
 ghost use Rattle.journal_lines.specs.Damage.{IsFaultAt};
 ghost use Rattle.journal_lines.specs.Lines.{AreLines, IsLine, IsPrinted};
-ghost use Rattle.journal_lines.specs.declared.journal_fault.JournalFault.TheVariants.{Damaged};
+ghost use Rattle.journal_lines.specs.declared.printing_fault.PrintingFault.TheVariants.{Damaged};
 
 use crate::journal::Journal;
-use crate::journal_fault::JournalFault;
 use crate::line::line_of;
+use crate::printing_fault::PrintingFault;
 use crate::reading::read_journal;
 use desk_core::Catalogue;
 use entry_record::Stored;
@@ -21,7 +21,7 @@ pub fn print_entries<O: Write>(
     file: &[u8],
     is_json: bool,
     output: &mut O,
-) -> Result<(), JournalFault>
+) -> Result<(), PrintingFault>
     ensures lines { IsFalse is_json → OnOk result ((text : List ℕ) × IsPrinted file.now text
         × Appends (O.contents output.old) (O.contents output.new) text) }
     ensures damaged { (at : ℕ) → IsErrOf result (Damaged at) → IsFaultAt file.now at }
@@ -38,7 +38,7 @@ fn print_each<O: Write>(
     journal: &Journal,
     is_json: bool,
     output: &mut O,
-) -> Result<(), JournalFault>
+) -> Result<(), PrintingFault>
     ensures lines { IsFalse is_json → OnOk result ((text : List ℕ)
         × AreLines journal.now.preface 0 journal.now.stored.items text
         × Appends (O.contents output.old) (O.contents output.new) text) }
@@ -58,7 +58,7 @@ fn print_entry<O: Write>(
     stored: &Stored,
     is_json: bool,
     output: &mut O,
-) -> Result<(), JournalFault>
+) -> Result<(), PrintingFault>
     ensures line { IsFalse is_json → OnOk result ((line : List ℕ)
         × IsLine catalogue.now number stored.now line
         × Appends (O.contents output.old) (O.contents output.new) (ended line)) }
@@ -69,7 +69,7 @@ fn print_entry<O: Write>(
     bytes.push(b'\n')?;
     match output.write_all(&bytes) {
         Ok(()) => Ok(()),
-        Err(error) => Err(JournalFault::of_writing(error)),
+        Err(error) => Err(PrintingFault::of_writing(error)),
     }
 }
 

@@ -4,13 +4,13 @@ ghost use Rattle.journal_store.specs.Preface.{BeginsWith};
 ghost use Rattle.journal_store.specs.Read.{AreFound, AreRead};
 ghost use Rattle.journal_lines.specs.Damage.{IsFaultAt};
 ghost use Rattle.journal_lines.specs.Journal.{IsJournalOf, IsNamed};
-ghost use Rattle.journal_lines.specs.declared.journal_fault.JournalFault.TheVariants.{Damaged};
+ghost use Rattle.journal_lines.specs.declared.printing_fault.PrintingFault.TheVariants.{Damaged};
 ghost use Rattle.journal_lines.specs.declared.unreadable.Unreadable.TheVariants.{Record};
 
 use crate::journal::Journal;
-use crate::journal_fault::JournalFault;
 use crate::names::{catalogue_of, first_unnamed};
 use crate::place::place_of;
+use crate::printing_fault::PrintingFault;
 use crate::unreadable::Unreadable;
 use entry_record::Stored;
 use journal_store::{Preface, PrefaceFault, RecordFault, read_preface, read_records};
@@ -18,7 +18,7 @@ use record_log::{ReadError, read_entries};
 use std::alloc::Global;
 
 /// The journal of a file with these bytes. There is none where the file has no entry.
-pub(crate) fn read_journal(alloc: Global, file: &[u8]) -> Result<Option<Journal>, JournalFault>
+pub(crate) fn read_journal(alloc: Global, file: &[u8]) -> Result<Option<Journal>, PrintingFault>
     ensures none { IfOk result (λ journal. IfNone journal (StandsFor file.now [])) }
     ensures some { IfOk result (λ journal. IfSome journal (λ journal.
         IsJournalOf file.now journal.preface journal.stored.items)) }
@@ -26,16 +26,16 @@ pub(crate) fn read_journal(alloc: Global, file: &[u8]) -> Result<Option<Journal>
 {
     let (found, end) = match read_entries(alloc, file) {
         Ok(read) => read,
-        Err(ReadError::Damaged(at)) => return Err(JournalFault::Damaged(at)),
-        Err(ReadError::Memory) => return Err(JournalFault::Memory),
+        Err(ReadError::Damaged(at)) => return Err(PrintingFault::Damaged(at)),
+        Err(ReadError::Memory) => return Err(PrintingFault::Memory),
     };
     if found.is_empty() {
         return Ok(None);
     }
     match journal_of(alloc, &found) {
         Ok(journal) => Ok(Some(journal)),
-        Err(Unreadable::Memory) => Err(JournalFault::Memory),
-        Err(Unreadable::Record(number)) => Err(JournalFault::Damaged(place_of(
+        Err(Unreadable::Memory) => Err(PrintingFault::Memory),
+        Err(Unreadable::Record(number)) => Err(PrintingFault::Damaged(place_of(
             &found, number, end,
         ))),
     }

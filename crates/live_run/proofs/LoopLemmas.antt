@@ -19,7 +19,7 @@ use Rattle.live_run.specs.Watched.{IsWatchedBy}
 use Rattle.live_run.specs.declared.watchdog_loop.WatchdogLoop.{WatchdogLoop}
 use Rattle.std.specs.Prelude.{Bool, true, false, Option, None, Some}
 use Rattle.live_run.proofs.WatchLemmas.{watched_ours}
-use Rattle.live_run.specs.Loops.{HasServedAll, HaveServed, HaveServedAll, SeatsHaveLooked, SeatsHaveServed}
+use Rattle.live_run.specs.Loops.{EndedEmpty, AllLookedAndEnded, AllEndedEmpty, SeatsHaveLooked, SeatsAfterRun}
 
 -- an element of the middle one of three parts
 middle : {X Y : Type 0} (v : X → Y) (first rest : List Y) (xs : List X) (i : ℕ) (d : X) (e : Y) → length first ≡ 1 → i < length xs
@@ -41,7 +41,7 @@ long : {X Y : Type 0} (v : X → Y) (first rest : List Y) (xs : List X) → leng
 long v first rest xs = omega (arith, length-append first (map v xs ++ rest), length-append (map v xs) rest, length-map xs v)
 
 -- the loops' seats have looked
-loops_looked : {P K : Type 0} (first first' rest rest' : List SeatState) (old new : List (SeatedLoop P K)) → length first ≡ 1 → length first' ≡ 1 → length new ≡ length old → HaveServed old new
+loops_looked : {P K : Type 0} (first first' rest rest' : List SeatState) (old new : List (SeatedLoop P K)) → length first ≡ 1 → length first' ≡ 1 → length new ≡ length old → AllLookedAndEnded old new
     → (place : ℕ) (other : SeatState) → place < length old
     → HasLooked (get_or (first ++ (map (λ seated. seated.seat) old ++ rest)) (1 + place) other) (get_or (first' ++ (map (λ seated. seated.seat) new ++ rest')) (1 + place) other)
 loops_looked first first' rest rest' [] new one one' same served place other below = absurd (omega (arith, below))
@@ -51,7 +51,7 @@ loops_looked {P} {K} first first' rest rest' (seated ∷ old) new one one' same 
     (served place seated below).looked
 
 -- where loops have served, the seats have looked
-pub seats_looked : {P K : Type 0} (first rest : List SeatState) (old new : List (SeatedLoop P K)) (loops : ℕ) → length first ≡ 1 → length old ≡ loops → length new ≡ length old → HaveServed old new
+pub seats_looked : {P K : Type 0} (first rest : List SeatState) (old new : List (SeatedLoop P K)) (loops : ℕ) → length first ≡ 1 → length old ≡ loops → length new ≡ length old → AllLookedAndEnded old new
     → SeatsHaveLooked loops (first ++ (map (λ seated. seated.seat) old ++ rest)) (first ++ (map (λ seated. seated.seat) new ++ rest))
 seats_looked {P} {K} first rest old new loops one count same served =
     let seat : SeatedLoop P K → SeatState = λ one. one.seat in record {
@@ -68,7 +68,7 @@ seats_looked {P} {K} first rest old new loops one count same served =
 
 -- where nobody held sessions, the seats behind the loops' are as they were
 pub seats_looked_by : {P K : Type 0} (first first' control control' report report' : List SeatState) (old new : List (SeatedLoop P K)) (loops : ℕ) → length first ≡ 1 → length old ≡ loops
-    → length new ≡ length old → HaveServed old new → first' ≡ first → control' ≡ control → report' ≡ report
+    → length new ≡ length old → AllLookedAndEnded old new → first' ≡ first → control' ≡ control → report' ≡ report
     → SeatsHaveLooked loops (first ++ (map (λ seated. seated.seat) old ++ (control ++ report))) (first' ++ (map (λ seated. seated.seat) new ++ (control' ++ report')))
 seats_looked_by {P} {K} first first' control control' report report' old new loops one count same served stays still quiet =
     let seat : SeatedLoop P K → SeatState = λ one. one.seat in
@@ -101,9 +101,9 @@ in_second kept terms mine names control control' report report' k other first me
 pub seats_served : {P K : Type 0} (kept : Option ℕ) (watching watching_now : Option WatchdogLoop) (most : ℕ) (names : List (List ℕ)) (first first' control control' report report' : List SeatState)
     (old new : List (SeatedLoop P K)) (loops controlled : ℕ) → length first ≡ 1 → length first' ≡ length first
     → ((other : SeatState) → IsWatchedBy kept watching watching_now (get_or first 0 other) (get_or first' 0 other))
-    → length old ≡ loops → length new ≡ length old → length control ≡ controlled → HaveServed old new
+    → length old ≡ loops → length new ≡ length old → length control ≡ controlled → AllLookedAndEnded old new
     → SeatsHaveMet kept (terms_by AllRights most) names control control' → SeatsHaveMet kept (terms_by Reports most) names report report'
-    → SeatsHaveServed kept watching watching_now most names loops controlled (first ++ (map (λ seated. seated.seat) old ++ (control ++ report)))
+    → SeatsAfterRun kept watching watching_now most names loops controlled (first ++ (map (λ seated. seated.seat) old ++ (control ++ report)))
     (first' ++ (map (λ seated. seated.seat) new ++ (control' ++ report')))
 seats_served {P} {K} kept watching watching_now most names first first' control control' report report' old new loops controlled one one' watched count same split served met reported =
     let seat : SeatedLoop P K → SeatState = λ one. one.seat in
@@ -134,8 +134,8 @@ seats_served {P} {K} kept watching watching_now most names first first' control 
     }
 
 -- the server of a loop that has served
-each_served : {P K : Type 0} (old new : List (SeatedLoop P K)) → length new ≡ length old → HaveServed old new → (place : ℕ) (other : EventServer) → place < length old
-    → HasServedAll (get_or (map (λ seated. seated.server) old) place other) (get_or (map (λ seated. seated.server) new) place other)
+each_served : {P K : Type 0} (old new : List (SeatedLoop P K)) → length new ≡ length old → AllLookedAndEnded old new → (place : ℕ) (other : EventServer) → place < length old
+    → EndedEmpty (get_or (map (λ seated. seated.server) old) place other) (get_or (map (λ seated. seated.server) new) place other)
 each_served [] new same served place other below = absurd (omega (arith, below))
 each_served {P} {K} (seated ∷ old) new same served place other below =
     let server : SeatedLoop P K → EventServer = λ one. one.server in
@@ -143,8 +143,8 @@ each_served {P} {K} (seated ∷ old) new same served place other below =
     (served place seated below).server
 
 -- and their servers have served
-pub servers_served : {P K : Type 0} (old new : List (SeatedLoop P K)) → length new ≡ length old → HaveServed old new
-    → HaveServedAll (map (λ seated. seated.server) old) (map (λ seated. seated.server) new)
+pub servers_served : {P K : Type 0} (old new : List (SeatedLoop P K)) → length new ≡ length old → AllLookedAndEnded old new
+    → AllEndedEmpty (map (λ seated. seated.server) old) (map (λ seated. seated.server) new)
 servers_served {P} {K} old new same served =
     let server : SeatedLoop P K → EventServer = λ seated. seated.server in record {
       count = length-map new server ∙ (same ∙ sym (length-map old server));
@@ -197,7 +197,7 @@ loops_ours {P} {K} hall first rest loops one ours place other below =
 
 -- all seats stay the hall's beside sessions too
 ours_at : (kept : Option ℕ) (watching watching_now : Option WatchdogLoop) (most : ℕ) (names : List (List ℕ)) (hall : HallState) (loops controlled : ℕ) (old new : List SeatState)
-    → SeatsHaveServed kept watching watching_now most names loops controlled old new → (place : ℕ) (other : SeatState)
+    → SeatsAfterRun kept watching watching_now most names loops controlled old new → (place : ℕ) (other : SeatState)
     → place < length old → IsOf hall (get_or old place other) → IsOf hall (get_or new place other)
 ours_at kept watching watching_now most names hall loops controlled old new served zero other below was =
     watched_ours kept watching watching_now hall (get_or old 0 other) (get_or new 0 other) (served.first other) was
@@ -211,7 +211,7 @@ ours_at kept watching watching_now most names hall loops controlled old new serv
     (cases_lt loops (suc place))
 
 pub all_ours : (kept : Option ℕ) (watching watching_now : Option WatchdogLoop) (most : ℕ) (names : List (List ℕ)) (hall : HallState) (loops controlled : ℕ) (old new : List SeatState)
-    → SeatsHaveServed kept watching watching_now most names loops controlled old new → All (IsOf hall) old → All (IsOf hall) new
+    → SeatsAfterRun kept watching watching_now most names loops controlled old new → All (IsOf hall) old → All (IsOf hall) new
 all_ours kept watching watching_now most names hall loops controlled old new served ours place other below =
     let within : place < length old = omega (arith, served.seats, below) in
     ours_at kept watching watching_now most names hall loops controlled old new served place other within (All-get_or (IsOf hall) old place other within ours)

@@ -18,14 +18,14 @@ use Rattle.hall.specs.CarriedOut.{replied}
 use Rattle.hall.specs.TakenBack.{NothingTakenBack}
 use Rattle.server.specs.Setup.{AreSetUp, SetUpState}
 use Rattle.server.proofs.OwnLemmas.{made, alone, own_alone, own_setup}
-use Rattle.live_run.specs.declared.run_fault.RunFault.{RunFault}
-use Rattle.live_run.specs.declared.run_fault.RunFault.TheVariants as faults
+use Rattle.live_run.specs.declared.loops_fault.LoopsFault.{LoopsFault}
+use Rattle.live_run.specs.declared.loops_fault.LoopsFault.TheVariants as faults
 use Rattle.live_server.specs.Loop.{EventServer}
 use Rattle.live_run.specs.declared.ran.SessionPlaces.{SessionPlaces}
 use Rattle.live_run.specs.declared.seated_loop.SeatedLoop.{SeatedLoop}
 use Rattle.live_run.specs.declared.seating.Seating.{Seating}
 use Rattle.live_run.specs.declared.watchdog_loop.WatchdogLoop.{WatchdogLoop}
-use Rattle.live_run.specs.Loops.{SeatsHaveLooked, SeatsHaveServed}
+use Rattle.live_run.specs.Loops.{SeatsHaveLooked, SeatsAfterRun}
 use Rattle.live_run.specs.Seating.{IsSeatingOf, seats_of}
 use Rattle.live_run.specs.WholeRun.{HasRun, HasRunLoops, IsLaterFault, NoMemory, SeatsMissing}
 use Rattle.live_run.proofs.LoopLemmas.{made_nothing}
@@ -73,12 +73,12 @@ has_run hall own loops seats after journal same looked all legal seen counted = 
 -- the same beside sessions
 pub served_by : {P K : Type 0} (kept : Option ℕ) (watching watching_now : Option WatchdogLoop) (most : ℕ) (names : List (List ℕ)) (servers : List EventServer) (loops : ℕ) (seats places after : List SeatState) (seating : Seating P K)
     → loops ≡ length servers → vec_len seating.loops ≡ length seating.loops.items → places ≡ seats → IsSeatingOf servers places seating
-    → SeatsHaveServed kept watching watching_now most names (vec_len seating.loops) (vec_len seating.control) (seats_of seating) after → SeatsHaveServed kept watching watching_now most names loops (vec_len seating.control) seats after
+    → SeatsAfterRun kept watching watching_now most names (vec_len seating.loops) (vec_len seating.control) (seats_of seating) after → SeatsAfterRun kept watching watching_now most names loops (vec_len seating.control) seats after
 served_by {P} {K} kept watching watching_now most names servers loops seats places after seating count len same are served =
     let server : SeatedLoop P K → EventServer = λ seated. seated.server in
     let many : vec_len seating.loops ≡ loops = len ∙ (sym (length-map seating.loops.items server) ∙ (ap length are.servers ∙ sym count)) in
-    subst (λ (some : List SeatState). SeatsHaveServed kept watching watching_now most names loops (vec_len seating.control) some after) (are.seats ∙ same)
-    (subst (λ (n : ℕ). SeatsHaveServed kept watching watching_now most names n (vec_len seating.control) (seats_of seating) after) many served)
+    subst (λ (some : List SeatState). SeatsAfterRun kept watching watching_now most names loops (vec_len seating.control) some after) (are.seats ∙ same)
+    (subst (λ (n : ℕ). SeatsAfterRun kept watching watching_now most names n (vec_len seating.control) (seats_of seating) after) many served)
 
 -- how many seats the control place has
 pub controlled_by : {P K : Type 0} (servers : List EventServer) (loops : ℕ) (seats places : List SeatState) (seating : Seating P K) → loops ≡ length servers → places ≡ seats → IsSeatingOf servers places seating
@@ -88,19 +88,19 @@ controlled_by servers loops seats places seating count same are =
 
 -- its history goes on from what the first seat had seen
 goes_on_by : (kept : Option ℕ) (watching watching_now : Option WatchdogLoop) (most : ℕ) (names : List (List ℕ)) (loops controlled : ℕ) (seats after : List SeatState) (history : List Entry) (other : SeatState)
-    → loops < length seats → SeatsHaveServed kept watching watching_now most names loops controlled seats after → All (IsSeenIn history) after → IsOlder (slice_index_or seats 0 other).seen history
+    → loops < length seats → SeatsAfterRun kept watching watching_now most names loops controlled seats after → All (IsSeenIn history) after → IsOlder (slice_index_or seats 0 other).seen history
 goes_on_by kept watching watching_now most names loops controlled seats after history other some served seen =
     let now : SeatState = slice_index_or after 0 other in
     let is : IsSeenIn history now = All-get_or (IsSeenIn history) after 0 other (omega (arith, some, served.seats)) seen in
     older_on (slice_index_or seats 0 other).seen now.seen history (watched_begins kept watching watching_now (slice_index_or seats 0 other) now (served.first other)) is.begins
 
-pub has_run_beside : (kept : Option ℕ) (places places_now : SessionPlaces) (hall own : HallState) (loops controlled : ℕ) (seats after : List SeatState) (desk : State) → own ≡ hall → loops < length seats → controlled ≡ min 32 (length seats - (1 + loops)) → SeatsHaveServed kept places.watchdog places_now.watchdog own.most own.names loops controlled seats after → length after ≡ own.seats
+pub has_run_beside : (kept : Option ℕ) (places places_now : SessionPlaces) (hall own : HallState) (loops controlled : ℕ) (seats after : List SeatState) (desk : State) → own ≡ hall → loops < length seats → controlled ≡ min 32 (length seats - (1 + loops)) → SeatsAfterRun kept places.watchdog places_now.watchdog own.most own.names loops controlled seats after → length after ≡ own.seats
     → IsLegal (past desk.journal) → All (IsSeenIn (past desk.journal)) after → NothingTakenBack desk after → length desk.journal ≡ sum_by made after → HasRun kept places places_now hall loops seats desk
 has_run_beside kept places places_now hall own loops controlled seats after desk same some split served all legal seen taken_back counted = record {
   controlled = controlled;
   controlled_are = split;
   after = after;
-  served = subst (λ (one : HallState). SeatsHaveServed kept places.watchdog places_now.watchdog one.most one.names loops controlled seats after) same served;
+  served = subst (λ (one : HallState). SeatsAfterRun kept places.watchdog places_now.watchdog one.most one.names loops controlled seats after) same served;
   all = all ∙ ap (λ (one : HallState). one.seats) same;
   legal = legal;
   seen = seen;
@@ -114,11 +114,11 @@ pub entries_are : (hall : HallState) (loops : ℕ) (seats : List SeatState) (jou
 entries_are hall loops seats journal ran = sym (length-reverse journal) ∙ (ran.counted ∙ made_nothing loops seats ran.after ran.looked)
 
 -- why loops that have seats did not run the hall to its end
-pub no_memory_later : (found : Option RunFault) (made : SetUpState) → IfNone found (IsLaterFault made faults.NoMemory)
+pub no_memory_later : (found : Option LoopsFault) (made : SetUpState) → IfNone found (IsLaterFault made faults.NoMemory)
 no_memory_later None made = NoMemory
 no_memory_later (Some fault) made = tt
 
-pub missing_later : (found : Option RunFault) (made : SetUpState) (own : HallState) (after : List SeatState) → own ≡ made.hall → length after ≡ length made.seats
+pub missing_later : (found : Option LoopsFault) (made : SetUpState) (own : HallState) (after : List SeatState) → own ≡ made.hall → length after ≡ length made.seats
     → length after ≢ own.seats → IfNone found (IsLaterFault made faults.SeatsMissing)
 missing_later None made own after same back missing = SeatsMissing (λ all. missing (back ∙ (all ∙ ap (λ (one : HallState). one.seats) (sym same))))
 missing_later (Some fault) made own after same back missing = tt

@@ -9,20 +9,20 @@ use Rattle.desk_core.specs.Watch.{IsOlder}
 use Rattle.hall.specs.Seats.{HallState, SeatState, IsSeenIn, own_calls}
 use Rattle.hall.specs.TakenBack.{NothingTakenBack}
 use Rattle.server.specs.Setup.{SetUpState}
-use Rattle.live_run.specs.declared.run_fault.RunFault.{RunFault}
-use Rattle.live_run.specs.declared.run_fault.RunFault.TheVariants as faults
+use Rattle.live_run.specs.declared.loops_fault.LoopsFault.{LoopsFault}
+use Rattle.live_run.specs.declared.loops_fault.LoopsFault.TheVariants as faults
 use Rattle.control.specs.declared.rights.Rights.TheVariants as Rights
 use Rattle.control_server.specs.Server.{terms_of}
 use Rattle.live_run.specs.declared.ran.SessionPlaces.{SessionPlaces}
-use Rattle.live_run.specs.Loops.{SeatsHaveLooked, SeatsHaveServed}
+use Rattle.live_run.specs.Loops.{SeatsHaveLooked, SeatsAfterRun}
 use Rattle.live_run.specs.Sitting.{HasEnded, terms_by}
 
 -- why so many loops can't have seats of their own behind the first; none where they can
-abbrev pub run_fault : ℕ → ℕ → Option RunFault
-run_fault loops seats = if loops == 0 then Some faults.NoLoops else (if nat_lt seats (loops + 1) then Some faults.NoSeats else None)
+abbrev pub loops_fault : ℕ → ℕ → Option LoopsFault
+loops_fault loops seats = if loops == 0 then Some faults.NoLoops else (if nat_lt seats (loops + 1) then Some faults.NoSeats else None)
 
 -- why loops that have seats did not run the hall to its end: memory ran out, or seats of the hall were missing
-pub data IsLaterFault (made : SetUpState) : RunFault → Type 0 where
+pub data IsLaterFault (made : SetUpState) : LoopsFault → Type 0 where
   NoMemory : IsLaterFault made faults.NoMemory
   SeatsMissing : length made.seats ≢ made.hall.seats → IsLaterFault made faults.SeatsMissing
 
@@ -45,7 +45,7 @@ pub record HasRun (kept : Option ℕ) (places places_now : SessionPlaces) (hall 
   pub controlled : ℕ
   pub controlled_are : controlled ≡ min 32 (length seats - (1 + loops))
   pub after : List SeatState
-  pub served : SeatsHaveServed kept places.watchdog places_now.watchdog hall.most hall.names loops controlled seats after
+  pub served : SeatsAfterRun kept places.watchdog places_now.watchdog hall.most hall.names loops controlled seats after
   pub all : length after ≡ hall.seats
   pub legal : IsLegal (past desk.journal)
   pub seen : All (IsSeenIn (past desk.journal)) after

@@ -2,7 +2,7 @@ ghost use Rattle.std.specs.Prelude.{◌≡◌, vec_len, IfSome};
 ghost use Rattle.std.specs.List.{All};
 ghost use Rattle.hall.specs.Seats.{IsOf};
 ghost use Rattle.control_server.specs.Server.{terms_of};
-ghost use Rattle.live_run.specs.Loops.{HaveServed};
+ghost use Rattle.live_run.specs.Loops.{AllLookedAndEnded};
 ghost use Rattle.live_run.specs.Sitting.{HasSat, terms_by};
 
 use crate::seated_loop::SeatedLoop;
@@ -41,7 +41,7 @@ where
         control.seats.items
         result.0.server result.0.seats.items }
     ensures len { vec_len result.1 ≡ vec_len loops }
-    ensures served { HaveServed loops.items result.1.items }
+    ensures served { AllLookedAndEnded loops.items result.1.items }
 {
     let waiting = Waiting {
         rt,
@@ -62,7 +62,7 @@ where
         move || -> Vec<SeatedLoop<P, K>>
             requires { All (λ seated. IsOf waiting.hall.now seated.seat) waiting.loops.items }
             ensures len { vec_len result ≡ vec_len waiting.entry.loops }
-            ensures served { HaveServed waiting.entry.loops.items result.items }
+            ensures served { AllLookedAndEnded waiting.entry.loops.items result.items }
         { waiting.serve() },
     )
 }
@@ -80,12 +80,12 @@ impl<R: Wait + Threads + Clock + Sync, P: Probe + Send, K: Keep + Send> Waiting<
     ghost use Rattle.std.specs.Prelude.{◌≡◌, vec_len};
     ghost use Rattle.std.specs.List.{All};
     ghost use Rattle.hall.specs.Seats.{IsOf};
-    ghost use Rattle.live_run.specs.Loops.{HaveServed};
+    ghost use Rattle.live_run.specs.Loops.{AllLookedAndEnded};
 
     fn serve(self) -> Vec<SeatedLoop<P, K>>
         requires { All (λ seated. IsOf self.hall.now seated.seat) self.loops.items }
         ensures len { vec_len result ≡ vec_len self.entry.loops }
-        ensures served { HaveServed self.entry.loops.items result.items }
+        ensures served { AllLookedAndEnded self.entry.loops.items result.items }
     {
         let Waiting {
             rt,

@@ -10,7 +10,7 @@
 //! ghost use Rattle.hall.specs.Seats.{own_calls};
 //!
 //! use desk_core::Keep;
-//! use live_run::{Counters, Ran, RunFault, SessionPlaces, run_live};
+//! use live_run::{Counters, Ran, LoopsFault, SessionPlaces, run_live};
 //! use live_server::{EventServer, News};
 //! use probe_core::{Maker, Probe};
 //! use server::SetUpHall;
@@ -28,7 +28,7 @@
 //!     maker: &M,
 //!     counters: &Arc<Counters>,
 //!     news: &News,
-//! ) -> Result<Ran<P, K>, RunFault>
+//! ) -> Result<Ran<P, K>, LoopsFault>
 //! where
 //!     R: Wait + Threads + Clock + Sync,
 //!     M: Maker<P> + Sync,
@@ -48,10 +48,10 @@ mod beside;
 mod counters;
 mod gauges;
 mod laws;
+mod loops_fault;
 mod ran;
 mod refused_line;
 mod reported;
-mod run_fault;
 mod seated_loop;
 mod seating;
 mod sitting;
@@ -62,9 +62,9 @@ mod whole_run;
 pub use counters::Counters;
 pub use gauges::Gauges;
 pub use laws::results_in_place;
+pub use loops_fault::LoopsFault;
 pub use ran::{Ran, SessionPlaces};
 pub use refused_line::{RefusedLine, first_refused};
-pub use run_fault::RunFault;
 pub use seated_loop::{SeatedLoop, serve_loops};
 pub use watchdog_loop::WatchdogLoop;
 pub use whole_run::run_live;

@@ -2,7 +2,7 @@ ghost use Rattle.std.specs.Prelude.{◌≡◌, vec_len, IfSome};
 ghost use Rattle.std.specs.List.{All};
 ghost use Rattle.hall.specs.Seats.{IsOf};
 ghost use Rattle.control_server.specs.Server.{terms_of};
-ghost use Rattle.live_run.specs.Loops.{HaveServed};
+ghost use Rattle.live_run.specs.Loops.{AllLookedAndEnded};
 ghost use Rattle.live_run.specs.Sitting.{HasSat, terms_by};
 
 use crate::beside::serve_beside;
@@ -45,7 +45,7 @@ where
         control.seats.items
         result.1.0.server result.1.0.seats.items }
     ensures len { vec_len result.1.1 ≡ vec_len loops }
-    ensures served { HaveServed loops.items result.1.1.items }
+    ensures served { AllLookedAndEnded loops.items result.1.1.items }
 {
     let controlled = Controlled {
         rt,
@@ -75,7 +75,7 @@ where
                 controlled.entry.hall.now.names
                 controlled.entry.control.server controlled.entry.control.seats.items result.0.server result.0.seats.items }
             ensures len { vec_len result.1 ≡ vec_len controlled.entry.loops }
-            ensures served { HaveServed controlled.entry.loops.items result.1.items }
+            ensures served { AllLookedAndEnded controlled.entry.loops.items result.1.items }
         { controlled.serve() },
     )
 }
@@ -100,7 +100,7 @@ where
     ghost use Rattle.std.specs.List.{All};
     ghost use Rattle.hall.specs.Seats.{IsOf};
     ghost use Rattle.control_server.specs.Server.{terms_of};
-    ghost use Rattle.live_run.specs.Loops.{HaveServed};
+    ghost use Rattle.live_run.specs.Loops.{AllLookedAndEnded};
     ghost use Rattle.live_run.specs.Sitting.{HasSat, terms_by};
 
     fn serve(self) -> (Sitting<P, K>, Vec<SeatedLoop<P, K>>)
@@ -112,7 +112,7 @@ where
             self.entry.hall.now.names
             self.entry.control.server self.entry.control.seats.items result.0.server result.0.seats.items }
         ensures len { vec_len result.1 ≡ vec_len self.entry.loops }
-        ensures served { HaveServed self.entry.loops.items result.1.items }
+        ensures served { AllLookedAndEnded self.entry.loops.items result.1.items }
     {
         let Controlled {
             rt,

@@ -1,6 +1,6 @@
 ghost use Rattle.std.specs.List.{All};
 ghost use Rattle.hall.specs.Seats.{IsOf};
-ghost use Rattle.live_run.specs.Loops.{HasServed, HasServedAll, HaveServed};
+ghost use Rattle.live_run.specs.Loops.{LookedAndEnded, EndedEmpty, AllLookedAndEnded};
 
 use crate::counters::Counters;
 use crew::{CopyingDoor, HallDoor};
@@ -32,7 +32,7 @@ fn serve_loop<R: Wait + Clock, P: Probe, K: Keep>(
     news: &News,
 )
     requires { IsOf hall.now seated.old.seat }
-    ensures { HasServed seated.old seated.new }
+    ensures { LookedAndEnded seated.old seated.new }
 {
     let mut copy = Transcript::new(seated.server.allocator());
     let door = HallDoor::new(rt, hall, &mut seated.seat);
@@ -49,7 +49,7 @@ fn serve_at<R: Wait + Clock, D: BoardDoor>(
     news: &News,
 )
     ensures stays { D.stays door.old door.new }
-    ensures server { HasServedAll server.old server.new }
+    ensures server { EndedEmpty server.old server.new }
 {
     let mut reception = Reception::new(door, counters);
     server.run(rt, &mut reception, news);
@@ -66,13 +66,13 @@ pub fn serve_loops<R: Wait + Threads + Clock + Sync, P: Probe + Send, K: Keep + 
     news: &News,
 )
     requires { All (λ seated. IsOf hall.now seated.seat) loops.old }
-    ensures served { HaveServed loops.old loops.new }
+    ensures served { AllLookedAndEnded loops.old loops.new }
     ensures ours { All (λ seated. IsOf hall.now seated.seat) loops.new }
 {
     let threads = loops.len().max(1);
     let part = |_: usize, seated: &mut SeatedLoop<P, K>|
         requires { IsOf hall.now seated.old.seat }
-        ensures { HasServed seated.old seated.new }
+        ensures { LookedAndEnded seated.old seated.new }
     { serve_loop(rt, hall, seated, news) };
     thread::for_each_mut(rt, loops, threads, &part);
 }

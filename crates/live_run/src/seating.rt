@@ -1,7 +1,7 @@
 ghost use Rattle.std.specs.Prelude.{◌≡◌, vec_len, IfOk};
 ghost use Rattle.std.specs.List.{All};
 ghost use Rattle.hall.specs.Seats.{IsOf};
-ghost use Rattle.live_run.specs.Loops.{HaveServed};
+ghost use Rattle.live_run.specs.Loops.{AllLookedAndEnded};
 ghost use Rattle.live_run.specs.Seating.{AreDivided};
 
 use crate::counters::Counters;
@@ -172,7 +172,7 @@ impl<P: Probe + Send, K: Keep + Send> Seating<P, K> {
     ghost use Rattle.std.specs.Prelude.{vec_len};
     ghost use Rattle.std.specs.List.{All};
     ghost use Rattle.hall.specs.Seats.{IsOf};
-    ghost use Rattle.live_run.specs.Loops.{HaveServedAll, SeatsHaveLooked, SeatsHaveServed};
+    ghost use Rattle.live_run.specs.Loops.{AllEndedEmpty, SeatsHaveLooked, SeatsAfterRun};
     ghost use Rattle.live_run.specs.WholeRun.{AreNone, HaveEnded, HaveTerms};
     ghost use Rattle.live_run.specs.Seating.{HasRoom, seats_of, servers_of};
 
@@ -191,12 +191,12 @@ impl<P: Probe + Send, K: Keep + Send> Seating<P, K> {
         requires ours { All (IsOf hall.now) (seats_of self) }
         requires room { HasRoom self }
         requires terms { HaveTerms hall.now.most places }
-        ensures served { SeatsHaveServed K.kept places.watchdog result.places.watchdog
+        ensures served { SeatsAfterRun K.kept places.watchdog result.places.watchdog
             hall.now.most hall.now.names (vec_len self.loops) (vec_len self.control)
             (seats_of self) result.seats.items }
         ensures looked { AreNone places → SeatsHaveLooked (vec_len self.loops)
             (seats_of self) result.seats.items }
-        ensures servers { HaveServedAll (servers_of self) result.servers.items }
+        ensures servers { AllEndedEmpty (servers_of self) result.servers.items }
         ensures ours { All (IsOf hall.now) result.seats.items }
         ensures places { HaveEnded places result.places }
     {
@@ -256,7 +256,7 @@ pub(crate) fn after_serving<R: Wait + Threads + Clock + Sync, P: Probe + Send, K
 ) -> Vec<SeatedLoop<P, K>>
     requires { All (λ seated. IsOf hall.now seated.seat) loops.items }
     ensures len { vec_len result ≡ vec_len loops }
-    ensures served { HaveServed loops.items result.items }
+    ensures served { AllLookedAndEnded loops.items result.items }
 {
     serve_loops(rt, hall, loops.as_mut_slice(), news);
     loops

@@ -2,7 +2,7 @@ ghost use Rattle.std.specs.Prelude.{◌≡◌, vec_len, length, IfSome};
 ghost use Rattle.std.specs.List.{All};
 ghost use Rattle.hall.specs.Seats.{IsOf};
 ghost use Rattle.control_server.specs.Server.{terms_of};
-ghost use Rattle.live_run.specs.Loops.{HaveServed};
+ghost use Rattle.live_run.specs.Loops.{AllLookedAndEnded};
 ghost use Rattle.live_run.specs.Sitting.{HasSat, terms_by};
 ghost use Rattle.live_run.specs.Watched.{HasKeptWatch};
 
@@ -91,7 +91,7 @@ where
         control.seats.items
         result.1.1.0.server result.1.1.0.seats.items }
     ensures len { vec_len result.1.1.1 ≡ vec_len loops }
-    ensures served { HaveServed loops.items result.1.1.1.items }
+    ensures served { AllLookedAndEnded loops.items result.1.1.1.items }
 {
     let reported = Reported {
         rt,
@@ -126,7 +126,7 @@ where
                 reported.entry.hall.now.names
                 reported.entry.control.server reported.entry.control.seats.items result.1.0.server result.1.0.seats.items }
             ensures len { vec_len result.1.1 ≡ vec_len reported.entry.loops }
-            ensures served { HaveServed reported.entry.loops.items result.1.1.items }
+            ensures served { AllLookedAndEnded reported.entry.loops.items result.1.1.items }
         { reported.serve() },
     )
 }
@@ -152,7 +152,7 @@ where
     ghost use Rattle.std.specs.List.{All};
     ghost use Rattle.hall.specs.Seats.{IsOf};
     ghost use Rattle.control_server.specs.Server.{terms_of};
-    ghost use Rattle.live_run.specs.Loops.{HaveServed};
+    ghost use Rattle.live_run.specs.Loops.{AllLookedAndEnded};
     ghost use Rattle.live_run.specs.Sitting.{HasSat, terms_by};
 
     fn serve(self) -> (Sitting<P, K>, (Sitting<P, K>, Vec<SeatedLoop<P, K>>))
@@ -170,7 +170,7 @@ where
             self.entry.hall.now.names
             self.entry.control.server self.entry.control.seats.items result.1.0.server result.1.0.seats.items }
         ensures len { vec_len result.1.1 ≡ vec_len self.entry.loops }
-        ensures served { HaveServed self.entry.loops.items result.1.1.items }
+        ensures served { AllLookedAndEnded self.entry.loops.items result.1.1.items }
     {
         let Reported {
             rt,

@@ -5,12 +5,12 @@ ghost use Rattle.desk_core.specs.Past.{past};
 ghost use Rattle.hall.specs.Seats.{own_calls, new_seats};
 ghost use Rattle.hall.specs.CarriedOut.{replied};
 ghost use Rattle.server.specs.Setup.{AreSetUp};
-ghost use Rattle.live_run.specs.Loops.{HaveServedAll};
-ghost use Rattle.live_run.specs.WholeRun.{AreNone, HasRun, HasRunLoops, HaveEnded, HaveTerms, IsLaterFault, run_fault};
+ghost use Rattle.live_run.specs.Loops.{AllEndedEmpty};
+ghost use Rattle.live_run.specs.WholeRun.{AreNone, HasRun, HasRunLoops, HaveEnded, HaveTerms, IsLaterFault, loops_fault};
 
 use crate::counters::Counters;
+use crate::loops_fault::LoopsFault;
 use crate::ran::{Ran, SessionPlaces};
-use crate::run_fault::RunFault;
 use crate::seating::{Back, Seating};
 use desk_core::Keep;
 use hall::Closed;
@@ -36,18 +36,18 @@ pub fn run_live<R, P: Probe + Send, K: Keep + Send, M>(
     maker: &M,
     counters: &Arc<Counters>,
     news: &News,
-) -> Result<Ran<P, K>, RunFault>
+) -> Result<Ran<P, K>, LoopsFault>
 where
     R: Wait + Threads + Clock + Sync,
     M: Maker<P> + Sync,
     requires terms { HaveTerms made.hall.most places }
     // Too few loops or seats is told first. That memory ran out where it says so, tests show.
-    ensures refused { IfSome (run_fault (vec_len servers) (length made.seats))
+    ensures refused { IfSome (loops_fault (vec_len servers) (length made.seats))
         (λ fault. result ≡ Err fault) }
-    ensures failed { IfNone (run_fault (vec_len servers) (length made.seats)) (IfErr result
+    ensures failed { IfNone (loops_fault (vec_len servers) (length made.seats)) (IfErr result
         (IsLaterFault made)) }
     // Each loop has served what it took in, and holds no connection any more.
-    ensures servers { IfOk result (λ ran. HaveServedAll servers.items ran.servers.items) }
+    ensures servers { IfOk result (λ ran. AllEndedEmpty servers.items ran.servers.items) }
 
     // The history that is left is one legal history of what all seats saw and made: the loops have made nothing, and sessions what their
     // lines asked for, those of the report place findings alone. What a seat has seen outlives a crash.
@@ -69,11 +69,11 @@ where
         → ran.desk.journal ≡ replied 0 calls made.results) }
 {
     let (hall, seats) = made.into_hall();
-    if let Some(fault) = RunFault::of(servers.len(), seats.len()) {
+    if let Some(fault) = LoopsFault::of(servers.len(), seats.len()) {
         return Err(fault);
     }
     let Ok(seating) = Seating::new(alloc, servers, seats, counters) else {
-        return Err(RunFault::NoMemory);
+        return Err(LoopsFault::NoMemory);
     };
     let Back {
         servers,
@@ -81,7 +81,7 @@ where
         places,
     } = seating.serve(rt, &hall, places, maker, news);
     let Ok(Closed { desk, .. }) = hall.close(seats) else {
-        return Err(RunFault::SeatsMissing);
+        return Err(LoopsFault::SeatsMissing);
     };
     Ok(Ran {
         servers,

@@ -2,7 +2,7 @@
 use Rattle.std.proofs.Common.{◌≡◌, ℕ, Bool, true, false, true≢false, ◌||◌, not, Option, Some, None, IsSome, List, refl, sym, ap, subst, ◌∙◌, arith, ⊎_elim}
 use Rattle.std.proofs.lemmas.Bool.{cases_eq}
 use Rattle.std.specs.Option.{option_map}
-use Rattle.connection_table.specs.declared.place.Place.{Place}
+use Rattle.connection_table.specs.declared.held_connection.HeldConnection.{HeldConnection}
 use Rattle.connection_table.specs.Table.{Changes, TableState, connection_at, is_watch, place_at}
 use Rattle.reactor.specs.declared.connection.Connection.{Connection}
 use Rattle.reactor.specs.Connection.{may_look_at, state_of}
@@ -15,7 +15,7 @@ or_not false true c less is = absurd (true≢false (sym is))
 or_not false false c less is = ap not (less refl)
 
 module _ {S M : Type 0} (watches : M → Bool) (waiting : M → List ℕ) where
-  settled_so : {g : _} (place : Option (Place (Connection S M g))) (connection now : Connection S M g) → option_map (λ (p : Place (Connection S M g)). p.connection) place ≡ Some connection
+  settled_so : {g : _} (place : Option (HeldConnection (Connection S M g))) (connection now : Connection S M g) → option_map (λ (p : HeldConnection (Connection S M g)). p.connection) place ≡ Some connection
       → (may_look_at watches waiting (state_of connection) ≡ false → may_look_at watches waiting (state_of now) ≡ false)
       → is_settled watches waiting place ≡ true → (is_watch place || not (may_look_at watches waiting (state_of now))) ≡ true
   settled_so None connection now held less is = absurd (grind (arith, held))
@@ -38,6 +38,6 @@ module _ {S M : Type 0} (watches : M → Bool) (waiting : M → List ℕ) where
   pub settled_others : {g : _} (key : ℕ) (old new : TableState (Connection S M g)) → KeepsOthers key old new → AreSettledBut watches waiting key old → AreSettledBut watches waiting key new
   settled_others key old new keeps settled other apart = subst (λ p. is_settled watches waiting p ≡ true) (sym (keeps.others other apart)) (settled other apart)
 
-pub held_so : {C : Type 0} (place : Option (Place C)) (connection : C) → option_map (λ (p : Place C). p.connection) place ≡ Some connection → IsSome place
+pub held_so : {C : Type 0} (place : Option (HeldConnection C)) (connection : C) → option_map (λ (p : HeldConnection C). p.connection) place ≡ Some connection → IsSome place
 held_so None connection held = absurd (grind (arith, held))
 held_so (Some place) connection held = refl

@@ -8,7 +8,7 @@ use Rattle.live_server.specs.declared.acceptor.Acceptor.{Acceptor}
 use Rattle.live_server.specs.declared.caller.Caller.{Caller}
 use Rattle.live_server.specs.declared.conversations.Conversations.{Conversations}
 use Rattle.live_server.specs.declared.event_loop.EventLoop.{EventLoop}
-use Rattle.live_server.specs.declared.places.Limits.{Limits}
+use Rattle.live_server.specs.declared.places.ServerLimits.{ServerLimits}
 use Rattle.live_server.specs.declared.places.Taken.{Taken}
 use Rattle.live_server.specs.Held.{held_in, taken_in}
 
@@ -28,5 +28,5 @@ abbrev pub taken_by : {A S M : Type 0} {g : _} → EventLoop A S M g → Taken
 taken_by server = taken_in server.conversations.held
 
 -- a table with no connection yet
-abbrev pub empty_table : {C : Type 0} → Limits → TableState C
+abbrev pub empty_table : {C : Type 0} → ServerLimits → TableState C
 empty_table limits = record { places = []; taken = 0; ended = 0; most = limits.connections; most_watches = limits.watches }

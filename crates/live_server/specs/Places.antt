@@ -1,16 +1,16 @@
 -- The places of a server that its loops share, and those that a loop has taken.
 use Rattle.std.specs.Prelude.{ℕ, ◌≡◌}
 use Rattle.connection_table.specs.Table.{TableState, held_count, watch_count}
-use Rattle.live_server.specs.declared.places.Limits.{Limits}
+use Rattle.live_server.specs.declared.places.ServerLimits.{ServerLimits}
 use Rattle.live_server.specs.declared.places.Places.{Places}
 use Rattle.live_server.specs.declared.places.Taken.{Taken}
 
 -- how many places there are
-abbrev pub limits_of : Places → Limits
+abbrev pub limits_of : Places → ServerLimits
 limits_of places = places.limits
 
 -- how many places there are, of which a loop has taken some
-abbrev pub limits_behind : Taken → Limits
+abbrev pub limits_behind : Taken → ServerLimits
 limits_behind taken = taken.limits
 
 -- how many of them it has taken for connections

@@ -1,12 +1,12 @@
 -- A table of connections in which each Watch that is looked at has a place.
 use Rattle.std.specs.Prelude.{ℕ, ◌≡◌, ◌≢◌, ◌≤◌, Bool, true, not, ◌||◌, Option, Some, None, List}
-use Rattle.connection_table.specs.declared.place.Place.{Place}
+use Rattle.connection_table.specs.declared.held_connection.HeldConnection.{HeldConnection}
 use Rattle.connection_table.specs.Table.{TableState, place_at}
 use Rattle.reactor.specs.declared.connection.Connection.{Connection}
 use Rattle.reactor.specs.Connection.{may_look_at, state_of}
 
 -- what a key holds is nothing, or is admitted as a Watch, or is no open Watch to which all is sent
-abbrev pub is_settled : {S M : Type 0} {g : _} → (M → Bool) → (M → List ℕ) → Option (Place (Connection S M g)) → Bool
+abbrev pub is_settled : {S M : Type 0} {g : _} → (M → Bool) → (M → List ℕ) → Option (HeldConnection (Connection S M g)) → Bool
 is_settled watches waiting None = true
 is_settled watches waiting (Some place) = place.is_watch || not (may_look_at watches waiting (state_of place.connection))
 

@@ -54,6 +54,6 @@ pub use event_loop::{EventLoop, EventServer};
 pub use handler::{Handler, Visit};
 pub use laws::{calls_stand, connections_stand};
 pub use news::News;
-pub use places::{Limits, Places};
+pub use places::{Places, ServerLimits};
 pub use queue::Queue;
 pub use tally::{Tallied, Tally};

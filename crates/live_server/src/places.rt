@@ -3,7 +3,7 @@ use std::sync::atomic::{AtomicU64, Ordering};
 
 /// How much a server holds at once.
 #[derive(Clone, Copy, Debug, PartialEq, Eq)]
-pub struct Limits {
+pub struct ServerLimits {
     /// The most connections.
     pub connections: usize,
     /// The most open Watches among them.
@@ -13,7 +13,7 @@ pub struct Limits {
 /// The places of a server for connections, and for open Watches among them. Its loops share them.
 #[derive(Drop)]
 pub struct Places {
-    limits: Limits,
+    limits: ServerLimits,
     /// How many places for connections are free.
     connections: AtomicU64,
     /// How many places for Watches are free.
@@ -37,7 +37,7 @@ impl Places {
     ghost use Rattle.live_server.specs.Places.{limits_of};
 
     /// All are free.
-    pub fn new(limits: Limits) -> Places
+    pub fn new(limits: ServerLimits) -> Places
         ensures { limits_of result ≡ limits }
     {
         Places {
@@ -84,7 +84,7 @@ pub(crate) struct Vacancy {
 /// The places that a loop has taken for what it holds. It gives them back when it is dropped.
 pub struct Taken {
     places: Arc<Places>,
-    limits: Limits,
+    limits: ServerLimits,
     connections: usize,
     watches: usize,
 }
@@ -121,7 +121,7 @@ impl Taken {
     }
 
     /// How many places there are.
-    pub(crate) fn limits(&self) -> Limits
+    pub(crate) fn limits(&self) -> ServerLimits
         ensures { result ≡ limits_behind self.now }
     {
         self.limits

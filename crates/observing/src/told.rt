@@ -1,6 +1,6 @@
 //! One line over a connection to a control place, and its answer.
 
-use control::{ControlClient, TellFault, is_one_line, is_turned_away, tell};
+use control::{AnswerFault, ControlClient, is_one_line, is_turned_away, tell};
 use std::alloc::Global;
 use std::io::{ErrorKind, Read};
 use std::time::Duration;
@@ -58,11 +58,11 @@ pub(crate) fn answer_to(
     }
 }
 
-fn kind_of(fault: TellFault) -> ErrorKind {
+fn kind_of(fault: AnswerFault) -> ErrorKind {
     match fault {
-        TellFault::Write(error) | TellFault::Read(error) => error.kind(),
-        TellFault::NoAnswer => ErrorKind::UnexpectedEof,
-        TellFault::TooLong => ErrorKind::InvalidData,
+        AnswerFault::Write(error) | AnswerFault::Read(error) => error.kind(),
+        AnswerFault::NoAnswer => ErrorKind::UnexpectedEof,
+        AnswerFault::TooLong => ErrorKind::InvalidData,
         _ => ErrorKind::OutOfMemory,
     }
 }

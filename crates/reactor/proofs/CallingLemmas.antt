@@ -8,8 +8,8 @@ use Rattle.std.specs.Prelude.{All, ◌||◌}
 use Rattle.web_call.specs.declared.bell.Turn.{Turn}
 use Rattle.web_call.specs.declared.bell.Turn.TheVariants.{Look, End}
 use Rattle.web_call.specs.declared.call.Call.{Call}
-use Rattle.web_call.specs.declared.call.Stage.{Stage}
-use Rattle.web_call.specs.declared.call.Stage.TheVariants as stages
+use Rattle.web_call.specs.declared.call.CallStage.{CallStage}
+use Rattle.web_call.specs.declared.call.CallStage.TheVariants as stages
 use Rattle.web_call.specs.declared.intake.Reading.{Reading}
 use Rattle.web_call.specs.declared.intake.Reading.TheVariants as readings
 use Rattle.web_call.specs.declared.outcome.Outcome.{Outcome}
@@ -21,32 +21,32 @@ use Rattle.web_call.specs.Reading as reading
 use Rattle.web_call.specs.Stages.{answers, asks, ending_of, ends_watch, ends_with, is_answered, is_open, is_starved, is_watching, is_whole, may_ask, opens, starves, waits, watches}
 use Rattle.web_call.specs.Walk.{AsksDoor}
 use Rattle.web_call.proofs.WalkLemmas.{AsksDoor-none}
-use Rattle.reactor.specs.Calling.{HasServed, HasTaken, IsFrom, IsNotEnded, ahead, taken_by}
+use Rattle.reactor.specs.Calling.{DoorHasServed, HasTaken, IsFrom, IsNotEnded, ahead, taken_by}
 use Rattle.reactor.specs.CallingLaws.{stands_as, taken_none}
 use Rattle.reactor.specs.Moved.{Moved, only_read, only_sent, only_stepped}
 
 none_some : {X : Type 0} (outcome : Outcome) → None ≡ Some outcome → X
 none_some outcome e = absurd (grind (arith, ap is_some e))
 
-unanswered_has_no_ending : {X : Type 0} (stage : Stage) (outcome : Outcome) → answers stage ≡ false → ends_with stage ≡ Some outcome → X
+unanswered_has_no_ending : {X : Type 0} (stage : CallStage) (outcome : Outcome) → answers stage ≡ false → ends_with stage ≡ Some outcome → X
 unanswered_has_no_ending (stages.Reading intake) outcome is e = none_some outcome e
 unanswered_has_no_ending (stages.Watching watch) outcome is e = none_some outcome e
 unanswered_has_no_ending (stages.Ending ended) outcome is e = absurd (true≢false is)
 unanswered_has_no_ending stages.Starved outcome is e = none_some outcome e
 
-open_is_unanswered : (stage : Stage) → opens stage ≡ true → answers stage ≡ false
+open_is_unanswered : (stage : CallStage) → opens stage ≡ true → answers stage ≡ false
 open_is_unanswered (stages.Reading intake) is = refl
 open_is_unanswered (stages.Watching watch) is = absurd (true≢false (sym is))
 open_is_unanswered (stages.Ending outcome) is = absurd (true≢false (sym is))
 open_is_unanswered stages.Starved is = absurd (true≢false (sym is))
 
-unanswered_watches_none : (stage : Stage) → answers stage ≡ false → watches stage ≡ false
+unanswered_watches_none : (stage : CallStage) → answers stage ≡ false → watches stage ≡ false
 unanswered_watches_none (stages.Reading intake) is = refl
 unanswered_watches_none (stages.Watching watch) is = absurd (true≢false is)
 unanswered_watches_none (stages.Ending outcome) is = refl
 unanswered_watches_none stages.Starved is = refl
 
-ending_watches_none : (stage : Stage) (outcome : Outcome) → ends_with stage ≡ Some outcome → watches stage ≡ false
+ending_watches_none : (stage : CallStage) (outcome : Outcome) → ends_with stage ≡ Some outcome → watches stage ≡ false
 ending_watches_none (stages.Reading intake) outcome is = refl
 ending_watches_none (stages.Watching watch) outcome is = none_some outcome is
 ending_watches_none (stages.Ending ended) outcome is = refl
@@ -57,7 +57,7 @@ one_at_most true = omega arith
 one_at_most false = omega arith
 
 -- how often the door may still be asked
-asks_once : (stage : Stage) → asks stage ≤ 1
+asks_once : (stage : CallStage) → asks stage ≤ 1
 asks_once (stages.Reading intake) = by_reading intake.reading
   where
     by_reading : (at : Reading) → from_bool (reading.is_open at || reading.is_whole at) ≤ 1
@@ -69,19 +69,19 @@ asks_once (stages.Watching watch) = omega arith
 asks_once (stages.Ending outcome) = omega arith
 asks_once stages.Starved = omega arith
 
-pub answered_is_closed : (stage : Stage) → answers stage ≡ true → opens stage ≡ false
+pub answered_is_closed : (stage : CallStage) → answers stage ≡ true → opens stage ≡ false
 answered_is_closed (stages.Reading intake) is = absurd (true≢false (sym is))
 answered_is_closed (stages.Watching watch) is = refl
 answered_is_closed (stages.Ending outcome) is = refl
 answered_is_closed stages.Starved is = refl
 
-answered_asks_no_more : (stage : Stage) → answers stage ≡ true → asks stage ≡ 0
+answered_asks_no_more : (stage : CallStage) → answers stage ≡ true → asks stage ≡ 0
 answered_asks_no_more (stages.Reading intake) is = absurd (true≢false (sym is))
 answered_asks_no_more (stages.Watching watch) is = refl
 answered_asks_no_more (stages.Ending outcome) is = refl
 answered_asks_no_more stages.Starved is = refl
 
-starved_is_closed : (stage : Stage) → starves stage ≡ true → opens stage ≡ false
+starved_is_closed : (stage : CallStage) → starves stage ≡ true → opens stage ≡ false
 starved_is_closed (stages.Reading intake) is = by_reading intake.reading is
   where
     by_reading : (at : Reading) → reading.starves at ≡ true → reading.is_open at ≡ false
@@ -93,7 +93,7 @@ starved_is_closed (stages.Watching watch) is = refl
 starved_is_closed (stages.Ending outcome) is = refl
 starved_is_closed stages.Starved is = refl
 
-starved_asks_no_more : (stage : Stage) → starves stage ≡ true → asks stage ≡ 0
+starved_asks_no_more : (stage : CallStage) → starves stage ≡ true → asks stage ≡ 0
 starved_asks_no_more (stages.Reading intake) is = by_reading intake.reading is
   where
     by_reading : (at : Reading) → reading.starves at ≡ true → from_bool (reading.is_open at || reading.is_whole at) ≡ 0
@@ -105,7 +105,7 @@ starved_asks_no_more (stages.Watching watch) is = refl
 starved_asks_no_more (stages.Ending outcome) is = refl
 starved_asks_no_more stages.Starved is = refl
 
-open_may_ask : (stage : Stage) → opens stage ≡ true → asks stage ≡ 1
+open_may_ask : (stage : CallStage) → opens stage ≡ true → asks stage ≡ 1
 open_may_ask (stages.Reading intake) is = by_reading intake.reading is
   where
     by_reading : (at : Reading) → reading.is_open at ≡ true → from_bool (reading.is_open at || reading.is_whole at) ≡ 1
@@ -117,7 +117,7 @@ open_may_ask (stages.Watching watch) is = absurd (true≢false (sym is))
 open_may_ask (stages.Ending outcome) is = absurd (true≢false (sym is))
 open_may_ask stages.Starved is = absurd (true≢false (sym is))
 
-whole_may_ask : (stage : Stage) → waits stage ≡ true → (asks stage ≡ 1) × (opens stage ≡ false)
+whole_may_ask : (stage : CallStage) → waits stage ≡ true → (asks stage ≡ 1) × (opens stage ≡ false)
 whole_may_ask (stages.Reading intake) is = by_reading intake.reading is
   where
     by_reading : (at : Reading) → reading.is_whole at ≡ true → (from_bool (reading.is_open at || reading.is_whole at) ≡ 1) × (reading.is_open at ≡ false)
@@ -129,13 +129,13 @@ whole_may_ask (stages.Watching watch) is = absurd (true≢false (sym is))
 whole_may_ask (stages.Ending outcome) is = absurd (true≢false (sym is))
 whole_may_ask stages.Starved is = absurd (true≢false (sym is))
 
-watching_is_closed : (stage : Stage) → watches stage ≡ true → opens stage ≡ false
+watching_is_closed : (stage : CallStage) → watches stage ≡ true → opens stage ≡ false
 watching_is_closed (stages.Reading intake) is = absurd (true≢false (sym is))
 watching_is_closed (stages.Watching watch) is = refl
 watching_is_closed (stages.Ending outcome) is = absurd (true≢false (sym is))
 watching_is_closed stages.Starved is = absurd (true≢false (sym is))
 
-watching_has_no_ending : {X : Type 0} (stage : Stage) (outcome : Outcome) → watches stage ≡ true → ends_with stage ≡ Some outcome → X
+watching_has_no_ending : {X : Type 0} (stage : CallStage) (outcome : Outcome) → watches stage ≡ true → ends_with stage ≡ Some outcome → X
 watching_has_no_ending (stages.Reading intake) outcome is e = none_some outcome e
 watching_has_no_ending (stages.Watching watch) outcome is e = none_some outcome e
 watching_has_no_ending (stages.Ending ended) outcome is e = absurd (true≢false (sym is))
@@ -203,20 +203,20 @@ was_sent call call_now bytes carries ending watching reads = record {
 }
 
 -- what nothing is answered of yet stands over any source
-stands_anywhere : (source other : Source) (past : Past) (stage : Stage) (outgoing : Outgoing) → answers stage ≡ false → StandsAt source past stage outgoing
+stands_anywhere : (source other : Source) (past : Past) (stage : CallStage) (outgoing : Outgoing) → answers stage ≡ false → StandsAt source past stage outgoing
     → StandsAt other past stage outgoing
 stands_anywhere source other past (stages.Reading intake) outgoing none stands = stands
 stands_anywhere source other past (stages.Watching watch) outgoing none stands = absurd (true≢false none)
 stands_anywhere source other past (stages.Ending outcome) outgoing none stands = absurd (true≢false none)
 stands_anywhere source other past stages.Starved outgoing none stands = stands
 
-whole_is_unanswered : (stage : Stage) → waits stage ≡ true → answers stage ≡ false
+whole_is_unanswered : (stage : CallStage) → waits stage ≡ true → answers stage ≡ false
 whole_is_unanswered (stages.Reading intake) is = refl
 whole_is_unanswered (stages.Watching watch) is = absurd (true≢false (sym is))
 whole_is_unanswered (stages.Ending outcome) is = absurd (true≢false (sym is))
 whole_is_unanswered stages.Starved is = absurd (true≢false (sym is))
 
-starved_is_unanswered : (stage : Stage) → starves stage ≡ true → answers stage ≡ false
+starved_is_unanswered : (stage : CallStage) → starves stage ≡ true → answers stage ≡ false
 starved_is_unanswered (stages.Reading intake) is = refl
 starved_is_unanswered (stages.Watching watch) is = absurd (true≢false (sym is))
 starved_is_unanswered (stages.Ending outcome) is = absurd (true≢false (sym is))
@@ -247,7 +247,7 @@ module _ {D : Type 0} {source : Source} {seen : D → List Entry} {names : D →
       → All (λ step. step ≡ source) steps → names door_now ≡ names door → stays door door_now
       → (turn ≡ End → length asked + may_ask call_now ≤ may_ask call) → (turn ≡ Look → IsNotEnded call call_now) → is_open call_now ≡ false
       → length steps + ahead call_now ≤ length asked + ahead call
-      → HasServed source seen names follows stays turn door door_now call call_now (record { read = []; behind = 0; sent = []; steps = steps; ends = 0 }) asked
+      → DoorHasServed source seen names follows stays turn door door_now call call_now (record { read = []; behind = 0; sent = []; steps = steps; ends = 0 }) asked
   served_asked turn steps {call = call} {call_now = call_now} {asked = asked} asks carries anywhere by same_names same_door once lasts shut made = record {
     has_grown = record {
       received = [];
@@ -275,7 +275,7 @@ module _ {D : Type 0} {source : Source} {seen : D → List Entry} {names : D →
       → (steps ≡ [] → is_starved call_now ≡ true) → is_whole call ≡ true → (asked : List (List Entry)) → length asked ≤ 1
       → AsksDoor seen follows door door_now asked → CarriesFor source call call_now (with_asked asked) → names door_now ≡ names door → stays door door_now
       → is_answered call_now ≡ not (is_starved call_now) → ends_watch (ending_of call_now) ≡ false
-      → HasServed source seen names follows stays turn door door_now call call_now (record { read = []; behind = 0; sent = []; steps = steps; ends = 0 }) asked
+      → DoorHasServed source seen names follows stays turn door door_now call call_now (record { read = []; behind = 0; sent = []; steps = steps; ends = 0 }) asked
   was_answered turn steps one by {call = call} {call_now = call_now} starved whole asked few asks carries same_names same_door ready no_end =
       let over = by_end (is_starved call_now) refl in
       served_asked turn steps asks carries
@@ -292,7 +292,7 @@ module _ {D : Type 0} {source : Source} {seen : D → List Entry} {names : D →
   pub has_looked : (from : Source) → from ≡ source → {door door_now : D} {call call_now : Call} {asked : List (List Entry)} → is_watching call ≡ true → AsksDoor seen follows door door_now asked
       → CarriesFor source call call_now (with_asked asked) → names door_now ≡ names door → stays door door_now → is_answered call_now ≡ true
       → (is_watching call_now ≡ false → (messages : ℕ) × (ending_of call_now ≡ Some (Behind messages))) → length asked ≡ 1
-      → HasServed source seen names follows stays Look door door_now call call_now (only_stepped from) asked
+      → DoorHasServed source seen names follows stays Look door door_now call call_now (only_stepped from) asked
   has_looked from same {call = call} {call_now = call_now} {asked = asked} watching asks carries same_names same_door is behind single =
       served_asked Look (from ∷ []) asks carries (λ none. no_step from none) (one_step from source same) same_names same_door (λ ends. absurd (look_is_no_end ends))
       (λ looks. by_watching (is_watching call_now) refl)
@@ -312,7 +312,7 @@ module _ {D : Type 0} {source : Source} {seen : D → List Entry} {names : D →
   -- a Watch was ended
   pub has_ended : (from : Source) → from ≡ source → {door : D} {call call_now : Call} → is_watching call ≡ true → Carries call call_now (λ past. past) → stays door door → is_answered call_now ≡ true
       → (messages : ℕ) × (ending_of call_now ≡ Some (Watched messages))
-      → HasServed source seen names follows stays End door door call call_now (only_stepped from) []
+      → DoorHasServed source seen names follows stays End door door call call_now (only_stepped from) []
   has_ended from same {call = call} {call_now = call_now} watching carries kept is ending =
       served_asked End (from ∷ []) AsksDoor-none (λ past h. stands_as source call_now past.received past.received past.sent past.sent past.asked (past.asked ++ []) refl refl
       (sym (append-nil past.asked)) (carries source past h)) (λ none. no_step from none) (one_step from source same) refl kept

@@ -7,7 +7,7 @@ use Rattle.reactor.specs.declared.connection.End.TheVariants as ends
 use Rattle.reactor.specs.declared.connection.Left.{Left}
 use Rattle.reactor.specs.declared.connection.Left.TheVariants as lefts
 use Rattle.reactor.specs.declared.link.Link.{Link}
-use Rattle.reactor.specs.Connection.{HasServed, HasThrown, stream_of}
+use Rattle.reactor.specs.Connection.{ConnectionHasServed, HasThrown, stream_of}
 use Rattle.reactor.specs.Link.{link_stream}
 use Rattle.reactor.specs.Moved.{Moved, nothing_moved}
 use Rattle.reactor.specs.Turn.{HasMoved}
@@ -42,7 +42,7 @@ module _ {S H M : Type 0} {remaining contents : S → Option (List ℕ)} {moves 
       → new.past.moved ≡ past_now
       → remaining (stream_of mid) ≡ remaining (link_stream link_now) → contents (stream_of mid) ≡ contents (link_stream link_now)
       → HasThrown remaining contents mid new thrown → (left ≡ lefts.Over ends.Done → ⊥) → new.is_draining ≡ false
-      → HasServed remaining contents moves is_done waiting old new host host_now left moved thrown
+      → ConnectionHasServed remaining contents moves is_done waiting old new host host_now left moved thrown
   served_so {old = old} {new = new} {link_now = link_now} {host = host} {host_now = host_now} {moved = moved} left thrown same turned is grown input output more undone talks = record {
     has_read = Consumes-trans _ (remaining (link_stream link_now)) _ moved.read thrown
         (subst (λ s. Consumes (remaining s) (remaining (link_stream link_now)) moved.read) same turned.has_read)
@@ -59,7 +59,7 @@ module _ {S H M : Type 0} {remaining contents : S → Option (List ℕ)} {moves 
   pub served_none : {g : _} {old new : Connection S M g} {host : H} (left : Left) (thrown : List ℕ) → moves host host old.machine old.machine nothing_moved → new.machine ≡ old.machine
       → new.past.moved ≡ old.past.moved
       → HasThrown remaining contents old new thrown → (left ≡ lefts.Over ends.Done → ⊥) → new.is_draining ≡ false
-      → HasServed remaining contents moves is_done waiting old new host host left nothing_moved thrown
+      → ConnectionHasServed remaining contents moves is_done waiting old new host host left nothing_moved thrown
   served_none {old = old} {host = host} left thrown stays is same more undone talks = record {
     has_read = more.has_read;
     wrote = subst (λ r. Appends (contents (stream_of old)) r []) (sym more.kept) (Appends-nil (contents (stream_of old)));

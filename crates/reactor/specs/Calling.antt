@@ -57,7 +57,7 @@ IsFrom source other moved = (other ≡ source) ⊎ (moved.steps ≡ [])
 
 -- what a door made of a call in a turn: the call has grown by the histories that the door had, and the door is the same. Where a Watch is
 -- to end, the door is asked for the request alone; one that is to look is not ended
-pub record HasServed {D : Type 0} (source : Source) (seen : D → List Entry) (names : D → List (List ℕ)) (follows : List Entry → List Entry → Type 0)
+pub record DoorHasServed {D : Type 0} (source : Source) (seen : D → List Entry) (names : D → List (List ℕ)) (follows : List Entry → List Entry → Type 0)
     (stays : D → D → Type 0) (turn : Turn) (door door_now : D) (call call_now : Call) (moved : Moved) (asked : List (List Entry)) : Type 0 where
   pub has_grown : HasGrown (λ other. IsFrom source other moved) call call_now moved asked
   pub by : All (λ step. step ≡ source) moved.steps

@@ -7,14 +7,14 @@ use Rattle.desk_core.specs.Legal.{IsLegal}
 use Rattle.desk_core.specs.Watch.{last_of}
 use Rattle.web_call.specs.declared.bell.Turn.{Turn}
 use Rattle.web_call.specs.declared.call.Call.{Call}
-use Rattle.web_call.specs.declared.call.Stage.{Stage}
-use Rattle.web_call.specs.declared.call.Stage.TheVariants as stages
+use Rattle.web_call.specs.declared.call.CallStage.{CallStage}
+use Rattle.web_call.specs.declared.call.CallStage.TheVariants as stages
 use Rattle.web_call.specs.Answer.{Source, source_of}
 use Rattle.web_call.specs.Past.{CarriesFor, Stands, begun}
 use Rattle.web_call.specs.Stages.{is_open, is_watching, opens, watches}
 use Rattle.web_call.specs.Walk.{InTurn}
 use Rattle.web_call.proofs.WalkLemmas.{AsksDoor-again, AsksDoor-none, InTurn-append, last_of-append}
-use Rattle.reactor.specs.Calling.{DoorStays, GoesOnFrom, HasGrown, HasServed, HasSpanned, HasTaken, IsCallOf, IsFrom, IsTransitive, grown, taken_by}
+use Rattle.reactor.specs.Calling.{DoorStays, GoesOnFrom, HasGrown, DoorHasServed, HasSpanned, HasTaken, IsCallOf, IsFrom, IsTransitive, grown, taken_by}
 use Rattle.reactor.specs.Moved.{Moved, followed_by, nothing_moved}
 
 -- a past said in another way
@@ -162,7 +162,7 @@ call_begins begins = record {
 -- a call that has moved something goes on over a door
 pub call_goes_on : {D : Type 0} {source : Source} {seen : D → List Entry} {names : D → List (List ℕ)} {follows : List Entry → List Entry → Type 0} {stays : D → D → Type 0}
     {turn : Turn} {door door_now : D} {call call_now : Call} {past x : Moved} {asked : List (List Entry)} → IsCallOf past call
-    → HasServed source seen names follows stays turn door door_now call call_now x asked → IsCallOf (followed_by past x) call_now
+    → DoorHasServed source seen names follows stays turn door door_now call call_now x asked → IsCallOf (followed_by past x) call_now
 call_goes_on {source = source} {seen = seen} {follows = follows} {door = door} {call = call} {call_now = call_now} {past = past} {x = x} {asked = asked} first served =
     let second = served.has_grown in
     record {
@@ -188,7 +188,7 @@ module _ {D : Type 0} {seen : D → List Entry} {names : D → List (List ℕ)} 
   spans_nothing source door call = record { has_grown = grown_none call; in_turn = tt; goes_on = inl refl; same_names = refl }
 
 module _ {D : Type 0} {seen : D → List Entry} {names : D → List (List ℕ)} {follows : List Entry → List Entry → Type 0} {stays : D → D → Type 0} where
-  pub served_nowhere : (source : Source) (turn : Turn) (door : D) (call : Call) → stays door door → HasServed source seen names follows stays turn door door call call nothing_moved []
+  pub served_nowhere : (source : Source) (turn : Turn) (door : D) (call : Call) → stays door door → DoorHasServed source seen names follows stays turn door door call call nothing_moved []
   served_nowhere source turn door call same = record {
     has_grown = grown_none call;
     by = All-nil (λ step. step ≡ source);
@@ -201,7 +201,7 @@ module _ {D : Type 0} {seen : D → List Entry} {names : D → List (List ℕ)} 
   }
 
   pub served_alone : (source : Source) (turn : Turn) (door : D) {call call_now : Call} {moved : Moved} → stays door door → HasTaken call call_now moved
-      → HasServed source seen names follows stays turn door door call call_now moved []
+      → DoorHasServed source seen names follows stays turn door door call call_now moved []
   served_alone source turn door same taken = record {
     has_grown = record {
       received = taken.has_grown.received;
@@ -224,9 +224,9 @@ module _ {D : Type 0} {seen : D → List Entry} {names : D → List (List ℕ)} 
 
   pub served_then : (kept : _) (is_plain : Bool) {turn : Turn} {door between door_now : D} {call mid call_now : Call} {x y : Moved} {asked more : List (List Entry)}
       → (stays door between → stays between door_now → stays door door_now)
-      → HasServed (source_of (names door) kept is_plain) seen names follows stays turn door between call mid x asked
-      → HasServed (source_of (names between) kept is_plain) seen names follows stays turn between door_now mid call_now y more
-      → HasServed (source_of (names door) kept is_plain) seen names follows stays turn door door_now call call_now (followed_by x y) (asked ++ more)
+      → DoorHasServed (source_of (names door) kept is_plain) seen names follows stays turn door between call mid x asked
+      → DoorHasServed (source_of (names between) kept is_plain) seen names follows stays turn between door_now mid call_now y more
+      → DoorHasServed (source_of (names door) kept is_plain) seen names follows stays turn door door_now call call_now (followed_by x y) (asked ++ more)
   served_then kept is_plain {door = door} {mid = mid} {call_now = call_now} {x = x} {y = y} {asked = asked} {more = more} on first second = record {
     has_grown = grown_then (λ other from. (from_parts x y from).0)
         (λ other from. subst (λ n. IsFrom (source_of n kept is_plain) other y) (sym first.same_names) (from_parts x y from).1) first.has_grown second.has_grown;
@@ -241,7 +241,7 @@ module _ {D : Type 0} {seen : D → List Entry} {names : D → List (List ℕ)} 
   }
 
   pub served_stays : {source : Source} {turn : Turn} {door door_now : D} {call call_now : Call} {moved : Moved} {asked : List (List Entry)}
-      → HasServed source seen names follows stays turn door door_now call call_now moved asked → DoorStays seen names follows stays door door_now
+      → DoorHasServed source seen names follows stays turn door door_now call call_now moved asked → DoorStays seen names follows stays door door_now
   served_stays {asked = asked} served = record { asked = asked; asks = served.asks; same_names = served.same_names; same_door = served.same_door }
 
   pub stays_same : (door : D) → stays door door → DoorStays seen names follows stays door door
@@ -268,7 +268,7 @@ module _ {D : Type 0} {seen : D → List Entry} {names : D → List (List ℕ)} 
 
   pub spans_then : (kept : _) (is_plain : Bool) {turn : Turn} {door between door_now : D} {call mid call_now : Call} {x y : Moved} {asked more : List (List Entry)} → IsTransitive follows
       → HasSpanned (source_of (names door) kept is_plain) seen names follows door between call mid x asked
-      → HasServed (source_of (names between) kept is_plain) seen names follows stays turn between door_now mid call_now y more
+      → DoorHasServed (source_of (names between) kept is_plain) seen names follows stays turn between door_now mid call_now y more
       → HasSpanned (source_of (names door) kept is_plain) seen names follows door door_now call call_now (followed_by x y) (asked ++ more)
   spans_then kept is_plain {door = door} {between = between} {door_now = door_now} {mid = mid} {call_now = call_now} {y = y} {asked = asked} {more = more} on first second =
       let reached = last_of (seen door) asked in record {
@@ -289,7 +289,7 @@ taken_none call is = by_bool (is_open call) is
 
 pub closed_stays : {D : Type 0} {source : Source} {seen : D → List Entry} {names : D → List (List ℕ)} {follows : List Entry → List Entry → Type 0} {stays : D → D → Type 0}
     {turn : Turn} {door door_now : D} {call call_now : Call} {moved : Moved} {asked : List (List Entry)} → not (is_open call) ≡ true
-    → HasServed source seen names follows stays turn door door_now call call_now moved asked → (moved.read ≡ []) × (moved.behind ≡ 0) × (not (is_open call_now) ≡ true)
+    → DoorHasServed source seen names follows stays turn door door_now call call_now moved asked → (moved.read ≡ []) × (moved.behind ≡ 0) × (not (is_open call_now) ≡ true)
 closed_stays {call = call} is served = let closed = served.has_grown.closed (is_not (is_open call) is) in (closed.0, closed.1, ap not closed.2)
   where
     is_not : (b : Bool) → not b ≡ true → b ≡ false
@@ -300,7 +300,7 @@ closed_stays {call = call} is served = let closed = served.has_grown.closed (is_
 pub watching_takes_none : (call : Call) → is_watching call ≡ true → taken_by call ≡ 0
 watching_takes_none call is = taken_none call (ap not (by_stage call.stage is))
   where
-    by_stage : (stage : Stage) → watches stage ≡ true → opens stage ≡ false
+    by_stage : (stage : CallStage) → watches stage ≡ true → opens stage ≡ false
     by_stage (stages.Reading intake) is = absurd (true≢false (sym is))
     by_stage (stages.Watching watch) is = refl
     by_stage (stages.Ending outcome) is = absurd (true≢false (sym is))

@@ -46,7 +46,7 @@ pub record HasThrown {S M : Type 0} {g : _} (remaining contents : S → Option (
 
 -- a turn of a connection whose machine goes on: what was moved is what the machine moved over its host, its past has grown by it, and behind
 -- that bytes may have been thrown away; an end that is told as done is the machine's
-pub record HasServed {S H M : Type 0} {g : _} (remaining contents : S → Option (List ℕ)) (moves : H → H → M → M → Moved → Type 0) (is_done : M → Type 0) (waiting : M → List ℕ)
+pub record ConnectionHasServed {S H M : Type 0} {g : _} (remaining contents : S → Option (List ℕ)) (moves : H → H → M → M → Moved → Type 0) (is_done : M → Type 0) (waiting : M → List ℕ)
     (old new : Connection S M g) (host host_now : H) (left : Left) (moved : Moved) (thrown : List ℕ) : Type 0 where
   pub has_read : Consumes (remaining (stream_of old)) (remaining (stream_of new)) (moved.read ++ thrown)
   pub wrote : Appends (contents (stream_of old)) (contents (stream_of new)) moved.sent

@@ -2,7 +2,7 @@
 
 ghost use Rattle.std.specs.Prelude.{◌≡◌, [], List, true};
 ghost use Rattle.desk_core.specs.declared.entry.Entry.{Entry};
-ghost use Rattle.reactor.specs.Calling.{HasBeenTold, HasServed, HasStarved, IsAnswered, taken_by};
+ghost use Rattle.reactor.specs.Calling.{HasBeenTold, DoorHasServed, HasStarved, IsAnswered, taken_by};
 ghost use Rattle.reactor.specs.Turn.{LeavesAt, stepped};
 ghost use Rattle.web_call.specs.Answer.{source_of};
 ghost use Rattle.web_call.specs.Stages.{is_open, is_watching, to_send};
@@ -92,11 +92,11 @@ impl<D: Door> Host<Call> for D {
     ghost use Rattle.desk_core.specs.declared.entry.Entry.{Entry};
     ghost use Rattle.web_call.specs.Answer.{source_of};
     ghost use Rattle.reactor.specs.CallingLaws.{call_goes_on, closed_stays, served_alone, served_nowhere, served_stays, served_then, spans_nothing, spans_then, spans_waiting, stays_same, stays_then, taken_none};
-    ghost use Rattle.reactor.specs.Calling.{DoorStays, HasBeenTold, HasServed, HasSpanned, HasStarved, IsAnswered, IsTransitive};
+    ghost use Rattle.reactor.specs.Calling.{DoorStays, HasBeenTold, DoorHasServed, HasSpanned, HasStarved, IsAnswered, IsTransitive};
 
     ghost source = { λ a. source_of (D.names a) D.kept D.is_plain };
 
-    ghost goes = { λ t a b m n x. (asked : List (List Entry)) × HasServed (source_of (D.names a) D.kept D.is_plain) D.seen D.names D.follows D.stays t a b m n x asked };
+    ghost goes = { λ t a b m n x. (asked : List (List Entry)) × DoorHasServed (source_of (D.names a) D.kept D.is_plain) D.seen D.names D.follows D.stays t a b m n x asked };
 
     ghost idle = { λ t call. is_open call ≡ true };
 
@@ -166,7 +166,7 @@ impl<D: Door> Host<Call> for D {
 /// Lets a Watch look for a change.
 fn look<D: Door>(door: &mut D, call: &mut Call) -> Step
     requires { (is_watching call.old ≡ true) × (to_send call.old ≡ []) }
-    ensures served { (asked : List (List Entry)) × HasServed (source_of (D.names door.old) D.kept D.is_plain)
+    ensures served { (asked : List (List Entry)) × DoorHasServed (source_of (D.names door.old) D.kept D.is_plain)
         D.seen D.names D.follows D.stays Turn.Look door.old door.new call.old call.new
         (stepped (source_of (D.names door.new) D.kept D.is_plain) result) asked }
     ensures leaves { LeavesAt taken_by to_send (λ call. is_open call ≡ true) (HasBeenTold Turn.Look (D.seen door.new)) IsAnswered

@@ -271,7 +271,7 @@ impl<S, M: Machine> Connection<S, M> {
 impl<S: Socket, M: Machine> Connection<S, M> {
     ghost use Rattle.std.specs.Prelude.{◌≡◌, ◌≢◌, ◌<◌, ◌⊎◌, [], false, true, ℕ, List, None, Some, IsTrue, is_some, length};
     ghost use Rattle.std.specs.Option.{OnSome};
-    ghost use Rattle.reactor.specs.Connection.{HasServed, HasThrown, is_over, may_look_at, state_of, stream_of};
+    ghost use Rattle.reactor.specs.Connection.{ConnectionHasServed, HasThrown, is_over, may_look_at, state_of, stream_of};
     ghost use Rattle.reactor.specs.Times.{HasTime};
     ghost use Rattle.reactor.specs.Moved.{Moved};
     ghost use Rattle.reactor.specs.declared.connection.End.TheVariants.{Done};
@@ -475,7 +475,7 @@ impl<S: Socket, M: Machine> Connection<S, M> {
     ) -> Left
         requires room { 0 < length buffer.old }
         ensures served { (state_of self.old).is_draining ≡ false → (moved : Moved) × (thrown : List ℕ)
-            × HasServed S.remaining S.contents (H.goes occasion.then) (H.is_done occasion.then) M.waiting
+            × ConnectionHasServed S.remaining S.contents (H.goes occasion.then) (H.is_done occasion.then) M.waiting
             self.old self.new host.old host.new result moved thrown }
         ensures drained { (state_of self.old).is_draining ≡ true → (host.new ≡ host.old)
             × (state_of self.new ≡ state_of self.old)
@@ -531,7 +531,7 @@ impl<S: Socket, M: Machine> Connection<S, M> {
         requires room { 0 < length buffer.old }
         requires talks { (state_of self.old).is_draining ≡ false }
         ensures served { (moved : Moved) × (thrown : List ℕ)
-            × HasServed S.remaining S.contents (H.goes occasion.then) (H.is_done occasion.then) M.waiting
+            × ConnectionHasServed S.remaining S.contents (H.goes occasion.then) (H.is_done occasion.then) M.waiting
             self.old self.new host.old host.new result moved thrown }
         ensures admitted { occasion.then ≡ Turn.End → is_over result ≡ false
             → may_look_at M.watches M.waiting (state_of self.new) ≡ false }

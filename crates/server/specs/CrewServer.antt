@@ -9,7 +9,7 @@ use Rattle.desk_core.specs.declared.refusal.Refusal.{Refusal}
 use Rattle.desk_core.specs.declared.reply.Reply.{Reply}
 use Rattle.desk_core.specs.Legal.{IsLegal}
 use Rattle.hall.specs.Seats.{HallState, SeatState, IsSeenIn, own_calls}
-use Rattle.crew.specs.Serve.{HasServed}
+use Rattle.crew.specs.Serve.{CrewHasServed}
 use Rattle.server.specs.declared.serve_fault.ServeFault.{ServeFault}
 use Rattle.server.specs.declared.serve_fault.ServeFault.TheVariants.{Crew, NoMemory}
 
@@ -19,7 +19,7 @@ use Rattle.server.specs.declared.serve_fault.ServeFault.TheVariants.{Crew, NoMem
 pub record HasServedOrders (hall : HallState) (workers : ℕ) (orders : List Order) (results : List (Result Reply Refusal)) (seats : List SeatState)
     (history : List Entry) : Type 0 where
   pub after : List SeatState
-  pub served : HasServed hall.names workers (orders ∷ []) (results ∷ []) seats after
+  pub served : CrewHasServed hall.names workers (orders ∷ []) (results ∷ []) seats after
   pub all : length after ≡ hall.seats
   pub legal : IsLegal history
   pub seen : All (IsSeenIn history) after

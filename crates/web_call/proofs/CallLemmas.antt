@@ -10,8 +10,8 @@ use Rattle.desk_core.specs.Changes.{changes_of}
 use Rattle.desk_core.specs.Status.{shown, status_map}
 use Rattle.desk_core.specs.Watch.{IsBehind, WatchState, answer_of, opened, stepped, told}
 use Rattle.web_call.specs.declared.call.Call.{Call}
-use Rattle.web_call.specs.declared.call.Stage.{Stage}
-use Rattle.web_call.specs.declared.call.Stage.TheVariants.{Reading, Watching, Ending, Starved}
+use Rattle.web_call.specs.declared.call.CallStage.{CallStage}
+use Rattle.web_call.specs.declared.call.CallStage.TheVariants.{Reading, Watching, Ending, Starved}
 use Rattle.web_call.specs.declared.intake.Intake.{Intake}
 use Rattle.web_call.specs.declared.intake.Reading.TheVariants as readings
 use Rattle.web_call.specs.declared.intake.Reading.{Reading as HowFar}
@@ -64,7 +64,7 @@ silent_on old new sent bytes none goes silent = record {
   goes_out = goes [] [] sent silent.goes_out;
 }
 
-sending_on : (source : Source) (past : Past) (stage : Stage) (old new : Outgoing) (bytes : List ℕ)
+sending_on : (source : Source) (past : Past) (stage : CallStage) (old new : Outgoing) (bytes : List ℕ)
     → ((done part : List Piece) (before : List ℕ) → GoesOut old done part before → GoesOut new done part (before ++ bytes))
     → IsSending source past stage old → IsSending source (with_sent bytes past) stage new
 sending_on source past stage old new bytes goes s = record {
@@ -77,7 +77,7 @@ sending_on source past stage old new bytes goes s = record {
   goes_out = goes s.done s.part past.sent s.goes_out;
 }
 
-pub sent_on : (source : Source) (past : Past) (stage : Stage) (old new : Outgoing) (bytes : List ℕ) → (left_of old ≡ [] → bytes ≡ [])
+pub sent_on : (source : Source) (past : Past) (stage : CallStage) (old new : Outgoing) (bytes : List ℕ) → (left_of old ≡ [] → bytes ≡ [])
     → ((done part : List Piece) (before : List ℕ) → GoesOut old done part before → GoesOut new done part (before ++ bytes))
     → StandsAt source past stage old → StandsAt source (with_sent bytes past) stage new
 sent_on source past (Reading intake) old new bytes none goes h =
@@ -168,7 +168,7 @@ ended source past watch old new messages none count goes s =
     ends_as source past past.asked watch old new (λ n. Watched n) messages none count s
     (WatchEnd s.sends.name s.sends.first s.sends.later s.sends.is_watch s.sends.asked_is) goes
 
-pub ended_at : (source : Source) (past : Past) (stage : Stage) (old new : Outgoing) (messages : ℕ) → watches stage ≡ true → left_of old ≡ []
+pub ended_at : (source : Source) (past : Past) (stage : CallStage) (old new : Outgoing) (messages : ℕ) → watches stage ≡ true → left_of old ≡ []
     → messages ≡ frames_out old → ((done part : List Piece) (sent : List ℕ) → GoesOut old done part sent → GoesOut new (done ++ part) watch_end sent)
     → StandsAt source past stage old → IsSending source past (Ending (Watched messages)) new
 ended_at source past (Reading intake) old new messages is none count goes h = absurd (grind arith)

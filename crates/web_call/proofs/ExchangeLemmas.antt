@@ -6,8 +6,8 @@ use Rattle.std.proofs.lemmas.List.{take-append-le, take-take, length-take-le}
 use Rattle.std.specs.Io.KnownBytes.{Appends, Consumes}
 use Rattle.desk_core.specs.declared.entry.Entry.{Entry}
 use Rattle.web_call.specs.declared.call.Call.{Call}
-use Rattle.web_call.specs.declared.call.Stage.{Stage}
-use Rattle.web_call.specs.declared.call.Stage.TheVariants.{Reading, Watching, Ending, Starved}
+use Rattle.web_call.specs.declared.call.CallStage.{CallStage}
+use Rattle.web_call.specs.declared.call.CallStage.TheVariants.{Reading, Watching, Ending, Starved}
 use Rattle.web_call.specs.declared.outcome.Outcome.{Outcome}
 use Rattle.web_call.specs.declared.outcome.Outcome.TheVariants.{Http, Status, Watched, Behind, Plain}
 use Rattle.web_call.specs.declared.outgoing.Outgoing.{Outgoing}
@@ -56,13 +56,13 @@ pub record SoFar {D B : Type 0} (source : Source) (seen : D → List Entry) (fol
   pub has_looked : is_watching call ≡ true → had ≡ length (drop 1 past.asked)
 
 -- a call that watches has no ending yet, and has asked
-no_ending : (stage : Stage) → watches stage ≡ true → ends_with stage ≡ None
+no_ending : (stage : CallStage) → watches stage ≡ true → ends_with stage ≡ None
 no_ending (Reading intake) is = refl
 no_ending (Watching watch) is = refl
 no_ending (Ending outcome) is = absurd (grind arith)
 no_ending Starved is = refl
 
-has_asked : (source : Source) (past : Past) (stage : Stage) (outgoing : Outgoing) → watches stage ≡ true → StandsAt source past stage outgoing
+has_asked : (source : Source) (past : Past) (stage : CallStage) (outgoing : Outgoing) → watches stage ≡ true → StandsAt source past stage outgoing
     → 1 ≤ length past.asked
 has_asked source past (Reading intake) outgoing is h = absurd (grind arith)
 has_asked source past (Watching watch) outgoing is h = omega (arith, ap length h.sends.asked_is)

@@ -4,8 +4,8 @@ use Rattle.std.proofs.Common.{◌∙◌, subst, append-nil, inl, inr, is_some, �
 use Rattle.std.specs.Io.KnownBytes.{Appends}
 use Rattle.desk_core.specs.declared.entry.Entry.{Entry}
 use Rattle.web_call.specs.declared.call.Call.{Call}
-use Rattle.web_call.specs.declared.call.Stage.{Stage}
-use Rattle.web_call.specs.declared.call.Stage.TheVariants.{Reading, Watching, Ending, Starved}
+use Rattle.web_call.specs.declared.call.CallStage.{CallStage}
+use Rattle.web_call.specs.declared.call.CallStage.TheVariants.{Reading, Watching, Ending, Starved}
 use Rattle.web_call.specs.declared.intake.Reading.{Reading as HowFar}
 use Rattle.web_call.specs.declared.intake.Reading.TheVariants as readings
 use Rattle.web_call.specs.declared.outcome.Outcome.{Outcome}
@@ -44,7 +44,7 @@ cut_read (readings.Body left) head body bytes o is read = cut_body read.0.answer
 cut_read readings.Whole head body bytes o is read = absurd (grind arith)
 cut_read readings.Starved head body bytes o is read = absurd (grind arith)
 
-cut_at : (source : Source) (past : Past) (stage : Stage) (outgoing : Outgoing) → opens stage ≡ true → StandsAt source past stage outgoing → IsCutRequest past.received
+cut_at : (source : Source) (past : Past) (stage : CallStage) (outgoing : Outgoing) → opens stage ≡ true → StandsAt source past stage outgoing → IsCutRequest past.received
 cut_at source past (Reading intake) outgoing o h = cut_read intake.reading intake.head.items intake.body.items past.received o h.has_read.is h.has_read.read
 cut_at source past (Watching watch) outgoing o h = absurd (grind arith)
 cut_at source past (Ending outcome) outgoing o h = absurd (grind arith)
@@ -63,7 +63,7 @@ starved_read readings.Whole head body bytes asked s is read none = absurd (grind
 starved_read readings.Starved head body bytes asked s is read none =
     Head (subst IsHead (sym (is ∙ ap (λ rest. head ++ rest) read.1 ∙ append-nil head)) read.0.1.is_head) none
 
-starved_stage : (source : Source) (past : Past) (stage : Stage) (outgoing : Outgoing) → starves stage ≡ true → StandsAt source past stage outgoing
+starved_stage : (source : Source) (past : Past) (stage : CallStage) (outgoing : Outgoing) → starves stage ≡ true → StandsAt source past stage outgoing
     → IsStarvedAt past.asked past.received
 starved_stage source past (Reading intake) outgoing s h = starved_read intake.reading intake.head.items intake.body.items past.received past.asked s h.has_read.is h.has_read.read h.none_asked
 starved_stage source past (Watching watch) outgoing s h = absurd (grind arith)
@@ -79,7 +79,7 @@ ended_by : (left : List ℕ) (ending : Option Outcome) (outcome : Outcome) → (
 ended_by [] ending outcome is = (refl, is)
 ended_by (byte ∷ left) ending outcome is = absurd (grind (arith, is))
 
-whole_at : (source : Source) (past : Past) (stage : Stage) (outgoing : Outgoing) (outcome : Outcome) → ends_with stage ≡ Some outcome → left_of outgoing ≡ []
+whole_at : (source : Source) (past : Past) (stage : CallStage) (outgoing : Outgoing) (outcome : Outcome) → ends_with stage ≡ Some outcome → left_of outgoing ≡ []
     → StandsAt source past stage outgoing → IsWholeCall source past outcome
 whole_at source past (Reading intake) outgoing outcome e none h = absurd (no_outcome e)
   where
@@ -130,7 +130,7 @@ sending source past ending outgoing head body done part requested sends goes = (
   goes.is_text.bytes,
 )
 
-sending_at : (source : Source) (past : Past) (stage : Stage) (outgoing : Outgoing) → answers stage ≡ true → StandsAt source past stage outgoing
+sending_at : (source : Source) (past : Past) (stage : CallStage) (outgoing : Outgoing) → answers stage ≡ true → StandsAt source past stage outgoing
     → Cut source past (ends_with stage) outgoing
 sending_at source past (Reading intake) outgoing a h = absurd (grind arith)
 sending_at source past (Watching watch) outgoing a h =
@@ -157,7 +157,7 @@ silent : (outgoing : Outgoing) (sent : List ℕ) → IsSilent outgoing sent → 
 silent outgoing sent s =
     (s.none_sent, silent_left outgoing sent s, frames_sent s.goes_out ∙ ap (λ bytes. counted (frames_within [] (length bytes))) s.none_sent ∙ omega (arith, frames_within-nil 0))
 
-silent_at : (source : Source) (past : Past) (stage : Stage) (outgoing : Outgoing) → answers stage ≡ false → StandsAt source past stage outgoing
+silent_at : (source : Source) (past : Past) (stage : CallStage) (outgoing : Outgoing) → answers stage ≡ false → StandsAt source past stage outgoing
     → (past.sent ≡ []) × (left_of outgoing ≡ []) × (frames_out outgoing ≡ 0)
 silent_at source past (Reading intake) outgoing a h = silent outgoing past.sent h.silent
 silent_at source past (Watching watch) outgoing a h = absurd (grind arith)
@@ -169,7 +169,7 @@ pub silent_of : (source : Source) (past : Past) (call : Call) → is_answered ca
 silent_of source past call a h = silent_at source past call.stage call.outgoing a h
 
 -- a call that is still read has asked nobody
-unasked_at : (source : Source) (past : Past) (stage : Stage) (outgoing : Outgoing) → opens stage ≡ true → StandsAt source past stage outgoing → past.asked ≡ []
+unasked_at : (source : Source) (past : Past) (stage : CallStage) (outgoing : Outgoing) → opens stage ≡ true → StandsAt source past stage outgoing → past.asked ≡ []
 unasked_at source past (Reading intake) outgoing o h = h.none_asked
 unasked_at source past (Watching watch) outgoing o h = absurd (grind arith)
 unasked_at source past (Ending outcome) outgoing o h = absurd (grind arith)
@@ -179,7 +179,7 @@ pub unasked_of : (source : Source) (past : Past) (call : Call) → is_open call 
 unasked_of source past call o h = unasked_at source past call.stage call.outgoing o h
 
 -- a call that waits to be answered
-waiting_at : (source : Source) (past : Past) (stage : Stage) (outgoing : Outgoing) → waits stage ≡ true → StandsAt source past stage outgoing → IsWholeRequest past
+waiting_at : (source : Source) (past : Past) (stage : CallStage) (outgoing : Outgoing) → waits stage ≡ true → StandsAt source past stage outgoing → IsWholeRequest past
 waiting_at source past (Reading intake) outgoing w h =
     let whole = whole_head intake.reading intake.head.items intake.body.items w h.has_read.read in record {
       head = intake.head.items;
@@ -204,7 +204,7 @@ reading_turn (readings.Body left) = inl refl
 reading_turn readings.Whole = inr (inl refl)
 reading_turn readings.Starved = inr (inr refl)
 
-stage_turn : (stage : Stage) → (opens stage ≡ true) ⊎ (waits stage ≡ true) ⊎ (watches stage ≡ true) ⊎ (starves stage ≡ true) ⊎ (is_some (ends_with stage) ≡ true)
+stage_turn : (stage : CallStage) → (opens stage ≡ true) ⊎ (waits stage ≡ true) ⊎ (watches stage ≡ true) ⊎ (starves stage ≡ true) ⊎ (is_some (ends_with stage) ≡ true)
 stage_turn (Reading intake) = elim (reading_turn intake.reading) [
   | inl opens ↦ inl opens
   | inr (inl whole) ↦ inr (inl whole)

@@ -6,8 +6,8 @@ use Rattle.desk_core.specs.Catalogue.{slot_of}
 use Rattle.desk_core.specs.Changes.{changes_of}
 use Rattle.desk_core.specs.Watch.{opened}
 use Rattle.web_call.specs.declared.call.Call.{Call}
-use Rattle.web_call.specs.declared.call.Stage.{Stage}
-use Rattle.web_call.specs.declared.call.Stage.TheVariants.{Reading, Watching, Ending, Starved}
+use Rattle.web_call.specs.declared.call.CallStage.{CallStage}
+use Rattle.web_call.specs.declared.call.CallStage.TheVariants.{Reading, Watching, Ending, Starved}
 use Rattle.web_call.specs.declared.intake.Intake.{Intake}
 use Rattle.web_call.specs.declared.outgoing.Outgoing.{Outgoing}
 use Rattle.web_call.specs.Answer.{Asking, IsWatch, Sends, Source, Tells, IsStarvedAt}
@@ -48,7 +48,7 @@ pub record IsWatching (asking : Asking) (watch : Watch) (done part : List Piece)
   pub watch_is : watch ≡ watch_after (opened (changes_of first) (slot_of asking.source.names name)) later
 
 -- what is sent at this stage
-abbrev pub SendsAt : Asking → Stage → List Piece → List Piece → Type 0
+abbrev pub SendsAt : Asking → CallStage → List Piece → List Piece → Type 0
 SendsAt asking (Reading intake) done part = ⊥
 SendsAt asking (Watching watch) done part = IsWatching asking watch done part
 SendsAt asking (Ending outcome) done part = Sends asking done part (Some outcome)
@@ -59,7 +59,7 @@ abbrev pub asking_of : Source → Past → List ℕ → List ℕ → Asking
 asking_of source past head body = record { source = source; asked = past.asked; head = head; body = body }
 
 -- a request was received and is being answered
-pub record IsSending (source : Source) (past : Past) (stage : Stage) (outgoing : Outgoing) : Type 0 where
+pub record IsSending (source : Source) (past : Past) (stage : CallStage) (outgoing : Outgoing) : Type 0 where
   pub head : List ℕ
   pub body : List ℕ
   pub done : List Piece
@@ -84,7 +84,7 @@ pub record HasStarved (past : Past) (outgoing : Outgoing) : Type 0 where
   pub silent : IsSilent outgoing past.sent
   pub starved : IsStarvedAt past.asked past.received
 
-abbrev pub StandsAt : Source → Past → Stage → Outgoing → Type 0
+abbrev pub StandsAt : Source → Past → CallStage → Outgoing → Type 0
 StandsAt source past (Reading intake) outgoing = IsReading past intake outgoing
 StandsAt source past (Watching watch) outgoing = IsSending source past (Watching watch) outgoing
 StandsAt source past (Ending outcome) outgoing = IsSending source past (Ending outcome) outgoing

@@ -5,15 +5,15 @@ use Rattle.desk_core.specs.declared.entry.Entry.{Entry}
 use Rattle.desk_core.specs.Changes.{changes_of}
 use Rattle.desk_core.specs.Watch.{IsBehind}
 use Rattle.web_call.specs.declared.call.Call.{Call}
-use Rattle.web_call.specs.declared.call.Stage.{Stage}
-use Rattle.web_call.specs.declared.call.Stage.TheVariants.{Reading, Watching, Ending, Starved}
+use Rattle.web_call.specs.declared.call.CallStage.{CallStage}
+use Rattle.web_call.specs.declared.call.CallStage.TheVariants.{Reading, Watching, Ending, Starved}
 use Rattle.web_call.specs.declared.outcome.Outcome.{Outcome}
 use Rattle.web_call.specs.declared.outcome.Outcome.TheVariants.{Http, Status, Watched, Behind, Plain}
 use Rattle.web_call.specs.Outgoing.{left_of, frames_out}
 use Rattle.web_call.specs.Reading as reading
 use Rattle.web_call.specs.Text.{text_bytes}
 
-abbrev pub opens : Stage → Bool
+abbrev pub opens : CallStage → Bool
 opens (Reading intake) = reading.is_open intake.reading
 opens (Watching watch) = false
 opens (Ending outcome) = false
@@ -23,7 +23,7 @@ opens Starved = false
 abbrev pub is_open : Call → Bool
 is_open call = opens call.stage
 
-abbrev pub wants : Stage → ℕ
+abbrev pub wants : CallStage → ℕ
 wants (Reading intake) = reading.wanted intake.reading
 wants (Watching watch) = 0
 wants (Ending outcome) = 0
@@ -33,7 +33,7 @@ wants Starved = 0
 abbrev pub wanted_by : Call → ℕ
 wanted_by call = wants call.stage
 
-abbrev pub owes : Stage → ℕ
+abbrev pub owes : CallStage → ℕ
 owes (Reading intake) = reading.owed intake.reading (vec_len intake.head)
 owes (Watching watch) = 0
 owes (Ending outcome) = 0
@@ -43,7 +43,7 @@ owes Starved = 0
 abbrev pub owed : Call → ℕ
 owed call = owes call.stage
 
-abbrev pub waits : Stage → Bool
+abbrev pub waits : CallStage → Bool
 waits (Reading intake) = reading.is_whole intake.reading
 waits (Watching watch) = false
 waits (Ending outcome) = false
@@ -53,7 +53,7 @@ waits Starved = false
 abbrev pub is_whole : Call → Bool
 is_whole call = waits call.stage
 
-abbrev pub watches : Stage → Bool
+abbrev pub watches : CallStage → Bool
 watches (Reading intake) = false
 watches (Watching watch) = true
 watches (Ending outcome) = false
@@ -63,7 +63,7 @@ watches Starved = false
 abbrev pub is_watching : Call → Bool
 is_watching call = watches call.stage
 
-abbrev pub starves : Stage → Bool
+abbrev pub starves : CallStage → Bool
 starves (Reading intake) = reading.starves intake.reading
 starves (Watching watch) = false
 starves (Ending outcome) = false
@@ -73,7 +73,7 @@ starves Starved = true
 abbrev pub is_starved : Call → Bool
 is_starved call = starves call.stage
 
-abbrev pub asks : Stage → ℕ
+abbrev pub asks : CallStage → ℕ
 asks (Reading intake) = from_bool (reading.is_open intake.reading || reading.is_whole intake.reading)
 asks (Watching watch) = 0
 asks (Ending outcome) = 0
@@ -83,7 +83,7 @@ asks Starved = 0
 abbrev pub may_ask : Call → ℕ
 may_ask call = asks call.stage
 
-abbrev pub answers : Stage → Bool
+abbrev pub answers : CallStage → Bool
 answers (Reading intake) = false
 answers (Watching watch) = true
 answers (Ending outcome) = true
@@ -93,7 +93,7 @@ answers Starved = false
 abbrev pub is_answered : Call → Bool
 is_answered call = answers call.stage
 
-abbrev pub ends_with : Stage → Option Outcome
+abbrev pub ends_with : CallStage → Option Outcome
 ends_with (Reading intake) = None
 ends_with (Watching watch) = None
 ends_with (Ending outcome) = Some outcome
@@ -103,7 +103,7 @@ ends_with Starved = None
 abbrev pub ending_of : Call → Option Outcome
 ending_of call = ends_with call.stage
 
-abbrev pub IsBehindAt : Option ℕ → List Entry → Stage → Type 0
+abbrev pub IsBehindAt : Option ℕ → List Entry → CallStage → Type 0
 IsBehindAt kept entries (Reading intake) = ⊥
 IsBehindAt kept entries (Watching watch) = IsBehind kept (changes_of entries) watch
 IsBehindAt kept entries (Ending outcome) = ⊥
@@ -113,7 +113,7 @@ IsBehindAt kept entries Starved = ⊥
 abbrev pub IsLeftBehind : Option ℕ → List Entry → Call → Type 0
 IsLeftBehind kept entries call = IsBehindAt kept entries call.stage
 
-abbrev pub IsPastAt : List Entry → Stage → Type 0
+abbrev pub IsPastAt : List Entry → CallStage → Type 0
 IsPastAt entries (Reading intake) = ⊥
 IsPastAt entries (Watching watch) = length (changes_of entries) ≤ watch.cursor
 IsPastAt entries (Ending outcome) = ⊥

@@ -8,7 +8,7 @@ use desk_core::Watch;
 
 /// How far a call has come.
 #[derive(Drop)]
-pub(crate) enum Stage {
+pub(crate) enum CallStage {
     /// Its request is read, or waits to be answered, or the allocation for the body failed.
     Reading(Intake),
     /// A Watch is open.
@@ -27,6 +27,6 @@ pub(crate) enum Stage {
 /// for one head of 8,192 bytes, one body of as many, and one answer or message.
 #[derive(Drop)]
 pub struct Call {
-    stage: Stage,
+    stage: CallStage,
     outgoing: Outgoing,
 }

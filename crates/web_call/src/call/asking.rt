@@ -1,6 +1,6 @@
 ghost use Rattle.std.specs.Prelude.{◌≡◌, ◌≤◌, ◌⊎◌, ◌↔◌, ◌∷◌, ◌++◌, [], ℕ, List, length, true, false, not, Some, IfOk, IfSome, IsNone, IsSome};
 ghost use Rattle.desk_core.specs.declared.entry.Entry.{Entry};
-ghost use Rattle.web_call.specs.declared.call.Stage.TheVariants as stages;
+ghost use Rattle.web_call.specs.declared.call.CallStage.TheVariants as stages;
 ghost use Rattle.plain.specs.Answer.{IsInquiryOf};
 ghost use Rattle.plain.specs.Inquiry.{asked_of};
 ghost use Rattle.web_call.specs.Head.{IsHeaded, is_too_large};
@@ -17,7 +17,7 @@ ghost use Rattle.web_call.specs.Text.{IsTextOf};
 ghost use Rattle.web_call.specs.ResponseTexts.{watch_end};
 ghost use Rattle.web_call.specs.Walk.{AsksDoor};
 
-use super::{Call, Stage};
+use super::{Call, CallStage};
 use crate::ask::{Ask, ask_of};
 use crate::door::Door;
 use crate::head::{Headed, head_of, is_too_large};
@@ -42,7 +42,7 @@ fn last(text: Result<Text, AllocError>, outcome: Outcome) -> Call
 {
     match text {
         Ok(text) => Call {
-            stage: Stage::Ending(outcome),
+            stage: CallStage::Ending(outcome),
             outgoing: Outgoing::new(text),
         },
         Err(_) => starved(),
@@ -55,7 +55,7 @@ fn starved() -> Call
     ensures goes { GoesOut result.outgoing [] [] [] }
 {
     Call {
-        stage: Stage::Starved,
+        stage: CallStage::Starved,
         outgoing: Outgoing::new(Text::none()),
     }
 }
@@ -94,7 +94,7 @@ fn answer_body<D: Door>(alloc: Global, door: &mut D, method: Method, body: &[u8]
         Ask::Watch(name) => {
             let (watch, status) = door.open(name);
             Call {
-                stage: Stage::Watching(watch),
+                stage: CallStage::Watching(watch),
                 outgoing: Outgoing::new(Text::first(status)),
             }
         }
@@ -129,7 +129,7 @@ fn answer_plainly<D: Door>(alloc: Global, door: &mut D, inquiry: &Inquiry<'_>) -
 {
     match door.tell(alloc, inquiry) {
         Ok(text) => Call {
-            stage: Stage::Ending(Outcome::Plain),
+            stage: CallStage::Ending(Outcome::Plain),
             outgoing: Outgoing::new(Text::plain(text)),
         },
         Err(_) => starved(),
@@ -172,7 +172,7 @@ impl Call {
         ensures names { D.names door.new ≡ D.names door.old }
         ensures stays { D.stays door.old door.new }
     {
-        let Stage::Reading(intake) = &self.stage else {
+        let CallStage::Reading(intake) = &self.stage else {
             unreachable!()
         };
         let call = answer_request(alloc, door, intake);
@@ -196,7 +196,7 @@ impl Call {
         ensures names { D.names door.new ≡ D.names door.old }
         ensures stays { D.stays door.old door.new }
     {
-        let Stage::Watching(watch) = &mut self.stage else {
+        let CallStage::Watching(watch) = &mut self.stage else {
             unreachable!()
         };
         match door.step(watch) {
@@ -229,6 +229,6 @@ impl Call {
             → GoesOut self.new.outgoing (done ++ part) watch_end sent }
     {
         self.outgoing.follow(Text::end());
-        self.stage = Stage::Ending(outcome);
+        self.stage = CallStage::Ending(outcome);
     }
 }

@@ -3,7 +3,7 @@ ghost use Rattle.web_call.specs.Answer.{Source};
 ghost use Rattle.web_call.specs.Past.{Stands, Carries, begun, with_received, with_sent};
 ghost use Rattle.web_call.specs.Stages.{is_open, is_whole, is_watching, is_starved, is_answered, wanted_by, owed, to_send, being_sent, ending_of, outcome_of, is_done, frames_of, may_ask};
 
-use super::{Call, Stage};
+use super::{Call, CallStage};
 use crate::intake::{Intake, Reading};
 use crate::outcome::Outcome;
 use crate::outgoing::Outgoing;
@@ -17,7 +17,7 @@ impl Call {
         ensures is_open { IfOk result (λ call. is_open call ≡ true) }
     {
         Ok(Call {
-            stage: Stage::Reading(Intake::new(alloc)?),
+            stage: CallStage::Reading(Intake::new(alloc)?),
             outgoing: Outgoing::new(Text::none()),
         })
     }
@@ -29,7 +29,7 @@ impl Call {
         ensures is_open { is_open self.now ≡ nat_lt 0 result }
     {
         match &self.stage {
-            Stage::Reading(intake) => intake.wanted(),
+            CallStage::Reading(intake) => intake.wanted(),
             _ => 0,
         }
     }
@@ -45,7 +45,7 @@ impl Call {
         ensures unanswered { is_answered self.new ≡ is_answered self.old }
     {
         match &mut self.stage {
-            Stage::Reading(intake) => intake.give(alloc, bytes),
+            CallStage::Reading(intake) => intake.give(alloc, bytes),
             _ => 0,
         }
     }
@@ -55,7 +55,7 @@ impl Call {
         ensures { result ≡ is_whole self.now }
     {
         match &self.stage {
-            Stage::Reading(intake) => intake.reading() == Reading::Whole,
+            CallStage::Reading(intake) => intake.reading() == Reading::Whole,
             _ => false,
         }
     }
@@ -65,7 +65,7 @@ impl Call {
         ensures { result ≡ is_watching self.now }
     {
         match &self.stage {
-            Stage::Watching(_) => true,
+            CallStage::Watching(_) => true,
             _ => false,
         }
     }
@@ -75,8 +75,8 @@ impl Call {
         ensures { result ≡ is_starved self.now }
     {
         match &self.stage {
-            Stage::Reading(intake) => intake.reading() == Reading::Starved,
-            Stage::Starved => true,
+            CallStage::Reading(intake) => intake.reading() == Reading::Starved,
+            CallStage::Starved => true,
             _ => false,
         }
     }
@@ -115,7 +115,7 @@ impl Call {
         ensures { result ≡ outcome_of self.now }
     {
         match &self.stage {
-            Stage::Ending(outcome) if self.to_send().is_empty() => Some(*outcome),
+            CallStage::Ending(outcome) if self.to_send().is_empty() => Some(*outcome),
             _ => None,
         }
     }

@@ -1,6 +1,6 @@
 use Rattle.std.proofs.Common.{◌≡◌, ◌<◌, [], ◌++◌, length, map}
 use Rattle.std.specs.List.{All}
-use Rattle.hall.specs.declared.view.Stage.TheVariants.{Idle}
+use Rattle.hall.specs.declared.view.GateStage.TheVariants.{Idle}
 use Rattle.hall.specs.Seats.{SeatState, held_of}
 use Rattle.hall.proofs.closed.gather.Given as goal
 

@@ -7,12 +7,12 @@ use Rattle.desk_core.specs.Legal.{IsLegal}
 use Rattle.desk_core.specs.Past.{past}
 use Rattle.hall.specs.Gates.{IsGated}
 use Rattle.hall.specs.Steps.{Seated, Committed, seen_in}
-use Rattle.hall.specs.declared.view.Limits.{Limits}
+use Rattle.hall.specs.declared.view.HallLimits.{HallLimits}
 use Rattle.hall.proofs.Commits.{commits}
 use Rattle.hall.proofs.gate.commit.Goals as goal
 
 -- a value may be stored that is the board of the history with the entry in front
-stored : (key : Limits) (slots id : ℕ) (me held : Seated) (made entry : Entry) (board value : ℕ) → made ≡ entry → me ≡ held → value ≡ board
+stored : (key : HallLimits) (slots id : ℕ) (me held : Seated) (made entry : Entry) (board value : ℕ) → made ≡ entry → me ≡ held → value ≡ board
     → Allows (IsGated key) slots id held 0 (λ found. board) (λ found. Committed entry held board)
     → Allows (IsGated key) slots id me 0 (λ found. value) (λ found. Committed made me value)
 stored key slots id me held made entry board value making holding is step =

@@ -1,6 +1,6 @@
 use Rattle.std.proofs.Common.{◌<◌, length, sym, ap, subst, arith, ◌∙◌}
 use Rattle.hall.specs.Views.{at_stage}
-use Rattle.hall.specs.declared.view.Stage.TheVariants.{Queued}
+use Rattle.hall.specs.declared.view.GateStage.TheVariants.{Queued}
 use Rattle.hall.specs.Steps.{Seated}
 use Rattle.hall.proofs.Turns.{draws}
 use Rattle.hall.proofs.gate.draw.Goals as goal

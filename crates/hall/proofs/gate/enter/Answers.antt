@@ -1,7 +1,7 @@
 use Rattle.std.proofs.Common.{[], ◌∷◌, sym, ap, arith, ◌∙◌}
 use Rattle.std.specs.Prelude.{Some}
 use Rattle.atomic_table.specs.Table.{rest}
-use Rattle.hall.specs.declared.view.Stage.TheVariants.{Queued}
+use Rattle.hall.specs.declared.view.GateStage.TheVariants.{Queued}
 use Rattle.hall.specs.Views.{at_stage}
 use Rattle.hall.specs.Steps.{Seated, number_in, seen_in}
 use Rattle.hall.proofs.Turns.{turns, looks}

@@ -2,7 +2,7 @@ use Rattle.std.proofs.Common.{◌≡◌, ℕ, ◌+◌, ◌∷◌, [], List, ap, 
 use Rattle.std.proofs.lemmas.List.FromFn.{map-range_with_len_more}
 use Rattle.atomic_table.specs.Table.{Splits}
 use Rattle.atomic_table.specs.Seated.{TableId}
-use Rattle.hall.specs.declared.view.Limits.{Limits}
+use Rattle.hall.specs.declared.view.HallLimits.{HallLimits}
 use Rattle.hall.specs.declared.view.View.{View}
 use Rattle.hall.specs.Gates.{IsGated}
 use Rattle.hall.specs.Seats.{SeatState}
@@ -20,7 +20,7 @@ split_seat-requires g c =
       c.loop-number.invariant.0,
       omega (arith, c.requires.table.0),
       subst (λ (v : View). Splits (IsGated key) place.id v (dealer (v.dealt + 1) v.most) (seat_view v.dealt [] v.most)) (sym (ap (λ (me : Seated). me.0) c.loop-number.invariant.1))
-          (deals key place.id number c.args.most (omega (arith, c.loop-number-test.true, ap (λ (k : Limits). k.seats) c.requires.table.1))),
+          (deals key place.id number c.args.most (omega (arith, c.loop-number-test.true, ap (λ (k : HallLimits). k.seats) c.requires.table.1))),
     )
 
 pub loop-number-preserved : goal.loop-number-preserved

@@ -1,5 +1,5 @@
 use Rattle.std.proofs.Common.{ap, arith, length, subst, sym}
-use Rattle.live_run.specs.Loops.{HaveServedAll}
+use Rattle.live_run.specs.Loops.{AllEndedEmpty}
 use Rattle.live_run.specs.WholeRun.{HaveTerms}
 use Rattle.live_run.proofs.RunLemmas.{controlled_by, entries_are, has_run, has_run_beside, journal_set, missing_later, no_memory_later, looked_by, served_by}
 use Rattle.live_run.proofs.whole_run.run_live.Goals as goal
@@ -36,7 +36,7 @@ returns-clause-setup g c = λ none calls set.
     (omega (arith, c.in_default.ensures.enough, c.len.ensures, c.len-2.ensures, c.into_hall-hall.result.1.ok.0, ap length c.into_hall-hall.ensures.seats)) set
 
 pub returns-clause-servers : goal.returns-clause-servers
-returns-clause-servers g c = subst (λ servers. HaveServedAll servers c.serve-servers.result.servers.items) c.in-Ok.ensures.servers c.serve-servers.ensures.servers
+returns-clause-servers g c = subst (λ servers. AllEndedEmpty servers c.serve-servers.result.servers.items) c.in-Ok.ensures.servers c.serve-servers.ensures.servers
 
 pub serve-servers-requires-clause-terms : goal.serve-servers-requires-clause-terms
 serve-servers-requires-clause-terms g c κs within = subst (λ hall. HaveTerms hall.most c.args.places) (sym c.into_hall-hall.ensures.hall) c.requires.terms

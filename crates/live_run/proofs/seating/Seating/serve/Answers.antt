@@ -1,5 +1,5 @@
 use Rattle.std.proofs.Common.{sym, subst, map, vec_len, get_or, ◌∙◌, ◌++◌}
-use Rattle.live_run.specs.Loops.{HaveServedAll, SeatsHaveLooked, SeatsHaveServed}
+use Rattle.live_run.specs.Loops.{AllEndedEmpty, SeatsHaveLooked, SeatsAfterRun}
 use Rattle.live_run.specs.Seating.{seats_of, servers_of}
 use Rattle.live_run.specs.Watched.{IsWatchedBy}
 use Rattle.live_run.specs.declared.ran.SessionPlaces.{SessionPlaces}
@@ -11,9 +11,9 @@ returns-clause-served g c =
     let hall = c.args.hall.now in
     let loops = vec_len c.args.self.loops in
     let controlled = vec_len c.args.self.control in
-    subst (λ seats. SeatsHaveServed g.K.Keep.kept c.args.places.watchdog c.give_back.result.places.watchdog hall.most hall.names loops controlled (seats_of c.args.self) seats)
+    subst (λ seats. SeatsAfterRun g.K.Keep.kept c.args.places.watchdog c.give_back.result.places.watchdog hall.most hall.names loops controlled (seats_of c.args.self) seats)
     (sym c.give_back.ensures.seats)
-    (subst (λ (places : SessionPlaces). SeatsHaveServed g.K.Keep.kept c.args.places.watchdog places.watchdog hall.most hall.names loops controlled (seats_of c.args.self) (c.serve_watched-watched.result.0.seats.items ++ (map (λ seated. seated.seat) c.serve_watched-watched.result.1.1.1.items ++ (c.serve_watched-watched.result.1.1.0.seats.items ++ c.serve_watched-watched.result.1.0.seats.items))))
+    (subst (λ (places : SessionPlaces). SeatsAfterRun g.K.Keep.kept c.args.places.watchdog places.watchdog hall.most hall.names loops controlled (seats_of c.args.self) (c.serve_watched-watched.result.0.seats.items ++ (map (λ seated. seated.seat) c.serve_watched-watched.result.1.1.1.items ++ (c.serve_watched-watched.result.1.1.0.seats.items ++ c.serve_watched-watched.result.1.0.seats.items))))
     (sym c.give_back.ensures.places)
     (seats_served g.K.Keep.kept c.args.places.watchdog c.serve_watched-watched.result.0.watchdog hall.most hall.names c.args.self.back.seats.items c.serve_watched-watched.result.0.seats.items
     c.args.self.control.items c.serve_watched-watched.result.1.1.0.seats.items c.args.self.report.items c.serve_watched-watched.result.1.0.seats.items c.args.self.loops.items
@@ -55,6 +55,6 @@ returns-clause-looked g c = λ none.
 
 pub returns-clause-servers : goal.returns-clause-servers
 returns-clause-servers g c =
-    subst (λ servers. HaveServedAll (servers_of c.args.self) servers) (sym c.give_back.ensures.servers)
+    subst (λ servers. AllEndedEmpty (servers_of c.args.self) servers) (sym c.give_back.ensures.servers)
     (servers_served c.args.self.loops.items c.serve_watched-watched.result.1.1.1.items
     (sym c.serve_watched-watched.result.1.1.1.ok.0 ∙ (c.serve_watched-watched.ensures.len ∙ c.args.self.loops.ok.0)) c.serve_watched-watched.ensures.served)

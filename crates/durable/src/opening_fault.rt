@@ -5,7 +5,7 @@ use std::io;
 
 /// Why a run does not begin with the history in a file.
 #[derive(Clone, Copy, Debug, Drop)]
-pub enum JournalFault {
+pub enum OpeningFault {
     Memory,
     /// An error of the system.
     System(io::Error),
@@ -22,44 +22,44 @@ pub enum JournalFault {
     NotStored,
 }
 
-impl From<AllocError> for JournalFault {
+impl From<AllocError> for OpeningFault {
     fn from(_: AllocError) -> Self {
-        JournalFault::Memory
+        OpeningFault::Memory
     }
 }
 
-impl<T: Drop> From<AllocFailed<T>> for JournalFault {
+impl<T: Drop> From<AllocFailed<T>> for OpeningFault {
     fn from(_: AllocFailed<T>) -> Self {
-        JournalFault::Memory
+        OpeningFault::Memory
     }
 }
 
-impl From<FileError> for JournalFault {
+impl From<FileError> for OpeningFault {
     fn from(error: FileError) -> Self {
         match error {
-            FileError::Memory => JournalFault::Memory,
-            FileError::Io(error) => JournalFault::System(error),
-            FileError::InUse => JournalFault::InUse,
-            FileError::NotAFile => JournalFault::NotAFile,
+            FileError::Memory => OpeningFault::Memory,
+            FileError::Io(error) => OpeningFault::System(error),
+            FileError::InUse => OpeningFault::InUse,
+            FileError::NotAFile => OpeningFault::NotAFile,
         }
     }
 }
 
-impl JournalFault {
+impl OpeningFault {
     /// The device could not store something, for this error of the system, if it is known.
-    pub(crate) fn of_device(error: Option<io::Error>) -> JournalFault {
+    pub(crate) fn of_device(error: Option<io::Error>) -> OpeningFault {
         match error {
-            Some(error) => JournalFault::System(error),
-            None => JournalFault::NotStored,
+            Some(error) => OpeningFault::System(error),
+            None => OpeningFault::NotStored,
         }
     }
 
     /// The file was not opened, for this error of the system, if it is known.
-    pub(crate) fn of_opening(fault: OpenError, error: Option<io::Error>) -> JournalFault {
+    pub(crate) fn of_opening(fault: OpenError, error: Option<io::Error>) -> OpeningFault {
         match fault {
-            OpenError::Memory => JournalFault::Memory,
-            OpenError::Failed => JournalFault::of_device(error),
-            OpenError::Damaged(at) => JournalFault::Damaged(at),
+            OpenError::Memory => OpeningFault::Memory,
+            OpenError::Failed => OpeningFault::of_device(error),
+            OpenError::Damaged(at) => OpeningFault::Damaged(at),
         }
     }
 }

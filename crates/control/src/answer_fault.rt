@@ -1,5 +1,5 @@
 ghost use Rattle.std.specs.Prelude.{◌≡◌};
-ghost use Rattle.control.specs.declared.tell_fault.TellFault.TheVariants.{OutOfMemory};
+ghost use Rattle.control.specs.declared.answer_fault.AnswerFault.TheVariants.{OutOfMemory};
 
 use std::alloc::{AllocError, AllocFailed};
 use std::io;
@@ -7,7 +7,7 @@ use thiserror::Error;
 
 /// Why a line has no answer.
 #[derive(Clone, Copy, Debug, Error)]
-pub enum TellFault {
+pub enum AnswerFault {
     /// A write or a flush returned this error, or a write took no byte.
     #[error("write: {0}")]
     Write(io::Error),
@@ -24,18 +24,18 @@ pub enum TellFault {
     OutOfMemory,
 }
 
-impl From<AllocError> for TellFault {
+impl From<AllocError> for AnswerFault {
     ghost from_gives = { λ _ fault. fault ≡ OutOfMemory };
 
-    fn from(_error: AllocError) -> TellFault {
-        TellFault::OutOfMemory
+    fn from(_error: AllocError) -> AnswerFault {
+        AnswerFault::OutOfMemory
     }
 }
 
-impl<T: Drop> From<AllocFailed<T>> for TellFault {
+impl<T: Drop> From<AllocFailed<T>> for AnswerFault {
     ghost from_gives = { λ _ fault. fault ≡ OutOfMemory };
 
-    fn from(_error: AllocFailed<T>) -> TellFault {
-        TellFault::OutOfMemory
+    fn from(_error: AllocFailed<T>) -> AnswerFault {
+        AnswerFault::OutOfMemory
     }
 }

@@ -1,5 +1,5 @@
 ghost use Rattle.std.specs.Prelude.{◌≡◌, ◌≢◌, ℕ};
-ghost use Rattle.journal_lines.specs.declared.journal_fault.JournalFault.TheVariants.{Damaged, Memory};
+ghost use Rattle.journal_lines.specs.declared.printing_fault.PrintingFault.TheVariants.{Damaged, Memory};
 
 use std::alloc::{AllocError, AllocFailed};
 use std::io::ErrorKind;
@@ -7,7 +7,7 @@ use std::{fmt, io};
 
 /// Why the entries of a journal's file are not printed.
 #[derive(Clone, Copy, Debug, Drop)]
-pub enum JournalFault {
+pub enum PrintingFault {
     /// There is no plain file.
     NotAFile,
     /// What begins at this byte of the file is nothing that a server writes, and no crash leaves it.
@@ -19,50 +19,50 @@ pub enum JournalFault {
     Memory,
 }
 
-impl JournalFault {
+impl PrintingFault {
     /// What an error of reading the file comes to.
-    pub(crate) fn of_reading(error: io::Error) -> JournalFault {
+    pub(crate) fn of_reading(error: io::Error) -> PrintingFault {
         match error.kind() {
-            ErrorKind::OutOfMemory => JournalFault::Memory,
-            _ => JournalFault::Read(error),
+            ErrorKind::OutOfMemory => PrintingFault::Memory,
+            _ => PrintingFault::Read(error),
         }
     }
 
     /// What an error of printing comes to.
-    pub(crate) fn of_writing(error: io::Error) -> JournalFault
+    pub(crate) fn of_writing(error: io::Error) -> PrintingFault
         ensures { (at : ℕ) → result ≢ Damaged at }
     {
         match error.kind() {
-            ErrorKind::OutOfMemory => JournalFault::Memory,
-            _ => JournalFault::Write(error),
+            ErrorKind::OutOfMemory => PrintingFault::Memory,
+            _ => PrintingFault::Write(error),
         }
     }
 }
 
-impl From<AllocError> for JournalFault {
+impl From<AllocError> for PrintingFault {
     ghost from_gives = { λ _ fault. fault ≡ Memory };
 
     fn from(_: AllocError) -> Self {
-        JournalFault::Memory
+        PrintingFault::Memory
     }
 }
 
-impl<T: Drop> From<AllocFailed<T>> for JournalFault {
+impl<T: Drop> From<AllocFailed<T>> for PrintingFault {
     ghost from_gives = { λ _ fault. fault ≡ Memory };
 
     fn from(_: AllocFailed<T>) -> Self {
-        JournalFault::Memory
+        PrintingFault::Memory
     }
 }
 
-impl fmt::Display for JournalFault {
+impl fmt::Display for PrintingFault {
     fn fmt<W: fmt::Write>(&self, f: &mut fmt::Formatter<W>) -> fmt::Result {
         match self {
-            JournalFault::NotAFile => f.write_str("not a file"),
-            JournalFault::Damaged(at) => write!(f, "damaged at byte {at}"),
-            JournalFault::Read(error) => write!(f, "{error}"),
-            JournalFault::Write(error) => write!(f, "write: {error}"),
-            JournalFault::Memory => f.write_str("out of memory"),
+            PrintingFault::NotAFile => f.write_str("not a file"),
+            PrintingFault::Damaged(at) => write!(f, "damaged at byte {at}"),
+            PrintingFault::Read(error) => write!(f, "{error}"),
+            PrintingFault::Write(error) => write!(f, "write: {error}"),
+            PrintingFault::Memory => f.write_str("out of memory"),
         }
     }
 }
