@@ -1,11 +1,11 @@
 //! What a server is told is expected of services that are checked.
 
+use crate::same::same;
 use control::Session;
 use control::one_thread::{OneThread, Told};
 use probe_core::{Maker, Rule, Threshold};
 use std::alloc::{AllocError, Global};
-use std::test::Fail;
-use test_support::same;
+use std::process::Abort;
 
 /// Makes services that are checked. There is no memory for one of another rule.
 struct Thresholds;
@@ -56,47 +56,48 @@ struct Scene {
 }
 
 impl Scene {
-    fn new(alloc: Global) -> Result<Scene, Fail> {
-        let console = OneThread::new(alloc)?;
-        let session = Session::new(alloc)?;
-        Ok(Scene {
+    fn new(rt: &impl Abort, alloc: Global) -> Scene {
+        let console = match OneThread::new(alloc) {
+            Ok(console) => console,
+            Err(_) => panic!(rt; "no registry"),
+        };
+        let session = Session::new(alloc).expect(rt, "memory");
+        Scene {
             alloc,
             console,
             server: Told::NOTHING,
             session,
-        })
+        }
     }
 
     /// Lets the session answer a line.
-    fn answer(&mut self, line: &[u8], expected: &[u8]) -> Result<(), Fail> {
+    fn answer(&mut self, rt: &impl Abort, line: &[u8], expected: &[u8]) {
         self.session.give(line);
         if self.session.has_line() && self.session.to_send().is_empty() {
             self.session.answer(self.alloc, &mut self.console, &mut self.server, &Thresholds);
         }
         let waiting = self.session.to_send();
         let count = waiting.len();
-        same(&waiting, &expected, &line)?;
+        same(rt, &waiting, &expected, &line);
         self.session.sent(count);
-        Ok(())
     }
 
     /// A line has this answer, and the server was told that newest.
-    fn expect(&mut self, row: &Row) -> Result<(), Fail> {
+    fn expect(&mut self, rt: &impl Abort, row: &Row) {
         let (line, answer, told) = row;
-        self.answer(line, answer)?;
-        same(&self.server.expected, told, line)
+        self.answer(rt, line, answer);
+        same(rt, &self.server.expected, told, line);
     }
 
-    fn expect_all(&mut self) -> Result<(), Fail> {
+    fn expect_all(&mut self, rt: &impl Abort) {
         for row in &LINES {
-            self.expect(row)?;
+            self.expect(rt, row);
         }
-        Ok(())
     }
 }
 
 #[test]
-fn tells_the_server_what_is_expected_exactly_where_it_is_done(rt: HostRuntime) -> Result<(), Fail> {
-    let mut scene = Scene::new(rt.alloc())?;
-    scene.expect_all()
+fn tells_the_server_what_is_expected_exactly_where_it_is_done(rt: HostRuntime) {
+    let mut scene = Scene::new(&rt, rt.alloc());
+    scene.expect_all(&rt);
 }

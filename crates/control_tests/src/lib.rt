@@ -10,6 +10,8 @@ mod places;
 #[cfg(test)]
 mod rights;
 #[cfg(test)]
+mod same;
+#[cfg(test)]
 mod telling;
 #[cfg(test)]
 mod texts;

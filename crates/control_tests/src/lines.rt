@@ -1,9 +1,9 @@
+use crate::same::same;
 use control::one_thread::{Manuals, OneThread, Told};
 use control::{Answer, Rights, Session};
 use probe_core::Manual;
 use std::alloc::Global;
-use std::test::Fail;
-use test_support::same;
+use std::process::Abort;
 
 /// Lines one after the other, and what is answered.
 const LINES: [(&[u8], &[u8]); 55] = [
@@ -94,8 +94,7 @@ const LINES: [(&[u8], &[u8]); 55] = [
 /// More steps than any test needs.
 const MOST_STEPS: u32 = 4_096;
 
-/// A session over a registry of one thread, and all that it has answered. A test lends it to a function that has the steps: each exit of
-/// one that owns it would have to be proved to drop it.
+/// A session over a registry of one thread, and all that it has answered.
 #[derive(Drop)]
 struct Scene {
     alloc: Global,
@@ -106,23 +105,26 @@ struct Scene {
 }
 
 impl Scene {
-    fn new(alloc: Global) -> Result<Scene, Fail> {
-        let console = OneThread::new(alloc)?;
-        let session = Session::new(alloc)?;
-        Ok(Scene {
+    fn new(rt: &impl Abort, alloc: Global) -> Scene {
+        let console = match OneThread::new(alloc) {
+            Ok(console) => console,
+            Err(_) => panic!(rt; "no registry"),
+        };
+        let session = Session::new(alloc).expect(rt, "memory");
+        Scene {
             alloc,
             console,
             server: Told::NOTHING,
             session,
             answers: Vec::new(alloc),
-        })
+        }
     }
 
     /// Lets the session answer all lines that it has, and puts the answers behind those that came before.
-    fn answer_all(&mut self) -> Result<(), Fail> {
+    fn answer_all(&mut self, rt: &impl Abort) {
         for _ in 0..MOST_STEPS {
             if !self.session.has_line() {
-                return Ok(());
+                return;
             }
             if self.session.to_send().is_empty() {
                 self.session
@@ -130,73 +132,77 @@ impl Scene {
             }
             let waiting = self.session.to_send();
             let count = waiting.len();
-            self.answers.extend_from_slice(waiting)?;
+            self.answers.extend_from_slice(waiting).expect(rt, "memory");
             self.session.sent(count);
         }
-        Err(Fail::new("lines without end"))
+        panic!(rt; "lines without end");
     }
 
     /// Lets it answer bytes that come in pieces of at most so many.
-    fn answer_pieces(&mut self, bytes: &[u8], most: usize) -> Result<(), Fail> {
+    fn answer_pieces(&mut self, rt: &impl Abort, bytes: &[u8], most: usize) {
         let mut rest = bytes;
         for _ in 0..MOST_STEPS {
             if rest.is_empty() {
-                return Ok(());
+                return;
             }
             let taken = self.session.give(&rest[..most.min(rest.len())]);
             rest = &rest[taken..];
-            self.answer_all()?;
+            self.answer_all(rt);
         }
-        Err(Fail::new("bytes without end"))
+        panic!(rt; "bytes without end");
     }
 
     /// Lets it answer bytes behind which no more come.
-    fn answer_last(&mut self, bytes: &[u8]) -> Result<(), Fail> {
+    fn answer_last(&mut self, rt: &impl Abort, bytes: &[u8]) {
         self.session.give(bytes);
         self.session.end();
-        self.answer_all()
+        self.answer_all(rt);
     }
 }
 
 /// Bytes that come in pieces of at most so many have these answers.
-fn expect_in_pieces(alloc: Global, bytes: &[u8], most: usize, expected: &[u8]) -> Result<(), Fail> {
-    let mut scene = Scene::new(alloc)?;
-    scene.answer_pieces(bytes, most)?;
-    same(&scene.answers.as_slice(), &expected, &most)
+fn expect_in_pieces(rt: &impl Abort, alloc: Global, bytes: &[u8], most: usize, expected: &[u8]) {
+    let mut scene = Scene::new(rt, alloc);
+    scene.answer_pieces(rt, bytes, most);
+    same(rt, &scene.answers.as_slice(), &expected, &most);
 }
 
 #[test]
-fn answers_lines_in_their_order_in_any_pieces(rt: HostRuntime) -> Result<(), Fail> {
+fn answers_lines_in_their_order_in_any_pieces(rt: HostRuntime) {
     let alloc = rt.alloc();
     let mut bytes = Vec::new(alloc);
     let mut expected = Vec::new(alloc);
     for (line, answer) in &LINES {
-        bytes.extend_from_slice(line)?;
-        expected.extend_from_slice(answer)?;
+        bytes.extend_from_slice(line).expect(&rt, "memory");
+        expected.extend_from_slice(answer).expect(&rt, "memory");
     }
     for most in [1usize, 2, 3, 5, 7, 64, 1_025, 4_096] {
-        expect_in_pieces(alloc, &bytes, most, &expected)?;
+        expect_in_pieces(&rt, alloc, &bytes, most, &expected);
     }
-    Ok(())
 }
 
-fn answer_too_long(scene: &mut Scene) -> Result<(), Fail> {
+fn answer_too_long(rt: &impl Abort, scene: &mut Scene) {
     let session = &mut scene.session;
-    same(&session.give(&[b'a'; 2_000]), &1_025, &"taken")?;
-    same(&session.has_line(), &true, &"a line")?;
+    same(rt, &session.give(&[b'a'; 2_000]), &1_025, &"taken");
+    assert!(rt; session.has_line(), "a line");
     if session.has_line() && session.to_send().is_empty() {
         let answer = session.answer(scene.alloc, &mut scene.console, &mut scene.server, &Manuals);
-        same(&answer, &Answer::TooLong, &"answer")?;
+        same(rt, &answer, &Answer::TooLong, &"answer");
     }
-    same(&session.to_send(), &b"line too long\n".as_slice(), &"text")?;
-    same(&session.is_over(), &true, &"its end")?;
-    same(&session.has_line(), &false, &"no more")
+    same(
+        rt,
+        &session.to_send(),
+        &b"line too long\n".as_slice(),
+        &"text",
+    );
+    assert!(rt; session.is_over(), "its end");
+    assert!(rt; !session.has_line(), "no more");
 }
 
 #[test]
-fn ends_at_a_line_that_is_too_long(rt: HostRuntime) -> Result<(), Fail> {
-    let mut scene = Scene::new(rt.alloc())?;
-    answer_too_long(&mut scene)
+fn ends_at_a_line_that_is_too_long(rt: HostRuntime) {
+    let mut scene = Scene::new(&rt, rt.alloc());
+    answer_too_long(&rt, &mut scene);
 }
 
 /// What is given before no more bytes come, and what is answered.
@@ -208,18 +214,17 @@ const LAST: [(&[u8], &[u8]); 4] = [
 ];
 
 /// Bytes behind which no more come have these answers.
-fn expect_last(alloc: Global, bytes: &[u8], expected: &[u8]) -> Result<(), Fail> {
-    let mut scene = Scene::new(alloc)?;
-    scene.answer_last(bytes)?;
-    same(&scene.answers.as_slice(), &expected, &bytes)
+fn expect_last(rt: &impl Abort, alloc: Global, bytes: &[u8], expected: &[u8]) {
+    let mut scene = Scene::new(rt, alloc);
+    scene.answer_last(rt, bytes);
+    same(rt, &scene.answers.as_slice(), &expected, &bytes);
 }
 
 #[test]
-fn takes_a_last_line_that_has_no_lf(rt: HostRuntime) -> Result<(), Fail> {
+fn takes_a_last_line_that_has_no_lf(rt: HostRuntime) {
     for (bytes, expected) in &LAST {
-        expect_last(rt.alloc(), bytes, expected)?;
+        expect_last(&rt, rt.alloc(), bytes, expected);
     }
-    Ok(())
 }
 
 /// A line, and what the server has been told behind it: how often that a status changed, and how often to end.
@@ -266,65 +271,63 @@ const WAKES: [&[Row]; 4] = [
     ],
 ];
 
-fn expect_told(scene: &mut Scene, rows: &[Row]) -> Result<(), Fail> {
+fn expect_told(rt: &impl Abort, scene: &mut Scene, rows: &[Row]) {
     for (line, wakes, stops) in rows {
         scene.session.give(line);
-        scene.answer_all()?;
+        scene.answer_all(rt);
         let told = Told {
             rights: Rights::All,
             wakes: *wakes,
             expected: None,
             stops: *stops,
         };
-        same(&scene.server, &told, line)?;
+        same(rt, &scene.server, &told, line);
     }
-    Ok(())
 }
 
-fn expect_told_anew(alloc: Global, rows: &[Row]) -> Result<(), Fail> {
-    let mut scene = Scene::new(alloc)?;
-    expect_told(&mut scene, rows)
+fn expect_told_anew(rt: &impl Abort, alloc: Global, rows: &[Row]) {
+    let mut scene = Scene::new(rt, alloc);
+    expect_told(rt, &mut scene, rows);
 }
 
 #[test]
-fn wakes_the_server_after_each_change_that_shows_and_no_other(rt: HostRuntime) -> Result<(), Fail> {
+fn wakes_the_server_after_each_change_that_shows_and_no_other(rt: HostRuntime) {
     for rows in WAKES {
-        expect_told_anew(rt.alloc(), rows)?;
+        expect_told_anew(&rt, rt.alloc(), rows);
     }
-    Ok(())
 }
 
 /// Lines that say nothing, and one behind them, are as many bytes as fit.
-fn fill(scene: &mut Scene, bytes: &[u8]) -> Result<(), Fail> {
+fn fill(rt: &impl Abort, scene: &mut Scene, bytes: &[u8]) {
     let session = &mut scene.session;
-    same(&session.give(bytes), &1_025, &"taken")?;
+    same(rt, &session.give(bytes), &1_025, &"taken");
     session.end();
-    same(&session.room(), &0, &"room")?;
+    same(rt, &session.room(), &0, &"room");
     session.end();
-    same(&session.give(b"list\n"), &0, &"more")?;
-    scene.answer_all()?;
+    same(rt, &session.give(b"list\n"), &0, &"more");
+    scene.answer_all(rt);
     same(
+        rt,
         &scene.answers.as_slice(),
         &b"not found\n".as_slice(),
         &"answers",
-    )
+    );
 }
 
 #[test]
-fn takes_a_last_line_that_has_no_lf_behind_all_that_fits(rt: HostRuntime) -> Result<(), Fail> {
+fn takes_a_last_line_that_has_no_lf_behind_all_that_fits(rt: HostRuntime) {
     let alloc = rt.alloc();
-    let mut bytes = vec![in alloc; b'\n'; 1_018]?;
-    bytes.extend_from_slice(b"check a")?;
-    let mut scene = Scene::new(alloc)?;
-    fill(&mut scene, &bytes)
+    let mut bytes = vec![in alloc; b'\n'; 1_018].expect(&rt, "memory");
+    bytes.extend_from_slice(b"check a").expect(&rt, "memory");
+    let mut scene = Scene::new(&rt, alloc);
+    fill(&rt, &mut scene, &bytes);
 }
 
 #[test]
-fn ends_at_a_last_line_that_is_too_long(rt: HostRuntime) -> Result<(), Fail> {
+fn ends_at_a_last_line_that_is_too_long(rt: HostRuntime) {
     let alloc = rt.alloc();
     for (len, expected) in [(1_024usize, "bad line\n"), (1_025, "line too long\n")] {
-        let bytes = vec![in alloc; b'x'; len]?;
-        expect_last(alloc, &bytes, expected.as_bytes())?;
+        let bytes = vec![in alloc; b'x'; len].expect(&rt, "memory");
+        expect_last(&rt, alloc, &bytes, expected.as_bytes());
     }
-    Ok(())
 }

@@ -1,10 +1,11 @@
+use crate::same::same;
 use control::{
-    LINE_ROOM, LineEnd, TellFault, is_one_line, is_refused, is_turned_away, read_line, tell,
+    AnswerFault, LINE_ROOM, LineEnd, is_one_line, is_refused, is_turned_away, read_line, tell,
 };
 use std::alloc::Global;
 use std::io::ErrorKind;
-use std::test::Fail;
-use test_support::{Fault, FaultyReader, FaultyWriter, Scarcity, same};
+use std::process::Abort;
+use test_support::{Fault, FaultyReader, FaultyWriter, Scarcity};
 
 /// A line, what the server sends, the answer, and what is not read.
 type Row = (
@@ -27,37 +28,35 @@ const ANSWERS: [Row; 7] = [
 
 /// What is told of a line that has no line feed.
 fn told<'a>(
+    rt: &impl Abort,
     alloc: Global,
     reader: &mut FaultyReader<'a>,
     writer: &mut FaultyWriter,
     line: &[u8],
-) -> Result<Result<Option<Vec<u8>>, TellFault>, Fail> {
-    if is_one_line(line) {
-        return Ok(tell(alloc, reader, writer, line));
-    }
-    Err(Fail::new(format_args!("{line:?} has a line feed")))
+) -> Result<Option<Vec<u8>>, AnswerFault> {
+    assert!(rt; is_one_line(line), "{line:?} has a line feed");
+    tell(alloc, reader, writer, line)
 }
 
-fn expect_answer(alloc: Global, row: &Row) -> Result<(), Fail> {
+fn expect_answer(rt: &impl Abort, alloc: Global, row: &Row) {
     let mut reader = FaultyReader::new(row.1, 0, Fault::Nothing);
     let mut writer = FaultyWriter::new(alloc, 3, 0, Fault::Nothing);
-    let Ok(answer) = told(alloc, &mut reader, &mut writer, row.0)? else {
-        return Err(Fail::new(format_args!("a fault at {row:?}")));
+    let Ok(answer) = told(rt, alloc, &mut reader, &mut writer, row.0) else {
+        panic!(rt; "a fault at {row:?}");
     };
-    let mut sent = Vec::from_slice(alloc, row.0)?;
-    sent.push(b'\n')?;
-    same(&answer.as_deref(), &row.2, &row)?;
-    same(&reader.rest(), &row.3, &row)?;
-    same(&writer.written(), &sent.as_slice(), &row)?;
-    same(&writer.flushes(), &[sent.len()].as_slice(), &row)
+    let mut sent = Vec::from_slice(alloc, row.0).expect(rt, "memory");
+    sent.push(b'\n').expect(rt, "memory");
+    same(rt, &answer.as_deref(), &row.2, &row);
+    same(rt, &reader.rest(), &row.3, &row);
+    same(rt, &writer.written(), &sent.as_slice(), &row);
+    same(rt, &writer.flushes(), &[sent.len()].as_slice(), &row);
 }
 
 #[test]
-fn sends_a_line_and_reads_its_answer_and_no_more(rt: HostRuntime) -> Result<(), Fail> {
+fn sends_a_line_and_reads_its_answer_and_no_more(rt: HostRuntime) {
     for row in &ANSWERS {
-        expect_answer(rt.alloc(), row)?;
+        expect_answer(&rt, rt.alloc(), row);
     }
-    Ok(())
 }
 
 /// The faulty read and the faulty write, counted from 1, what is faulty about it, the text of the fault, how many bytes of a line were
@@ -109,53 +108,48 @@ const FAULTS: [(usize, usize, Fault, &str, usize, usize); 8] = [
     ),
 ];
 
-fn expect_fault(
-    alloc: Global,
-    row: &(usize, usize, Fault, &str, usize, usize),
-) -> Result<(), Fail> {
+fn expect_fault(rt: &impl Abort, alloc: Global, row: &(usize, usize, Fault, &str, usize, usize)) {
     let mut reader = FaultyReader::new(b"done\n", row.0, row.2);
     let mut writer = FaultyWriter::new(alloc, 3, row.1, row.2);
-    let Err(fault) = told(alloc, &mut reader, &mut writer, b"pass db")? else {
-        return Err(Fail::new(format_args!("no fault at {row:?}")));
+    let Err(fault) = told(rt, alloc, &mut reader, &mut writer, b"pass db") else {
+        panic!(rt; "no fault at {row:?}");
     };
-    let text = format!(in alloc; "{fault}")?;
-    same(&text.as_str(), &row.3, &row)?;
-    same(&writer.written().len(), &row.4, &row)?;
-    same(&reader.calls(), &row.5, &row)
+    let text = format!(in alloc; "{fault}").expect(rt, "memory");
+    same(rt, &text.as_str(), &row.3, &row);
+    same(rt, &writer.written().len(), &row.4, &row);
+    same(rt, &reader.calls(), &row.5, &row);
 }
 
 #[test]
-fn tells_a_read_or_a_write_that_fails(rt: HostRuntime) -> Result<(), Fail> {
+fn tells_a_read_or_a_write_that_fails(rt: HostRuntime) {
     for row in &FAULTS {
-        expect_fault(rt.alloc(), row)?;
+        expect_fault(&rt, rt.alloc(), row);
     }
-    Ok(())
 }
 
 /// The answer to a line where the server sends so many bytes and LF.
-fn long_answer(alloc: Global, len: usize) -> Result<Result<Option<Vec<u8>>, TellFault>, Fail> {
-    let mut input = vec![in alloc; b'a'; len]?;
-    input.push(b'\n')?;
+fn long_answer(rt: &impl Abort, alloc: Global, len: usize) -> Result<Option<Vec<u8>>, AnswerFault> {
+    let mut input = vec![in alloc; b'a'; len].expect(rt, "memory");
+    input.push(b'\n').expect(rt, "memory");
     let mut reader = FaultyReader::new(&input, 0, Fault::Nothing);
     let mut writer = FaultyWriter::new(alloc, 64, 0, Fault::Nothing);
-    told(alloc, &mut reader, &mut writer, b"list")
+    told(rt, alloc, &mut reader, &mut writer, b"list")
 }
 
 #[test]
-fn reads_no_answer_of_over_64_kib(rt: HostRuntime) -> Result<(), Fail> {
+fn reads_no_answer_of_over_64_kib(rt: HostRuntime) {
     let alloc = rt.alloc();
-    let longest = long_answer(alloc, 65_536)?;
+    let longest = long_answer(&rt, alloc, 65_536);
     let len = match &longest {
         Ok(Some(answer)) => answer.len(),
         _ => 0,
     };
-    same(&len, &65_536, &"the longest answer")?;
-    let longer = long_answer(alloc, 65_537)?;
-    same(
-        &matches!(longer, Err(TellFault::TooLong)),
-        &true,
-        &"one byte more",
-    )
+    same(&rt, &len, &65_536, &"the longest answer");
+    let longer = long_answer(&rt, alloc, 65_537);
+    assert!(rt;
+        matches!(longer, Err(AnswerFault::TooLong)),
+        "one byte more"
+    );
 }
 
 /// Each answer of a session, and whether it is a refusal.
@@ -185,17 +179,17 @@ const REFUSALS: [(&[u8], bool); 21] = [
 ];
 
 #[test]
-fn tells_refusals_from_answers(_rt: HostRuntime) -> Result<(), Fail> {
+fn tells_refusals_from_answers(rt: HostRuntime) {
     for (answer, expected) in &REFUSALS {
-        same(&is_refused(answer), expected, answer)?;
+        same(&rt, &is_refused(answer), expected, answer);
     }
-    same(&is_turned_away(b"too many sessions"), &true, &"turned away")?;
-    same(&is_turned_away(b"too many"), &false, &"another text")
+    assert!(rt; is_turned_away(b"too many sessions"), "turned away");
+    assert!(rt; !is_turned_away(b"too many"), "another text");
 }
 
 /// The lines of an input, and how the last one ended.
 #[test]
-fn reads_lines_up_to_the_end_of_an_input(rt: HostRuntime) -> Result<(), Fail> {
+fn reads_lines_up_to_the_end_of_an_input(rt: HostRuntime) {
     let mut input = b"pass db\n\nfail db".as_slice();
     for (text, end) in [
         (b"pass db".as_slice(), LineEnd::LineFeed),
@@ -203,33 +197,37 @@ fn reads_lines_up_to_the_end_of_an_input(rt: HostRuntime) -> Result<(), Fail> {
         (b"fail db", LineEnd::Input),
         (b"", LineEnd::Input),
     ] {
-        let mut line = Vec::with_capacity(rt.alloc(), LINE_ROOM)?;
-        let found = read_line(&mut input, &mut line)?;
-        same(&(line.as_slice(), found), &(text, end), &text)?;
+        let mut line = Vec::with_capacity(rt.alloc(), LINE_ROOM).expect(&rt, "memory");
+        let found = read_line(&mut input, &mut line).expect(&rt, "memory");
+        same(&rt, &(line.as_slice(), found), &(text, end), &text);
     }
-    Ok(())
 }
 
 /// An answer of `OutOfMemory` in place of every other meets the contract of `tell`: `always_out_of_memory` is refused here.
 #[test]
-fn sends_nothing_where_memory_runs_out(rt: HostRuntime) -> Result<(), Fail> {
+fn sends_nothing_where_memory_runs_out(rt: HostRuntime) {
     let alloc = rt.alloc();
     let mut sent = [0u8; 64];
-    let scarcity = Scarcity::new(alloc, 100_000)?;
+    let scarcity = Scarcity::new(alloc, 100_000).expect(&rt, "scarcity");
     let (mut refused, mut whole) = (0u32, 0u32);
+    let mut moved = None;
     for step in 0..24usize {
-        let filler = scarcity.leave(step * 4_096)?;
+        let filler = scarcity.leave(step * 4_096).expect(&rt, "the room");
         let mut reader = b"done\n".as_slice();
         let mut writer = sent.as_mut_slice();
         match tell(alloc, &mut reader, &mut writer, b"pass db") {
             Ok(_) => whole = whole.wrapping_add(1),
             Err(_) => {
-                same(&(reader.len(), writer.len()), &(5, 64), &step)?;
                 refused = refused.wrapping_add(1);
+                if (reader.len(), writer.len()) != (5, 64) {
+                    moved = Some(step);
+                }
             }
         }
         drop(filler);
     }
     drop(scarcity);
-    same(&(refused > 0, whole > 0), &(true, true), &"refused, whole")
+    same(&rt, &moved, &None, &"a step that read or wrote");
+    assert!(rt; refused > 0, "refused");
+    assert!(rt; whole > 0, "whole");
 }

@@ -1,6 +1,5 @@
+use crate::same::same;
 use control::Place;
-use std::test::Fail;
-use test_support::same;
 
 /// Texts, and which places they are.
 const TEXTS: [(&str, Option<Kind>); 15] = [
@@ -39,32 +38,30 @@ fn read_as(text: &str) -> Option<Kind> {
 }
 
 #[test]
-fn reads_loopback_addresses_and_paths(_rt: HostRuntime) -> Result<(), Fail> {
+fn reads_loopback_addresses_and_paths(rt: HostRuntime) {
     for (text, expected) in &TEXTS {
-        same(&read_as(text), expected, text)?;
+        same(&rt, &read_as(text), expected, text);
     }
-    Ok(())
 }
 
 #[test]
-fn writes_a_place_as_it_is_read(rt: HostRuntime) -> Result<(), Fail> {
+fn writes_a_place_as_it_is_read(rt: HostRuntime) {
     for text in &["127.0.0.1:9000", "[::1]:0", "/run/healthd.sock"] {
         let Some(place) = Place::read(text) else {
-            return Err(Fail::new("no place"));
+            panic!(rt; "no place");
         };
-        same(&format!(in rt.alloc(); "{place}")?.as_str(), text, text)?;
+        let written = format!(in rt.alloc(); "{place}").expect(&rt, "memory");
+        assert!(rt; written.as_str() == *text, "{written}");
     }
-    Ok(())
 }
 
 /// The system's limit is 108 bytes with a NUL.
 #[test]
-fn reads_paths_of_at_most_107_bytes(rt: HostRuntime) -> Result<(), Fail> {
-    let mut path = String::from_str(rt.alloc(), "/")?;
+fn reads_paths_of_at_most_107_bytes(rt: HostRuntime) {
+    let mut path = String::from_str(rt.alloc(), "/").expect(&rt, "memory");
     for len in 1..=110usize {
         let is_place = Place::read(&path).is_some();
-        same(&is_place, &(len <= 107), &len)?;
-        path.push('a')?;
+        same(&rt, &is_place, &(len <= 107), &len);
+        path.push('a').expect(&rt, "memory");
     }
-    Ok(())
 }

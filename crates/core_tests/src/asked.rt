@@ -3,7 +3,7 @@ use desk_core::{Call, Desk, Finding, Keep, Setting, Slot};
 use probe_core::{Manual, Rule};
 
 /// One of the six changes, of one slot.
-#[derive(Clone, Copy, Debug)]
+#[derive(Clone, Copy, Debug, PartialEq, Eq)]
 pub(crate) enum Asked {
     Register,
     Retire,

@@ -1,7 +1,8 @@
+use crate::same::same;
 use desk_core::{Catalogue, CatalogueFault, Slot};
 use std::alloc::Global;
-use std::test::Fail;
-use test_support::{Scarcity, same};
+use std::process::Abort;
+use test_support::Scarcity;
 
 const NAME_OF_128: &str = "\
     0123456789abcdef0123456789abcdef0123456789abcdef0123456789abcdef\
@@ -33,79 +34,82 @@ const NAMES: [(&[&str], Option<CatalogueFault>); 13] = [
     (&["a", " "], Some(CatalogueFault::NoEmptyName)),
 ];
 
-fn strings(alloc: Global, texts: &[&str]) -> Result<Vec<String>, Fail> {
+fn strings<R: Abort>(rt: &R, alloc: Global, texts: &[&str]) -> Vec<String> {
     let mut strings = Vec::new(alloc);
     for text in texts {
-        strings.push(String::from_str(alloc, *text)?)?;
+        strings
+            .push(String::from_str(alloc, *text).expect(rt, "memory"))
+            .expect(rt, "memory");
     }
-    Ok(strings)
+    strings
 }
 
 /// Each name has the slot of its place, and no other name has one.
-fn expect_places(catalogue: &Catalogue, names: &[&str]) -> Result<(), Fail> {
-    same(&catalogue.len(), &names.len(), &names)?;
+fn expect_places<R: Abort>(rt: &R, catalogue: &Catalogue, names: &[&str]) {
+    same(rt, &catalogue.len(), &names.len(), &names);
     for (place, name) in (0u8..16).zip(names) {
-        same(&catalogue.slot(*name), &Slot::new(place), name)?;
-        let slot = Slot::new(place).ok_or("no slot")?;
-        same(&catalogue.name(slot), &Some(*name), &place)?;
+        same(rt, &catalogue.slot(*name), &Slot::new(place), &name);
+        let slot = Slot::new(place).expect(rt, "a slot");
+        same(rt, &catalogue.name(slot), &Some(*name), &place);
     }
     for name in &["zz", "A", "a "] {
-        same(&catalogue.slot(*name), &None, name)?;
+        same(rt, &catalogue.slot(*name), &None, &name);
     }
-    Ok(())
 }
 
 #[test]
-fn gives_each_name_its_place_or_the_first_fault(rt: HostRuntime) -> Result<(), Fail> {
+fn gives_each_name_its_place_or_the_first_fault(rt: HostRuntime) {
     let alloc = rt.alloc();
     for (names, fault) in &NAMES {
-        match Catalogue::new(alloc, strings(alloc, *names)?) {
+        match Catalogue::new(alloc, strings(&rt, alloc, *names)) {
             Ok(catalogue) => {
-                same(&None, fault, names)?;
-                expect_places(&catalogue, *names)?;
+                same(&rt, &None, fault, &names);
+                expect_places(&rt, &catalogue, *names);
             }
-            Err(found) => same(&Some(found), fault, names)?,
+            Err(found) => same(&rt, &Some(found), fault, &names),
         }
     }
-    Ok(())
 }
 
 /// How many names the catalogue has that is made with so much memory left, or why there is none.
-fn made_with(
+fn made_with<R: Abort>(
+    rt: &R,
     alloc: Global,
     scarcity: &Scarcity,
     steps: usize,
     names: Vec<String>,
-) -> Result<Result<usize, CatalogueFault>, Fail> {
-    let filler = scarcity.leave_steps(steps)?;
+) -> Result<usize, CatalogueFault> {
+    let filler = scarcity.leave_steps(steps).expect(rt, "memory");
     let made = Catalogue::new(alloc, names).map(|catalogue| catalogue.len());
     drop(filler);
-    Ok(made)
+    made
 }
 
 /// The names of so many catalogues.
-fn lists(alloc: Global, count: usize) -> Result<Vec<Vec<String>>, Fail> {
-    let mut lists = Vec::with_capacity(alloc, count)?;
+fn lists<R: Abort>(rt: &R, alloc: Global, count: usize) -> Vec<Vec<String>> {
+    let mut lists = Vec::with_capacity(alloc, count).expect(rt, "memory");
     for _ in 0..count {
-        lists.push(strings(alloc, &["a", ""])?)?;
+        lists
+            .push(strings(rt, alloc, &["a", ""]))
+            .expect(rt, "memory");
     }
-    Ok(lists)
+    lists
 }
 
 #[test]
-fn refuses_each_growth_of_a_catalogue(rt: HostRuntime) -> Result<(), Fail> {
+fn refuses_each_growth_of_a_catalogue(rt: HostRuntime) {
     let alloc = rt.alloc();
-    let lists = lists(alloc, 512)?;
-    let scarcity = Scarcity::with_small_room(alloc)?;
+    let lists = lists(&rt, alloc, 512);
+    let scarcity = Scarcity::with_small_room(alloc).expect(&rt, "memory");
     let mut refused = 0u32;
     for (steps, names) in lists.into_iter().enumerate() {
-        match made_with(alloc, &scarcity, steps, names)? {
-            Ok(count) => same(&count, &2, &steps)?,
+        match made_with(&rt, alloc, &scarcity, steps, names) {
+            Ok(count) => same(&rt, &count, &2, &steps),
             Err(fault) => {
-                same(&fault, &CatalogueFault::NoMemory, &steps)?;
+                same(&rt, &fault, &CatalogueFault::NoMemory, &steps);
                 refused = refused.saturating_add(1);
             }
         }
     }
-    same(&(0 < refused && refused < 512), &true, &"the refused")
+    assert!(rt; 0 < refused && refused < 512, "the refused");
 }

@@ -1,10 +1,11 @@
+use crate::same::same;
 use probe_core::tracked::Tracked;
 use probe_core::{Depends, Event, Manual, Probe, Rule, Start, Threshold};
 use std::alloc::Global;
+use std::process::Abort;
 use std::sync::Arc;
 use std::sync::atomic::{AtomicU64, Ordering};
 use std::test::Fail;
-use test_support::same;
 
 /// Whether a service is up, and whether it is unknown.
 type Health = (bool, bool);
@@ -94,21 +95,26 @@ const HEARD: [(Rule, &[Heard]); 7] = [
 ];
 
 /// Lets a new probe hear the events, and takes it back to its opening state. Counts the events.
-fn expect_heard<P: Probe>(probe: &mut P, rule: Rule, heard: &[Heard]) -> Result<u32, Fail> {
+fn expect_heard<R: Abort, P: Probe>(rt: &R, probe: &mut P, rule: Rule, heard: &[Heard]) -> u32 {
     let opening = health_of(probe);
     let mut count = 0u32;
     for (event, fits, after) in heard {
         let found = (rule.fits(*event), probe.note(*event), health_of(probe));
-        same(&found, &(*fits, *fits, *after), event)?;
+        same(rt, &found, &(*fits, *fits, *after), &event);
         count = count.wrapping_add(1);
     }
     probe.reset();
-    same(&(probe.rule(), health_of(probe)), &(rule, opening), &rule)?;
-    Ok(count)
+    same(
+        rt,
+        &(probe.rule(), health_of(probe)),
+        &(rule, opening),
+        &rule,
+    );
+    count
 }
 
 #[test]
-fn hears_what_fits_its_rule(rt: HostRuntime) -> Result<(), Fail> {
+fn hears_what_fits_its_rule(rt: HostRuntime) {
     let alloc = rt.alloc();
     let mut count = 0u32;
     for (rule, heard) in &HEARD {
@@ -116,13 +122,13 @@ fn hears_what_fits_its_rule(rt: HostRuntime) -> Result<(), Fail> {
             Rule::Threshold(fall, rise, start) => Box::new(
                 alloc,
                 Threshold::new(fall, rise, start),
-            )?,
-            Rule::Manual => Box::new(alloc, Manual::new())?,
-            Rule::Depends(mask) => Box::new(alloc, Depends::new(mask))?,
+            ).expect(&rt, "memory"),
+            Rule::Manual => Box::new(alloc, Manual::new()).expect(&rt, "memory"),
+            Rule::Depends(mask) => Box::new(alloc, Depends::new(mask)).expect(&rt, "memory"),
         };
-        count = count.wrapping_add(expect_heard(&mut probe, *rule, *heard)?);
+        count = count.wrapping_add(expect_heard(&rt, &mut probe, *rule, *heard));
     }
-    same(&count, &32, &"the events")
+    same(&rt, &count, &32, &"the events");
 }
 
 /// A boxed probe that hears a setting and is dropped then.
@@ -131,11 +137,14 @@ fn drop_down<P: Probe>(mut probe: P) -> bool {
 }
 
 #[test]
-fn counts_a_dropped_probe_once(rt: HostRuntime) -> Result<(), Fail> {
+fn counts_a_dropped_probe_once(rt: HostRuntime) {
     let alloc: Global = rt.alloc();
-    let drops = Arc::new(alloc, AtomicU64::new(0))?;
-    let probe: Box<dyn Probe + Send> = Box::new(alloc, Tracked::new(drops.clone()?))?;
-    same(&drops.load(Ordering::SeqCst), &0, &"before the drop")?;
-    same(&drop_down(probe), &true, &"a setting")?;
-    same(&drops.load(Ordering::SeqCst), &1, &"after the drop")
+    let drops = Arc::new(alloc, AtomicU64::new(0)).expect(&rt, "memory");
+    let probe: Box<dyn Probe + Send> = Box::new(
+        alloc,
+        Tracked::new(drops.clone().expect(&rt, "memory")),
+    ).expect(&rt, "memory");
+    same(&rt, &drops.load(Ordering::SeqCst), &0, &"before the drop");
+    assert!(rt; drop_down(probe), "a setting");
+    same(&rt, &drops.load(Ordering::SeqCst), &1, &"after the drop");
 }

@@ -1,22 +1,23 @@
 use crate::rows::{Answer, Row, expect_change};
+use crate::same::same;
 use desk_core::{Desk, Finding, Refusal, Reply, Setting, Slot};
 use probe_core::tracked::Tracked;
 use probe_core::{Depends, Event, Manual, Probe, Rule, Start, Threshold};
 use std::alloc::Global;
+use std::process::Abort;
 use std::sync::Arc;
 use std::sync::atomic::{AtomicU64, Ordering};
 use std::test::Fail;
-use test_support::same;
 
-fn slot(number: u8) -> Result<Slot, Fail> {
-    Ok(Slot::new(number).ok_or("no slot")?)
+fn slot<R: Abort>(rt: &R, number: u8) -> Slot {
+    Slot::new(number).expect(rt, "a slot")
 }
 
-fn counter(alloc: Global) -> Result<Arc<AtomicU64>, Fail> {
-    Ok(Arc::new(alloc, AtomicU64::new(0))?)
+fn counter<R: Abort>(rt: &R, alloc: Global) -> Arc<AtomicU64> {
+    Arc::new(alloc, AtomicU64::new(0)).expect(rt, "memory")
 }
 
-fn expect_drops(counters: &[Arc<AtomicU64>; 4], expected: [u64; 4]) -> Result<(), Fail> {
+fn expect_drops<R: Abort>(rt: &R, counters: &[Arc<AtomicU64>; 4], expected: [u64; 4]) {
     let [a, b, c, other] = counters;
     let drops = [
         a.load(Ordering::SeqCst),
@@ -24,45 +25,46 @@ fn expect_drops(counters: &[Arc<AtomicU64>; 4], expected: [u64; 4]) -> Result<()
         c.load(Ordering::SeqCst),
         other.load(Ordering::SeqCst),
     ];
-    same(&drops, &expected, &"the counters")
+    same(rt, &drops, &expected, &"the counters");
 }
 
 /// Two slots have a probe each. Replaces one of them, retires both slots, and registers a probe where the journal is full. What comes
 /// back is dropped at once.
-fn expect_given_back(
+fn expect_given_back<R: Abort>(
+    rt: &R,
     desk: &mut Desk<Tracked>,
     one: Slot,
     two: Slot,
     counters: &[Arc<AtomicU64>; 4],
-) -> Result<(), Fail> {
+) {
     let [a, b, c, other] = counters;
-    drop(desk.register(0, one, Tracked::new(a.clone()?)));
-    drop(desk.register(0, two, Tracked::new(b.clone()?)));
-    expect_drops(counters, [0, 0, 0, 0])?;
-    drop(desk.register(0, one, Tracked::new(c.clone()?)));
-    expect_drops(counters, [1, 0, 0, 0])?;
+    drop(desk.register(0, one, Tracked::new(a.clone().expect(rt, "memory"))));
+    drop(desk.register(0, two, Tracked::new(b.clone().expect(rt, "memory"))));
+    expect_drops(rt, counters, [0, 0, 0, 0]);
+    drop(desk.register(0, one, Tracked::new(c.clone().expect(rt, "memory"))));
+    expect_drops(rt, counters, [1, 0, 0, 0]);
     drop(desk.retire(0, two));
-    expect_drops(counters, [1, 1, 0, 0])?;
+    expect_drops(rt, counters, [1, 1, 0, 0]);
     drop(desk.retire(0, one));
-    expect_drops(counters, [1, 1, 1, 0])?;
-    drop(desk.register(0, one, Tracked::new(other.clone()?)));
-    expect_drops(counters, [1, 1, 1, 1])
+    expect_drops(rt, counters, [1, 1, 1, 0]);
+    drop(desk.register(0, one, Tracked::new(other.clone().expect(rt, "memory"))));
+    expect_drops(rt, counters, [1, 1, 1, 1]);
 }
 
 /// Each probe has a counter of its own, so that wrong bodies are seen here that are seen in no contract: a desk that hands out another
 /// probe of the same rule and memory than the one that was registered in that slot, one of its own making
 /// (`retire_makes_its_own_box`) or another slot's.
 #[test]
-fn gives_the_very_probe_back(rt: HostRuntime) -> Result<(), Fail> {
+fn gives_the_very_probe_back(rt: HostRuntime) {
     let alloc = rt.alloc();
     let counters = [
-        counter(alloc)?,
-        counter(alloc)?,
-        counter(alloc)?,
-        counter(alloc)?,
+        counter(&rt, alloc),
+        counter(&rt, alloc),
+        counter(&rt, alloc),
+        counter(&rt, alloc),
     ];
     let mut desk = Desk::new(alloc, 5);
-    expect_given_back(&mut desk, slot(1)?, slot(2)?, &counters)
+    expect_given_back(&rt, &mut desk, slot(&rt, 1), slot(&rt, 2), &counters);
 }
 
 /// A kind of a caller's own: it counts the events that reach it.
@@ -142,54 +144,58 @@ const FINDINGS: [Heard; 11] = [
 ];
 
 /// Registers the two probes in the slots 1 and 2, and makes the changes, of which the last is refused by the full journal.
-fn expect_heard<P: Probe>(alloc: Global, one: P, two: P, rows: &[Heard; 11]) -> Result<(), Fail> {
+fn expect_heard<R: Abort, P: Probe>(rt: &R, alloc: Global, one: P, two: P, rows: &[Heard; 11]) {
     let rule = one.rule();
-    let counters = [counter(alloc)?, counter(alloc)?];
+    let counters = [counter(rt, alloc), counter(rt, alloc)];
     let [first, second] = &counters;
     let (one, two) = (
         Counted {
             probe: one,
-            notes: first.clone()?,
+            notes: first.clone().expect(rt, "memory"),
         },
         Counted {
             probe: two,
-            notes: second.clone()?,
+            notes: second.clone().expect(rt, "memory"),
         },
     );
     let mut desk = Desk::new(alloc, 12);
-    drop(desk.register(0, slot(1)?, one));
-    drop(desk.register(0, slot(2)?, two));
+    drop(desk.register(0, slot(rt, 1), one));
+    drop(desk.register(0, slot(rt, 2), two));
     for (at, (row, expected)) in rows.iter().enumerate() {
-        expect_change(&mut desk, *row, at)?;
+        expect_change(rt, &mut desk, *row, at);
         let notes = [first.load(Ordering::SeqCst), second.load(Ordering::SeqCst)];
-        same(&notes, expected, &(rule, at))?;
+        same(rt, &notes, expected, &(rule, at));
     }
-    Ok(())
 }
 
 /// Nothing is heard of a service that depends on others.
 #[test]
-fn no_event_reaches_a_probe_that_depends(rt: HostRuntime) -> Result<(), Fail> {
+fn no_event_reaches_a_probe_that_depends(rt: HostRuntime) {
     let alloc = rt.alloc();
-    let notes = counter(alloc)?;
+    let notes = counter(&rt, alloc);
     let depends = Counted {
         probe: Depends::new(1),
-        notes: notes.clone()?,
+        notes: notes.clone().expect(&rt, "memory"),
     };
     let mut desk = Desk::new(alloc, 3);
-    drop(desk.register(0, slot(1)?, depends));
-    expect_change(&mut desk, Row::Observe(1, Finding::Pass, WRONG_KIND), 0)?;
-    expect_change(&mut desk, Row::Set(1, Setting::Up, WRONG_KIND), 1)?;
-    same(&notes.load(Ordering::SeqCst), &0, &"notes")
+    drop(desk.register(0, slot(&rt, 1), depends));
+    expect_change(
+        &rt,
+        &mut desk,
+        Row::Observe(1, Finding::Pass, WRONG_KIND),
+        0,
+    );
+    expect_change(&rt, &mut desk, Row::Set(1, Setting::Up, WRONG_KIND), 1);
+    same(&rt, &notes.load(Ordering::SeqCst), &0, &"notes");
 }
 
 #[test]
-fn an_event_reaches_its_probe_once_if_it_is_heard(rt: HostRuntime) -> Result<(), Fail> {
+fn an_event_reaches_its_probe_once_if_it_is_heard(rt: HostRuntime) {
     let alloc = rt.alloc();
-    expect_heard(alloc, Manual::new(), Manual::new(), &SETTINGS)?;
+    expect_heard(&rt, alloc, Manual::new(), Manual::new(), &SETTINGS);
     let (one, two) = (
         Threshold::new(1, 1, Start::Up),
         Threshold::new(1, 1, Start::Up),
     );
-    expect_heard(alloc, one, two, &FINDINGS)
+    expect_heard(&rt, alloc, one, two, &FINDINGS);
 }

@@ -1,10 +1,11 @@
 use crate::rows::{Answer, Row, expect_rows};
+use crate::same::same;
 use desk_core::{Change, Desk, Finding, Refusal, Reply, Setting};
 use health_wire::Serving;
 use probe_core::{Depends, Manual, Probe, Rule, Start, Threshold};
 use std::alloc::Global;
+use std::process::Abort;
 use std::test::Fail;
-use test_support::same;
 
 const DONE: Answer = Ok(Reply::Done);
 
@@ -479,29 +480,29 @@ const HISTORIES: [History; 14] = [
 /// How many rows the histories have in all.
 const ROWS: u32 = 151;
 
-fn expect_told(changes: &[Change], told: &[Told], name: &str) -> Result<(), Fail> {
-    same(&changes.len(), &told.len(), &name)?;
+fn expect_told<R: Abort>(rt: &R, changes: &[Change], told: &[Told], name: &str) {
+    same(rt, &changes.len(), &told.len(), &name);
     for (change, expected) in changes.iter().zip(told) {
         let found = (change.at, change.slot.number(), change.status);
-        same(&found, expected, &name)?;
+        same(rt, &found, expected, &name);
     }
-    Ok(())
 }
 
 /// Goes through a history with these probes, of which the last is registered first. Counts its rows.
-fn expect_history<P: Probe>(
+fn expect_history<R: Abort, P: Probe>(
+    rt: &R,
     alloc: Global,
     mut probes: Vec<P>,
     history: &History,
-) -> Result<u32, Fail> {
+) -> u32 {
     let mut desk = Desk::new(alloc, history.most);
-    let count = expect_rows(&mut desk, &mut probes, history.rows)?;
-    expect_told(desk.changes(), history.told, history.name)?;
-    Ok(count)
+    let count = expect_rows(rt, &mut desk, &mut probes, history.rows);
+    expect_told(rt, desk.changes(), history.told, history.name);
+    count
 }
 
 #[test]
-fn answers_worked_histories(rt: HostRuntime) -> Result<(), Fail> {
+fn answers_worked_histories(rt: HostRuntime) {
     let alloc = rt.alloc();
     let mut count = 0u32;
     for history in &HISTORIES {
@@ -509,16 +510,16 @@ fn answers_worked_histories(rt: HostRuntime) -> Result<(), Fail> {
         for rule in history.rules.iter().rev() {
             let probe: Box<dyn Probe + Send> = match *rule {
                 Rule::Threshold(fall, rise, start) => {
-                    Box::new(alloc, Threshold::new(fall, rise, start))?
+                    Box::new(alloc, Threshold::new(fall, rise, start)).expect(&rt, "memory")
                 }
-                Rule::Manual => Box::new(alloc, Manual::new())?,
-                Rule::Depends(mask) => Box::new(alloc, Depends::new(mask))?,
+                Rule::Manual => Box::new(alloc, Manual::new()).expect(&rt, "memory"),
+                Rule::Depends(mask) => Box::new(alloc, Depends::new(mask)).expect(&rt, "memory"),
             };
-            probes.push(probe)?;
+            probes.push(probe).expect(&rt, "memory");
         }
-        count = count.wrapping_add(expect_history(alloc, probes, history)?);
+        count = count.wrapping_add(expect_history(&rt, alloc, probes, history));
     }
-    same(&count, &ROWS, &"the rows")
+    same(&rt, &count, &ROWS, &"the rows");
 }
 
 /// The numbers of the refusals are in no clause.
@@ -531,9 +532,8 @@ const REFUSALS: [(Refusal, u8); 5] = [
 ];
 
 #[test]
-fn numbers_each_refusal() -> Result<(), Fail> {
+fn numbers_each_refusal(rt: HostRuntime) {
     for (refusal, number) in &REFUSALS {
-        same(&(*refusal as u8), number, refusal)?;
+        same(&rt, &(*refusal as u8), number, &refusal);
     }
-    Ok(())
 }

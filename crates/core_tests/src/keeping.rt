@@ -2,6 +2,7 @@ ghost use Rattle.std.specs.Prelude.{◌≢◌, Err, IfSome};
 
 use crate::asked::{Asked, ask, change};
 use crate::rows::Answer;
+use crate::same::same;
 use crate::sixteen::KeepSixteen;
 use desk_core::{
     Behind, Capacity, Desk, Keep, KeepMany, Refusal, Reply, Setting, Slot, Watch, board_entries,
@@ -9,68 +10,73 @@ use desk_core::{
 use health_wire::Serving;
 use probe_core::Manual;
 use std::alloc::Global;
-use std::test::Fail;
-use test_support::{Scarcity, same};
+use std::process::Abort;
+use test_support::Scarcity;
 
-fn slot() -> Result<Slot, Fail> {
-    Ok(Slot::new(0).ok_or("no slot")?)
+fn slot<R: Abort>(rt: &R) -> Slot {
+    Slot::new(0).expect(rt, "a slot")
 }
 
 /// Sets the slot down at even times and up at odd ones, from one time up to before another.
-fn flip<K: Keep>(desk: &mut Desk<Manual, K>, slot: Slot, from: u32, end: u32) -> Result<(), Fail> {
+fn flip<R: Abort, K: Keep>(rt: &R, desk: &mut Desk<Manual, K>, slot: Slot, from: u32, end: u32) {
     for time in from..end {
         let setting = if time % 2 == 0 {
             Setting::Down
         } else {
             Setting::Up
         };
-        same(&desk.set(0, slot, setting), &Ok(Reply::Done), &time)?;
+        same(rt, &desk.set(0, slot, setting), &Ok(Reply::Done), &time);
     }
-    Ok(())
 }
 
 /// The steps of the watch tell the flips from one time up to before another, and then none.
-fn expect_flips(
+fn expect_flips<R: Abort>(
+    rt: &R,
     desk: &Desk<Manual, KeepMany>,
     watch: &mut Watch,
     from: u32,
     end: u32,
-) -> Result<(), Fail> {
+) {
     for time in from..end {
         let status = if time % 2 == 0 {
             Serving::NotServing
         } else {
             Serving::Serving
         };
-        same(&desk.step_kept(watch), &Ok(Some(status)), &time)?;
+        same(rt, &desk.step_kept(watch), &Ok(Some(status)), &time);
     }
-    same(&desk.step_kept(watch), &Ok(None), &end)
+    same(rt, &desk.step_kept(watch), &Ok(None), &end);
 }
 
 /// The registration and each flip are an entry and a change: 70,001 in all, of which 65,536 are kept.
-fn expect_kept(desk: &mut Desk<Manual, KeepMany>, slot: Slot) -> Result<(), Fail> {
+fn expect_kept<R: Abort>(rt: &R, desk: &mut Desk<Manual, KeepMany>, slot: Slot) {
     let mut of_no_slot = desk.open(None).0;
-    flip(desk, slot, 0, 4_463)?;
+    flip(rt, desk, slot, 0, 4_463);
     let mut behind = desk.open(Some(slot)).0;
-    flip(desk, slot, 4_463, 4_464)?;
+    flip(rt, desk, slot, 4_463, 4_464);
     let mut told = desk.open(Some(slot)).0;
-    flip(desk, slot, 4_464, 70_000)?;
-    same(&desk.step_kept(&mut behind), &Err(Behind), &"65,537 back")?;
-    same(&behind.cursor(), &4_464, &"it stays")?;
-    same(&desk.step_kept(&mut of_no_slot), &Ok(None), &"no slot")?;
-    expect_flips(desk, &mut told, 4_464, 70_000)?;
+    flip(rt, desk, slot, 4_464, 70_000);
+    same(
+        rt,
+        &desk.step_kept(&mut behind),
+        &Err(Behind),
+        &"65,537 back",
+    );
+    same(rt, &behind.cursor(), &4_464, &"it stays");
+    same(rt, &desk.step_kept(&mut of_no_slot), &Ok(None), &"a slot");
+    expect_flips(rt, desk, &mut told, 4_464, 70_000);
     let kept = (board_entries(desk.board()), desk.journal_kept().len());
-    same(&kept, &(70_001, 65_536), &"the entries")?;
+    same(rt, &kept, &(70_001, 65_536), &"the entries");
     let Capacity { entries, changes } = desk.capacity();
     let is_bounded = (entries <= 131_072, changes <= 131_072);
-    same(&is_bounded, &(true, true), &(entries, changes))
+    same(rt, &is_bounded, &(true, true), &(entries, changes));
 }
 
 #[test]
-fn keeps_65_536_of_70_000_flips(rt: HostRuntime) -> Result<(), Fail> {
+fn keeps_65_536_of_70_000_flips(rt: HostRuntime) {
     let mut desk = Desk::new(rt.alloc(), 100_000);
-    drop(desk.register(0, slot()?, Manual::new()));
-    expect_kept(&mut desk, slot()?)
+    drop(desk.register(0, slot(&rt), Manual::new()));
+    expect_kept(&rt, &mut desk, slot(&rt));
 }
 
 /// A change of an empty desk is refused without memory, and is not in its history.
@@ -90,17 +96,21 @@ const ROUND: [(Asked, Reply); 7] = [
     (Asked::Register, Reply::Done),
 ];
 
-/// Makes the changes ten times by their own functions, and each time by `change` too.
-fn expect_rounds<K: Keep>(desk: &mut Desk<Manual, K>, slot: Slot) -> Result<(), Fail> {
+/// Makes the changes ten times by their own functions, and each time by `change` too. Tells the first that is answered otherwise.
+fn first_wrong<K: Keep>(desk: &mut Desk<Manual, K>, slot: Slot) -> Option<(u32, Asked)> {
     for time in 0..10u32 {
         for (asked, reply) in &ROUND {
-            same(&ask(desk, slot, *asked), &Ok(*reply), &(time, *asked))?;
+            if ask(desk, slot, *asked) != Ok(*reply) {
+                return Some((time, *asked));
+            }
         }
         for (asked, reply) in &ROUND {
-            same(&change(desk, slot, *asked), &Ok(*reply), &(time, *asked))?;
+            if change(desk, slot, *asked) != Ok(*reply) {
+                return Some((time, *asked));
+            }
         }
     }
-    Ok(())
+    None
 }
 
 /// The second change of a desk at its limit is not refused for memory: the first has placed the slots.
@@ -119,43 +129,44 @@ fn resume_after_shutdown(desk: &mut Desk<Manual, KeepSixteen>) -> Option<Answer>
 }
 
 /// Makes the changes without memory, and tells whether an empty desk is refused one meanwhile.
-fn change_without_memory(
+fn change_without_memory<R: Abort>(
+    rt: &R,
     alloc: Global,
     desk: &mut Desk<Manual, KeepSixteen>,
     slot: Slot,
-) -> Result<bool, Fail> {
-    let scarcity = Scarcity::with_small_room(alloc)?;
-    let rest = scarcity.leave_steps(0)?;
+) -> bool {
+    let scarcity = Scarcity::with_small_room(alloc).expect(rt, "memory");
+    let rest = scarcity.leave_steps(0).expect(rt, "memory");
     let is_refused = is_refused(alloc);
-    let gone_on = expect_rounds(desk, slot);
+    let wrong = first_wrong(desk, slot);
     let resumed = resume_after_shutdown(desk);
     drop(rest);
     drop(scarcity);
-    gone_on?;
-    same(&resumed, &Some(Ok(Reply::Done)), &"the resume")?;
-    Ok(is_refused)
+    same(rt, &wrong, &None, &"the rounds");
+    same(rt, &resumed, &Some(Ok(Reply::Done)), &"the resume");
+    is_refused
 }
 
 /// All slots are registered, so that a shutdown or a resume is as many changes as one entry can bring.
-fn fill(desk: &mut Desk<Manual, KeepSixteen>, slot: Slot) -> Result<(), Fail> {
+fn fill<R: Abort>(rt: &R, desk: &mut Desk<Manual, KeepSixteen>, slot: Slot) {
     for number in 0..16u8 {
-        let slot = Slot::new(number).ok_or("no slot")?;
+        let slot = Slot::new(number).expect(rt, "a slot");
         drop(desk.register(0, slot, Manual::new()));
     }
-    flip(desk, slot, 0, 60)
+    flip(rt, desk, slot, 0, 60);
 }
 
 #[test]
-fn a_desk_at_its_limit_makes_each_change_without_memory(rt: HostRuntime) -> Result<(), Fail> {
+fn a_desk_at_its_limit_makes_each_change_without_memory(rt: HostRuntime) {
     let alloc: Global = rt.alloc();
     let mut desk = Desk::new(alloc, 218);
-    fill(&mut desk, slot()?)?;
+    fill(&rt, &mut desk, slot(&rt));
     let limit = Capacity {
         entries: 32,
         changes: 32,
     };
-    same(&desk.capacity(), &limit, &"the limit")?;
-    let is_refused = change_without_memory(alloc, &mut desk, slot()?)?;
+    same(&rt, &desk.capacity(), &limit, &"the limit");
+    let is_refused = change_without_memory(&rt, alloc, &mut desk, slot(&rt));
     let found = (is_refused, desk.capacity(), board_entries(desk.board()));
-    same(&found, &(true, limit, 218), &"without memory")
+    same(&rt, &found, &(true, limit, 218), &"without memory");
 }

@@ -1,9 +1,9 @@
 ghost use Rattle.probe_core.specs.Made.{IsAsked};
 
+use crate::same::same;
 use probe_core::{FnMaker, Maker, Manual, Probe, ProbeFn, Rule, Start, Threshold};
 use std::alloc::AllocError;
-use std::test::Fail;
-use test_support::same;
+use std::process::Abort;
 
 /// Rules, and of what is made for each the rule, whether it is up, and whether it is unknown; or nothing is made.
 const MADE: [(Rule, Option<(Rule, bool, bool)>); 4] = [
@@ -19,27 +19,26 @@ const MADE: [(Rule, Option<(Rule, bool, bool)>); 4] = [
     (Rule::Depends(1), None),
 ];
 
-fn expect_made<P: Probe, M: Maker<P>>(maker: &M) -> Result<(), Fail> {
+fn expect_made<R: Abort, P: Probe, M: Maker<P>>(rt: &R, maker: &M) {
     for (rule, expected) in &MADE {
         let made = match maker.make(*rule) {
             Ok(probe) => Some((probe.rule(), probe.is_up(), probe.is_unknown())),
             Err(AllocError) => None,
         };
-        same(&made, expected, rule)?;
+        same(rt, &made, expected, &rule);
     }
-    Ok(())
 }
 
 /// The same by a maker of the closure.
-fn expect_made_by<P: Probe, F: ProbeFn<Made = P> + Drop>(make: F) -> Result<(), Fail>
+fn expect_made_by<R: Abort, P: Probe, F: ProbeFn<Made = P> + Drop>(rt: &R, make: F)
     requires { F.makes_asked make }
 {
-    expect_made(&FnMaker::new(make))
+    expect_made(rt, &FnMaker::new(make));
 }
 
 /// The closure knows two rules.
 #[test]
-fn makes_what_the_closure_makes(rt: HostRuntime) -> Result<(), Fail> {
+fn makes_what_the_closure_makes(rt: HostRuntime) {
     let alloc = rt.alloc();
     let make = |rule: Rule| -> Result<Box<dyn Probe + Send>, AllocError>
         ensures { IsAsked (λ probe. (Probe-box probe).rule probe.value)
@@ -55,5 +54,5 @@ fn makes_what_the_closure_makes(rt: HostRuntime) -> Result<(), Fail> {
         };
         Ok(probe)
     };
-    expect_made_by(make)
+    expect_made_by(&rt, make);
 }

@@ -1,8 +1,8 @@
+use crate::same::same;
 use desk_core::{Desk, Finding, Handed, Refusal, Registered, Reply, Setting, Slot, Watch};
 use health_wire::Serving;
 use probe_core::{Probe, Rule};
-use std::test::Fail;
-use test_support::same;
+use std::process::Abort;
 
 /// The answer to a change.
 pub(crate) type Answer = Result<Reply, Refusal>;
@@ -30,8 +30,8 @@ pub(crate) enum Row {
     Told(Option<Serving>, u64),
 }
 
-fn slot(number: u8) -> Result<Slot, Fail> {
-    Ok(Slot::new(number).ok_or("no slot")?)
+fn slot<R: Abort>(rt: &R, number: u8) -> Slot {
+    Slot::new(number).expect(rt, "a slot")
 }
 
 fn register<P: Probe>(desk: &mut Desk<P>, slot: Slot, probe: P) -> Given {
@@ -53,74 +53,81 @@ fn retire<P: Probe>(desk: &mut Desk<P>, slot: Slot) -> Given {
 }
 
 /// Makes the change of a row that registers nothing, and looks at its answer.
-pub(crate) fn expect_change<P: Probe>(desk: &mut Desk<P>, row: Row, at: usize) -> Result<(), Fail> {
+pub(crate) fn expect_change<R: Abort, P: Probe>(rt: &R, desk: &mut Desk<P>, row: Row, at: usize) {
     match row {
-        Row::Retire(number, given) => same(&retire(desk, slot(number)?), &given, &at),
+        Row::Retire(number, given) => same(rt, &retire(desk, slot(rt, number)), &given, &at),
         Row::Observe(number, finding, answer) => {
-            same(&desk.observe(0, slot(number)?, finding), &answer, &at)
+            same(
+                rt,
+                &desk.observe(0, slot(rt, number), finding),
+                &answer,
+                &at,
+            );
         }
         Row::Set(number, setting, answer) => {
-            same(&desk.set(0, slot(number)?, setting), &answer, &at)
+            same(rt, &desk.set(0, slot(rt, number), setting), &answer, &at);
         }
-        Row::Shutdown(answer) => same(&desk.shutdown(0), &answer, &at),
-        Row::Resume(answer) => same(&desk.resume(0), &answer, &at),
-        _ => Ok(()),
+        Row::Shutdown(answer) => same(rt, &desk.shutdown(0), &answer, &at),
+        Row::Resume(answer) => same(rt, &desk.resume(0), &answer, &at),
+        _ => {}
     }
 }
 
 /// Asks what a row asks of the desk and of the watch.
-fn expect_seen<P: Probe>(
-    desk: &Desk<P>,
-    watch: &mut Watch,
-    row: Row,
-    at: usize,
-) -> Result<(), Fail> {
+fn expect_seen<R: Abort, P: Probe>(rt: &R, desk: &Desk<P>, watch: &mut Watch, row: Row, at: usize) {
     match row {
-        Row::Status(number, status) => same(&desk.check(Some(slot(number)?)), &status, &at),
-        Row::Board(word) => same(&desk.board(), &word, &at),
+        Row::Status(number, status) => same(rt, &desk.check(Some(slot(rt, number))), &status, &at),
+        Row::Board(word) => same(rt, &desk.board(), &word, &at),
         Row::Open(number, first) => {
             let (opened, status) = desk.open(number.and_then(|number| Slot::new(number)));
             *watch = opened;
-            same(&status, &first, &at)
+            same(rt, &status, &first, &at);
         }
         Row::Told(told, cursor) => {
-            same(&(desk.step(watch), watch.cursor()), &(told, cursor), &at)
+            same(
+                rt,
+                &(desk.step(watch), watch.cursor()),
+                &(told, cursor),
+                &at,
+            );
         }
-        _ => Ok(()),
+        _ => {}
     }
 }
 
 /// Registers the next probe, if the row does.
-fn expect_registered<P: Probe>(
+fn expect_registered<R: Abort, P: Probe>(
+    rt: &R,
     desk: &mut Desk<P>,
     probes: &mut Vec<P>,
     row: Row,
     at: usize,
-) -> Result<(), Fail> {
+) {
     let (number, given) = match row {
         Row::New(number) => (number, (Ok(Reply::Done), None)),
         Row::Register(number, given) => (number, given),
-        _ => return Ok(()),
+        _ => return,
     };
-    let probe = probes.pop().ok_or("no probe")?;
-    same(&register(desk, slot(number)?, probe), &given, &at)
+    let probe = probes.pop().expect(rt, "a probe");
+    same(rt, &register(desk, slot(rt, number), probe), &given, &at);
 }
 
 /// Goes through the rows, each at a desk that the rows before it changed; the probes are registered from the last one on. What the
 /// desk keeps has to be what computing anew gives after each. Counts the rows.
-pub(crate) fn expect_rows<P: Probe>(
+pub(crate) fn expect_rows<R: Abort, P: Probe>(
+    rt: &R,
     desk: &mut Desk<P>,
     probes: &mut Vec<P>,
     rows: &[Row],
-) -> Result<u32, Fail> {
+) -> u32 {
     let (mut watch, _) = desk.open(None);
     let mut count = 0u32;
     for (at, row) in rows.iter().enumerate() {
-        expect_registered(desk, probes, *row, at)?;
-        expect_change(desk, *row, at)?;
-        expect_seen(desk, &mut watch, *row, at)?;
-        same(&desk.board(), &desk.board_anew(), &at)?;
+        expect_registered(rt, desk, probes, *row, at);
+        expect_change(rt, desk, *row, at);
+        expect_seen(rt, desk, &mut watch, *row, at);
+        same(rt, &desk.board(), &desk.board_anew(), &at);
         count = count.wrapping_add(1);
     }
-    Ok(count)
+    count
 }

@@ -3,15 +3,15 @@
 use crate::asked::{Asked, ask};
 use crate::book::Book;
 use crate::rows::Answer;
+use crate::same::same;
 use desk_core::{Call, Desk, Entry, Finding, Refusal, Reply, Setting, Slot, board_entries};
 use health_wire::Serving;
 use probe_core::{Manual, Rule};
 use std::alloc::Global;
-use std::test::Fail;
-use test_support::same;
+use std::process::Abort;
 
-fn slot(number: u8) -> Result<Slot, Fail> {
-    Ok(Slot::new(number).ok_or("no slot")?)
+fn slot<R: Abort>(rt: &R, number: u8) -> Slot {
+    Slot::new(number).expect(rt, "a slot")
 }
 
 /// A desk of so many entries at most, over a book that refuses these attempts.
@@ -56,7 +56,7 @@ fn entry(call: Call, reply: Reply) -> Entry {
 }
 
 /// The five entries of the rows that are taken.
-fn expect_stored(book: &Book, first: Slot) -> Result<(), Fail> {
+fn expect_stored<R: Abort>(rt: &R, book: &Book, first: Slot) {
     let stored = [
         entry(Call::Register(first, Rule::Manual), Reply::Done),
         entry(Call::Set(first, Setting::Down), Reply::Done),
@@ -64,29 +64,34 @@ fn expect_stored(book: &Book, first: Slot) -> Result<(), Fail> {
         entry(Call::Observe(first, Finding::Pass), Reply::WrongKind),
         entry(Call::Shutdown, Reply::Done),
     ];
-    same(&book.entries.as_slice(), &stored.as_slice(), &"the entries")?;
-    same(&book.attempts, &9, &"the attempts")
+    same(
+        rt,
+        &book.entries.as_slice(),
+        &stored.as_slice(),
+        &"the entries",
+    );
+    same(rt, &book.attempts, &9, &"the attempts");
 }
 
 #[test]
-fn does_what_its_store_takes_and_nothing_else(rt: HostRuntime) -> Result<(), Fail> {
-    let first = slot(0)?;
+fn does_what_its_store_takes_and_nothing_else(rt: HostRuntime) {
+    let first = slot(&rt, 0);
     let mut desk = over_book(rt.alloc(), 5, &[2, 4, 5, 8]);
     for (asked, answer, status, entries) in &ROWS {
-        same(&ask(&mut desk, first, *asked), answer, asked)?;
-        same(&desk.check(Some(first)), status, asked)?;
-        same(&board_entries(desk.board()), entries, asked)?;
+        same(&rt, &ask(&mut desk, first, *asked), answer, &asked);
+        same(&rt, &desk.check(Some(first)), status, &asked);
+        same(&rt, &board_entries(desk.board()), entries, &asked);
     }
-    same(&desk.is_stored(), &true, &"a store")?;
+    assert!(rt; desk.is_stored(), "a store");
     match desk.into_store() {
-        Some(book) => expect_stored(&book, first),
-        None => Err(Fail::new("no store")),
+        Some(book) => expect_stored(&rt, &book, first),
+        None => panic!(rt; "no store"),
     }
 }
 
 #[test]
-fn a_new_desk_has_no_store(rt: HostRuntime) -> Result<(), Fail> {
+fn a_new_desk_has_no_store(rt: HostRuntime) {
     let desk: Desk<Manual> = Desk::new(rt.alloc(), 5);
-    same(&desk.is_stored(), &false, &"a store")?;
-    same(&desk.into_store().is_none(), &true, &"none")
+    assert!(rt; !desk.is_stored(), "a store");
+    assert!(rt; desk.into_store().is_none(), "none");
 }

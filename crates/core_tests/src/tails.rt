@@ -1,7 +1,8 @@
+use crate::same::same;
 use std::alloc::{AllocError, Global};
-use std::test::Fail;
+use std::process::Abort;
 use tail::Tail;
-use test_support::{Scarcity, same};
+use test_support::Scarcity;
 
 /// More items than any list has here.
 const MOST: u64 = 1_000;
@@ -27,13 +28,13 @@ const OF_FORTY: [(u64, Option<(usize, Option<u64>)>); 5] = [
     (40, Some((0, None))),
 ];
 
-fn expect_sixteen_of_forty(tail: &Tail<u64>) -> Result<(), Fail> {
+fn expect_sixteen_of_forty<R: Abort>(rt: &R, tail: &Tail<u64>) {
     for (place, expected) in &OF_FORTY {
         let found = match tail.since(*place) {
             Some(items) => Some((items.len(), items.first().copied())),
             None => None,
         };
-        same(&found, expected, place)?;
+        same(rt, &found, expected, &place);
     }
     let found = (
         tail.len(),
@@ -41,33 +42,33 @@ fn expect_sixteen_of_forty(tail: &Tail<u64>) -> Result<(), Fail> {
         tail.kept().len(),
         tail.capacity(),
     );
-    same(&found, &(40, 24, 16, 32), &"what is kept")
+    same(rt, &found, &(40, 24, 16, 32), &"what is kept");
 }
 
 #[test]
-fn keeps_the_last_sixteen_or_all(rt: HostRuntime) -> Result<(), Fail> {
+fn keeps_the_last_sixteen_or_all(rt: HostRuntime) {
     let mut some = Tail::new(rt.alloc(), Some(16));
-    put(&mut some, 40)?;
-    expect_sixteen_of_forty(&some)?;
+    put(&mut some, 40).expect(&rt, "memory");
+    expect_sixteen_of_forty(&rt, &some);
     let mut all = Tail::new(rt.alloc(), None);
-    put(&mut all, 40)?;
-    same(&(all.forgotten(), all.kept().len()), &(0, 40), &"all")
+    put(&mut all, 40).expect(&rt, "memory");
+    same(&rt, &(all.forgotten(), all.kept().len()), &(0, 40), &"all");
 }
 
 #[test]
-fn a_tail_at_its_limit_takes_no_memory(rt: HostRuntime) -> Result<(), Fail> {
+fn a_tail_at_its_limit_takes_no_memory(rt: HostRuntime) {
     let alloc: Global = rt.alloc();
     let mut full = Tail::new(alloc, Some(16));
-    put(&mut full, 40)?;
+    put(&mut full, 40).expect(&rt, "memory");
     let mut empty: Tail<u64> = Tail::new(alloc, Some(16));
-    let scarcity = Scarcity::with_small_room(alloc)?;
-    let rest = scarcity.leave_steps(0)?;
+    let scarcity = Scarcity::with_small_room(alloc).expect(&rt, "memory");
+    let rest = scarcity.leave_steps(0).expect(&rt, "memory");
     let is_refused = empty.reserve(1).is_err();
     let goes_on = put(&mut full, 80).is_ok();
     drop(rest);
     drop(scarcity);
     let found = (is_refused, goes_on, empty.capacity(), full.capacity());
-    same(&found, &(true, true, 0, 32), &"without memory")?;
-    put(&mut empty, 40)?;
-    expect_sixteen_of_forty(&empty)
+    same(&rt, &found, &(true, true, 0, 32), &"without memory");
+    put(&mut empty, 40).expect(&rt, "memory");
+    expect_sixteen_of_forty(&rt, &empty);
 }

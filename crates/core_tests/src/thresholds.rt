@@ -1,7 +1,7 @@
 use crate::numbers::Numbers;
+use crate::same::same;
 use probe_core::{Event, Probe, Start, Threshold};
 use std::test::Fail;
-use test_support::same;
 
 /// Whether a service is up that heard these findings, the oldest first: there is no point before which the last `fall` failed, and
 /// after which no `rise` in a row passed. `true` is a failure.
@@ -43,7 +43,7 @@ fn first_wrong(fall: u32, rise: u32, start: Start, failures: &[bool]) -> Option<
 }
 
 #[test]
-fn tells_what_a_look_back_over_all_events_tells() -> Result<(), Fail> {
+fn tells_what_a_look_back_over_all_events_tells(rt: HostRuntime) {
     let mut numbers = Numbers::new(1);
     for round in 0..10_000u32 {
         let (fall, rise) = (1 + numbers.below(5) as u32, 1 + numbers.below(5) as u32);
@@ -57,7 +57,6 @@ fn tells_what_a_look_back_over_all_events_tells() -> Result<(), Fail> {
             Start::Unknown
         };
         let wrong = first_wrong(fall, rise, start, &failures);
-        same(&wrong, &None, &(round, fall, rise, start))?;
+        same(&rt, &wrong, &None, &(round, fall, rise, start));
     }
-    Ok(())
 }

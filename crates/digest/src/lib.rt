@@ -30,8 +30,6 @@ mod lawful;
 mod laws;
 mod next;
 mod short;
-#[cfg(test)]
-mod tests;
 
 pub use digest::Digest;
 pub use laws::{alike_at_length, alike_for_good, alike_to_one_another};

@@ -46,6 +46,3 @@ impl Stored {
         stored_of(bytes)
     }
 }
-
-#[cfg(test)]
-mod tests;

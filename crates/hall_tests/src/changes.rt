@@ -5,14 +5,14 @@ ghost use Rattle.hall.specs.Seats.{IsOf};
 use crate::guest::{Guest, Probes, manuals, two_seats};
 use crate::keeping::{FORGETTING, KeepFour};
 use crate::rows::{DONE, Found, Step, Wrong, is_as, result_of};
+use crate::same::same;
 use desk_core::{Extent, Finding, Keep, KeepAll, Refusal, Reply, Setting};
 use hall::Hall;
 use health_wire::Serving;
 use probe_core::{Manual, Probe, Start, Threshold};
-use std::alloc::{AllocError, Global};
+use std::alloc::Global;
+use std::process::Abort;
 use std::sync::Wait;
-use std::test::Fail;
-use test_support::same;
 
 /// Whose call it is.
 #[derive(Clone, Copy)]
@@ -52,22 +52,23 @@ fn first_wrong<R: Wait, P: Probe, K: Keep>(
     None
 }
 
-fn expect_story<R: Wait, P: Probe, K: Keep>(
+fn expect_story<R: Wait + Abort, P: Probe, K: Keep>(
     rt: &R,
     alloc: Global,
     story: &Story,
     probes: Probes<P>,
-) -> Result<(), Fail> {
+) {
     let names = ["a", ""];
     let (hall, first, second): (Hall<P, K>, Guest<P, K>, Guest<P, K>) = two_seats(
+        rt,
         alloc,
         &names,
         story.max_entries,
         probes,
-    )?;
+    );
     let (mut first, mut second) = (first, second);
     let wrong = first_wrong(rt, &hall, &mut first, &mut second, story.turns);
-    same(&wrong, &None, &"the story")
+    same(rt, &wrong, &None, &"the story");
 }
 
 const SERVING: Serving = Serving::Serving;
@@ -173,25 +174,26 @@ const FIVE: Extent = Extent {
 };
 
 /// A threshold to register, one in its place, and one that is handed in under a name that is not listed.
-fn thresholds(alloc: Global) -> Result<Probes<Threshold>, AllocError> {
+fn thresholds(rt: &impl Abort, alloc: Global) -> Probes<Threshold> {
     let unknown = Threshold::new(1, 1, Start::Unknown);
     let up = Threshold::new(2, 1, Start::Up);
     let unlisted = Threshold::new(2, 1, Start::Up);
-    Ok(Probes {
-        first: Vec::from_array(alloc, [unlisted, up, unknown])?,
+    let first = Vec::from_array(alloc, [unlisted, up, unknown]).expect(rt, "memory");
+    Probes {
+        first,
         second: Vec::new(alloc),
         counters: None,
-    })
+    }
 }
 
-fn expect_stories<R: Wait>(rt: &R, alloc: Global) -> Result<(), Fail> {
-    expect_story::<R, Threshold, KeepAll>(rt, alloc, &CHANGES, thresholds(alloc)?)?;
-    expect_story::<R, Manual, KeepAll>(rt, alloc, &SETTINGS, manuals(alloc)?)?;
-    expect_story::<R, Manual, KeepFour>(rt, alloc, &FORGETTING, manuals(alloc)?)
+fn expect_stories<R: Wait + Abort>(rt: &R, alloc: Global) {
+    expect_story::<R, Threshold, KeepAll>(rt, alloc, &CHANGES, thresholds(rt, alloc));
+    expect_story::<R, Manual, KeepAll>(rt, alloc, &SETTINGS, manuals(rt, alloc));
+    expect_story::<R, Manual, KeepFour>(rt, alloc, &FORGETTING, manuals(rt, alloc));
 }
 
 /// `answers_from_last_look`: a hall that answered from what the seat saw last would not show it the changes of the other.
 #[test]
-fn a_seat_sees_each_change_of_another_as_far_as_it_is_kept(rt: HostRuntime) -> Result<(), Fail> {
-    expect_stories(&rt, rt.alloc())
+fn a_seat_sees_each_change_of_another_as_far_as_it_is_kept(rt: HostRuntime) {
+    expect_stories(&rt, rt.alloc());
 }

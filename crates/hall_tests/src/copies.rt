@@ -6,15 +6,16 @@ ghost use Rattle.hall.specs.Seats.{IsOf};
 use crate::guest::{Guest, manuals, two_seats};
 use crate::keeping::KeepFour;
 use crate::rows::{DONE, Step, result_of};
+use crate::same::same;
 use crew::{CopyingDoor, HallDoor};
 use desk_core::{Behind, Setting, Transcript, Watch};
 use hall::Hall;
 use health_wire::Serving;
 use probe_core::Manual;
 use std::alloc::{AllocError, Global};
+use std::process::Abort;
 use std::sync::Wait;
-use std::test::Fail;
-use test_support::{Scarcity, same};
+use test_support::Scarcity;
 use web_call::Door;
 
 /// What another seat does, or what is asked of a door, with what it has to tell.
@@ -25,8 +26,11 @@ enum Act {
     Check(Serving),
     /// From now on this Watch is stepped.
     Open(Serving),
-    Step(Result<Option<Serving>, Behind>),
+    Step(Told),
 }
+
+/// What a step tells.
+type Told = Result<Option<Serving>, Behind>;
 
 const DOWN: Act = Act::Set(Setting::Down);
 
@@ -180,21 +184,36 @@ fn first_wrong_of<R: Wait>(
 }
 
 #[test]
-fn a_copying_door_looks_once_until_it_is_renewed(rt: HostRuntime) -> Result<(), Fail> {
+fn a_copying_door_looks_once_until_it_is_renewed(rt: HostRuntime) {
     let alloc = rt.alloc();
-    let (hall, mut setter, mut looker) = two_seats(alloc, &["a", ""], 1_000, manuals(alloc)?)?;
+    let probes = manuals(&rt, alloc);
+    let (hall, mut setter, mut looker) = two_seats(&rt, alloc, &["a", ""], 1_000, probes);
     let wrong = first_wrong_of(&rt, alloc, &hall, &mut setter, &mut looker);
-    same(&wrong, &[None, None], &"the acts")
+    same(&rt, &wrong, &[None, None], &"the acts");
+}
+
+/// What three steps tell while memory is refused.
+fn steps_without_memory<R: Wait>(
+    alloc: Global,
+    door: &mut CopyingDoor<'_, R, Manual, KeepFour>,
+    watch: &mut Watch,
+) -> Result<[Told; 3], AllocError> {
+    let scarcity = Scarcity::with_small_room(alloc)?;
+    let filler = scarcity.leave_steps(0)?;
+    let told = [door.step(watch), door.step(watch), door.step(watch)];
+    drop(filler);
+    drop(scarcity);
+    Ok(told)
 }
 
 /// What steps tell of two changes while memory is refused, and of a third behind that.
-fn told_without_memory<R: Wait>(
+fn told_without_memory<R: Wait + Abort>(
     rt: &R,
     alloc: Global,
     hall: &Hall<Manual, KeepFour>,
     setter: &mut Guest<Manual, KeepFour>,
     looker: &mut Guest<Manual, KeepFour>,
-) -> Result<[Result<Option<Serving>, Behind>; 4], AllocError>
+) -> [Told; 4]
     requires setter { IsOf hall.now setter.old.seat }
     requires looker { IsOf hall.now looker.old.seat }
 {
@@ -205,27 +224,23 @@ fn told_without_memory<R: Wait>(
     let (mut watch, _) = door.open("a");
     let _ = result_of(rt, hall, setter, Step::Set("a", Setting::Down));
     let _ = result_of(rt, hall, setter, Step::Set("a", Setting::Up));
-    let scarcity = Scarcity::with_small_room(alloc)?;
-    let filler = scarcity.leave_steps(0)?;
-    let first = door.step(&mut watch);
-    let second = door.step(&mut watch);
-    let third = door.step(&mut watch);
-    drop(filler);
-    drop(scarcity);
+    let told = steps_without_memory(alloc, &mut door, &mut watch);
+    let [first, second, third] = told.expect(rt, "a room");
     let _ = result_of(rt, hall, setter, Step::Set("a", Setting::Down));
-    Ok([first, second, third, door.step(&mut watch)])
+    [first, second, third, door.step(&mut watch)]
 }
 
 #[test]
-fn a_copying_door_without_memory_looks_at_the_hall(rt: HostRuntime) -> Result<(), Fail> {
+fn a_copying_door_without_memory_looks_at_the_hall(rt: HostRuntime) {
     let alloc = rt.alloc();
-    let (hall, mut setter, mut looker) = two_seats(alloc, &["a", ""], 1_000, manuals(alloc)?)?;
-    let told = told_without_memory(&rt, alloc, &hall, &mut setter, &mut looker)?;
+    let probes = manuals(&rt, alloc);
+    let (hall, mut setter, mut looker) = two_seats(&rt, alloc, &["a", ""], 1_000, probes);
+    let told = told_without_memory(&rt, alloc, &hall, &mut setter, &mut looker);
     let expected = [
         Ok(Some(Serving::NotServing)),
         Ok(Some(Serving::Serving)),
         Ok(None),
         Ok(Some(Serving::NotServing)),
     ];
-    same(&told, &expected, &"the steps")
+    same(&rt, &told, &expected, &"the steps");
 }

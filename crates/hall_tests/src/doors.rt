@@ -5,13 +5,14 @@ ghost use Rattle.hall.specs.Seats.{IsOf};
 
 use crate::guest::{Guest, manuals, two_seats};
 use crate::rows::{Step, result_of};
+use crate::same::same;
 use crew::HallDoor;
 use desk_core::{KeepAll, Name, Order, Registrar, Setting};
 use hall::Hall;
 use probe_core::Manual;
+use std::alloc::Global;
+use std::process::Abort;
 use std::sync::Wait;
-use std::test::Fail;
-use test_support::same;
 
 /// Whether the change of an order shows.
 fn shows<R: Wait>(door: &mut HallDoor<'_, R, Manual>, order: &Order) -> bool
@@ -46,12 +47,24 @@ fn shown_by_two<R: Wait>(
     ]
 }
 
+/// An order to set `a`.
+fn order_of_a(rt: &impl Abort, alloc: Global, setting: Setting) -> Order {
+    let name = String::from_str(alloc, "a").expect(rt, "memory");
+    Order::Set(Name::new(name), setting)
+}
+
 #[test]
-fn a_change_shows_whoever_made_the_one_before(rt: HostRuntime) -> Result<(), Fail> {
+fn a_change_shows_whoever_made_the_one_before(rt: HostRuntime) {
     let alloc = rt.alloc();
-    let up = Order::Set(Name::new(String::from_str(alloc, "a")?), Setting::Up);
-    let down = Order::Set(Name::new(String::from_str(alloc, "a")?), Setting::Down);
-    let (hall, mut one, mut other) = two_seats(alloc, &["a", ""], 100, manuals(alloc)?)?;
+    let up = order_of_a(&rt, alloc, Setting::Up);
+    let down = order_of_a(&rt, alloc, Setting::Down);
+    let probes = manuals(&rt, alloc);
+    let (hall, mut one, mut other) = two_seats(&rt, alloc, &["a", ""], 100, probes);
     let shown = shown_by_two(&rt, &hall, &mut one, &mut other, &up, &down);
-    same(&shown, &[false, true, true, true, false, true], &"shown")
+    same(
+        &rt,
+        &shown,
+        &[false, true, true, true, false, true],
+        &"shown",
+    );
 }

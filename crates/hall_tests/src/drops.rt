@@ -1,13 +1,13 @@
 use crate::guest::Probes;
 use crate::race::{Race, closed_after};
 use crate::rows::{DONE, Found, Row, Step};
+use crate::same::same;
 use desk_core::{KeepAll, Refusal, Reply};
 use probe_core::tracked::Tracked;
-use std::alloc::{AllocError, Global};
+use std::alloc::Global;
+use std::process::Abort;
 use std::sync::Arc;
 use std::sync::atomic::{AtomicU64, Ordering};
-use std::test::Fail;
-use test_support::same;
 
 /// The counters of four probes, each of which leaves the hall in another way, and adds one to its own when it is dropped: one
 /// that is replaced, one that is retired, one that stays, and one that is refused.
@@ -16,31 +16,37 @@ pub(crate) struct Counters {
     drops: [Arc<AtomicU64>; 4],
 }
 
+/// A counter of no drops.
+fn counter(rt: &impl Abort, alloc: Global) -> Arc<AtomicU64> {
+    Arc::new(alloc, AtomicU64::new(0)).expect(rt, "memory")
+}
+
 impl Counters {
-    fn new(alloc: Global) -> Result<Counters, AllocError> {
-        let replaced = Arc::new(alloc, AtomicU64::new(0))?;
-        let retired = Arc::new(alloc, AtomicU64::new(0))?;
-        let closed = Arc::new(alloc, AtomicU64::new(0))?;
-        let refused = Arc::new(alloc, AtomicU64::new(0))?;
-        Ok(Counters {
-            drops: [replaced, retired, closed, refused],
-        })
+    fn new(rt: &impl Abort, alloc: Global) -> Counters {
+        Counters {
+            drops: [
+                counter(rt, alloc),
+                counter(rt, alloc),
+                counter(rt, alloc),
+                counter(rt, alloc),
+            ],
+        }
     }
 
-    fn again(&self) -> Result<Counters, AllocError> {
+    fn again(&self, rt: &impl Abort) -> Counters {
         let [replaced, retired, closed, refused] = &self.drops;
-        Ok(Counters {
+        Counters {
             drops: [
-                replaced.clone()?,
-                retired.clone()?,
-                closed.clone()?,
-                refused.clone()?,
+                replaced.clone().expect(rt, "a handle"),
+                retired.clone().expect(rt, "a handle"),
+                closed.clone().expect(rt, "a handle"),
+                refused.clone().expect(rt, "a handle"),
             ],
-        })
+        }
     }
 
     /// The four probes, the first of them last.
-    fn probes(self, alloc: Global) -> Result<Vec<Tracked>, Fail> {
+    fn probes(self, rt: &impl Abort, alloc: Global) -> Vec<Tracked> {
         let [replaced, retired, closed, refused] = self.drops;
         let probes = [
             Tracked::new(refused),
@@ -48,7 +54,7 @@ impl Counters {
             Tracked::new(retired),
             Tracked::new(replaced),
         ];
-        Ok(Vec::from_array(alloc, probes)?)
+        Vec::from_array(alloc, probes).expect(rt, "memory")
     }
 
     pub(crate) fn drops(&self) -> [u64; 4] {
@@ -98,16 +104,16 @@ static BESIDE_CHECKS: Race = Race {
 
 /// `retire_makes_its_own_box`: one that answered a probe of its own making would drop the registered one here.
 #[test]
-fn drops_no_probe_but_with_what_it_gave_out(rt: HostRuntime) -> Result<(), Fail> {
+fn drops_no_probe_but_with_what_it_gave_out(rt: HostRuntime) {
     let alloc = rt.alloc();
-    let counters = Counters::new(alloc)?;
+    let counters = Counters::new(&rt, alloc);
     let probes = Probes {
-        first: counters.again()?.probes(alloc)?,
+        first: counters.again(&rt).probes(&rt, alloc),
         second: Vec::new(alloc),
-        counters: Some(counters.again()?),
+        counters: Some(counters.again(&rt)),
     };
-    let closed = closed_after::<HostRuntime, Tracked, KeepAll>(&rt, alloc, &BESIDE_CHECKS, probes)?;
-    same(&counters.drops(), &[1, 1, 0, 1], &"closed")?;
+    let closed = closed_after::<HostRuntime, Tracked, KeepAll>(&rt, alloc, &BESIDE_CHECKS, probes);
+    same(&rt, &counters.drops(), &[1, 1, 0, 1], &"closed");
     drop(closed);
-    same(&counters.drops(), &[1, 1, 1, 1], &"dropped")
+    same(&rt, &counters.drops(), &[1, 1, 1, 1], &"dropped");
 }

@@ -1,10 +1,9 @@
 use crate::guest::catalogue;
+use crate::same::same;
 use desk_core::Catalogue;
 use hall::{Hall, HallFault, Seat};
 use probe_core::Manual;
 use std::alloc::Global;
-use std::test::Fail;
-use test_support::same;
 
 /// The fault of a hall of so many seats, or the number of the last of them.
 pub(crate) fn last_seat_of(
@@ -25,10 +24,10 @@ const NUMBERS_OF_SEATS: [(u16, Result<Option<u16>, HallFault>); 5] = [
 ];
 
 #[test]
-fn refuses_no_seats_and_too_many(rt: HostRuntime) -> Result<(), Fail> {
-    for (seats, expected) in &NUMBERS_OF_SEATS {
-        let names = catalogue(rt.alloc(), &["a", ""])?;
-        same(&last_seat_of(rt.alloc(), names, *seats), expected, seats)?;
+fn refuses_no_seats_and_too_many(rt: HostRuntime) {
+    for (seats, expected) in NUMBERS_OF_SEATS {
+        let names = catalogue(&rt, rt.alloc(), &["a", ""]);
+        let last = last_seat_of(rt.alloc(), names, seats);
+        same(&rt, &last, &expected, &seats);
     }
-    Ok(())
 }

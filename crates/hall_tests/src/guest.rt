@@ -1,14 +1,14 @@
 //! A hall with two seats, as the tests begin with it.
 
-ghost use Rattle.std.specs.Prelude.{◌≡◌, IfOk};
+ghost use Rattle.std.specs.Prelude.{◌≡◌};
 ghost use Rattle.hall.specs.Seats.{IsOf};
 
 use crate::drops::Counters;
 use desk_core::{Catalogue, Keep, Watch};
 use hall::{Hall, Seat};
 use probe_core::{Manual, Probe};
-use std::alloc::{AllocError, Global};
-use std::test::Fail;
+use std::alloc::Global;
+use std::process::Abort;
 
 /// A seat, and what goes with it.
 #[derive(Drop)]
@@ -31,12 +31,13 @@ pub(crate) struct Probes<P: Probe> {
     pub(crate) counters: Option<Counters>,
 }
 
-pub(crate) fn catalogue(alloc: Global, names: &[&str]) -> Result<Catalogue, Fail> {
+pub(crate) fn catalogue(rt: &impl Abort, alloc: Global, names: &[&str]) -> Catalogue {
     let mut listed = Vec::new(alloc);
     for name in names {
-        listed.push(String::from_str(alloc, name)?)?;
+        let name = String::from_str(alloc, name).expect(rt, "memory");
+        listed.push(name).expect(rt, "memory");
     }
-    Ok(Catalogue::new(alloc, listed)?)
+    Catalogue::new(alloc, listed).expect(rt, "a catalogue")
 }
 
 fn guest_of<P: Probe, K: Keep>(
@@ -56,32 +57,34 @@ fn guest_of<P: Probe, K: Keep>(
 }
 
 /// A hall with its two seats in the order of their numbers.
-pub(crate) fn two_seats<P: Probe, K: Keep>(
+pub(crate) fn two_seats<R: Abort, P: Probe, K: Keep>(
+    rt: &R,
     alloc: Global,
     names: &[&str],
     max_entries: u32,
     probes: Probes<P>,
-) -> Result<(Hall<P, K>, Guest<P, K>, Guest<P, K>), Fail>
-    ensures first { IfOk result (λ made. IsOf made.0 made.1.seat) }
-    ensures second { IfOk result (λ made. IsOf made.0 made.2.seat) }
+) -> (Hall<P, K>, Guest<P, K>, Guest<P, K>)
+    ensures first { IsOf result.0 result.1.seat }
+    ensures second { IsOf result.0 result.2.seat }
 {
-    let (hall, mut seats) = Hall::new(alloc, catalogue(alloc, names)?, max_entries, 2)?;
+    let names = catalogue(rt, alloc, names);
+    let (hall, mut seats) = Hall::new(alloc, names, max_entries, 2).expect(rt, "a hall");
     let second = guest_of(seats.pop().unwrap(), probes.second, None);
     let first = guest_of(seats.pop().unwrap(), probes.first, probes.counters);
-    Ok((hall, first, second))
+    (hall, first, second)
 }
 
 /// Twenty probes for each of two seats.
-pub(crate) fn manuals(alloc: Global) -> Result<Probes<Manual>, AllocError> {
+pub(crate) fn manuals(rt: &impl Abort, alloc: Global) -> Probes<Manual> {
     let mut first = Vec::new(alloc);
     let mut second = Vec::new(alloc);
     for _ in 0..20 {
-        first.push(Manual::new())?;
-        second.push(Manual::new())?;
+        first.push(Manual::new()).expect(rt, "memory");
+        second.push(Manual::new()).expect(rt, "memory");
     }
-    Ok(Probes {
+    Probes {
         first,
         second,
         counters: None,
-    })
+    }
 }

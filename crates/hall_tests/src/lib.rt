@@ -28,4 +28,6 @@ mod races;
 #[cfg(test)]
 mod rows;
 #[cfg(test)]
+mod same;
+#[cfg(test)]
 mod stores;

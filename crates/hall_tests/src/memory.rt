@@ -3,13 +3,14 @@ ghost use Rattle.hall.specs.Seats.{IsOf};
 use crate::faults::last_seat_of;
 use crate::guest::{Guest, Probes, catalogue, two_seats};
 use crate::rows::{DONE, Found, Row, Step, first_wrong, result_of};
-use desk_core::{Finding, KeepAll, Refusal, Reply, Setting};
+use crate::same::same;
+use desk_core::{Catalogue, Finding, KeepAll, Refusal, Reply, Setting};
 use hall::{Hall, HallFault};
 use probe_core::{Start, Threshold};
 use std::alloc::{AllocError, Global};
+use std::process::Abort;
 use std::sync::Wait;
-use std::test::Fail;
-use test_support::{Scarcity, same};
+use test_support::Scarcity;
 
 /// More steps of memory than any of the calls needs.
 const STEPS: usize = 1_024;
@@ -17,27 +18,37 @@ const STEPS: usize = 1_024;
 /// More rounds than any of the changes is refused in.
 const ROUNDS: usize = 256;
 
+/// The fault of a hall of two seats with so many steps of memory left, or the number of the last seat.
+fn last_seat_with(
+    alloc: Global,
+    names: Catalogue,
+    step: usize,
+) -> Result<Result<Option<u16>, HallFault>, AllocError> {
+    let scarcity = Scarcity::with_small_room(alloc)?;
+    let filler = scarcity.leave_steps(step)?;
+    let made = last_seat_of(alloc, names, 2);
+    drop(filler);
+    drop(scarcity);
+    Ok(made)
+}
+
 /// With how many steps of memory a hall of two seats was refused.
-fn refusals_of_a_hall(alloc: Global) -> Result<usize, Fail> {
+fn refusals_of_a_hall(rt: &impl Abort, alloc: Global) -> usize {
     for step in 0..STEPS {
-        let names = catalogue(alloc, &["a", ""])?;
-        let scarcity = Scarcity::with_small_room(alloc)?;
-        let filler = scarcity.leave_steps(step)?;
-        let made = last_seat_of(alloc, names, 2);
-        drop(filler);
-        drop(scarcity);
+        let names = catalogue(rt, alloc, &["a", ""]);
+        let made = last_seat_with(alloc, names, step).expect(rt, "a room");
         if made == Ok(Some(1)) {
-            return Ok(step);
+            return step;
         }
-        same(&made, &Err(HallFault::NoMemory), &step)?;
+        same(rt, &made, &Err(HallFault::NoMemory), &step);
     }
-    Ok(STEPS)
+    STEPS
 }
 
 #[test]
-fn refuses_each_growth_of_a_hall(rt: HostRuntime) -> Result<(), Fail> {
-    let refused = refusals_of_a_hall(rt.alloc())?;
-    same(&(2 < refused && refused < STEPS), &true, &refused)
+fn refuses_each_growth_of_a_hall(rt: HostRuntime) {
+    let refused = refusals_of_a_hall(&rt, rt.alloc());
+    assert!(rt; 2 < refused && refused < STEPS, "{refused} steps");
 }
 
 /// A change behind so many entries, and what comes of it with enough memory.
@@ -87,43 +98,48 @@ fn result_with<R: Wait>(
 }
 
 /// Five probes for the first of two seats.
-fn thresholds(alloc: Global) -> Result<Probes<Threshold>, AllocError> {
+fn thresholds(rt: &impl Abort, alloc: Global) -> Probes<Threshold> {
     let mut first = Vec::new(alloc);
     for _ in 0..5 {
-        first.push(Threshold::new(1, 1, Start::Up))?;
+        first
+            .push(Threshold::new(1, 1, Start::Up))
+            .expect(rt, "memory");
     }
-    Ok(Probes {
+    Probes {
         first,
         second: Vec::new(alloc),
         counters: None,
-    })
+    }
 }
 
 /// What comes of the change with so many steps of memory left.
-fn found_with<R: Wait>(rt: &R, alloc: Global, case: &Case, step: usize) -> Result<Found, Fail> {
-    let (hall, mut guest, _) = two_seats(alloc, &["a", ""], 100, thresholds(alloc)?)?;
+fn found_with<R: Wait + Abort>(rt: &R, alloc: Global, case: &Case, step: usize) -> Found {
+    let probes = thresholds(rt, alloc);
+    let (hall, mut guest, _) = two_seats(rt, alloc, &["a", ""], 100, probes);
     let wrong = first_wrong(rt, &hall, &mut guest, &BEFORE, case.0);
-    same(&wrong, &None, &step)?;
-    Ok(result_with(rt, alloc, &hall, &mut guest, step, case.1)?)
+    same(rt, &wrong, &None, &step);
+    result_with(rt, alloc, &hall, &mut guest, step, case.1).expect(rt, "a room")
 }
 
 /// In how many rounds the change was refused, each with four steps more of memory: no growth of a change is as small.
-fn refusals_of<R: Wait>(rt: &R, alloc: Global, case: &Case) -> Result<usize, Fail> {
+fn refusals_of<R: Wait + Abort>(rt: &R, alloc: Global, case: &Case) -> usize {
     for round in 0..ROUNDS {
-        let found = found_with(rt, alloc, case, 4 * round)?;
+        let found = found_with(rt, alloc, case, 4 * round);
         if found == case.2 {
-            return Ok(round);
+            return round;
         }
-        same(&found, &Found::Change(Err(Refusal::NoMemory)), &round)?;
+        same(rt, &found, &Found::Change(Err(Refusal::NoMemory)), &round);
     }
-    Ok(ROUNDS)
+    ROUNDS
 }
 
 #[test]
-fn refuses_each_growth_of_each_change(rt: HostRuntime) -> Result<(), Fail> {
+fn refuses_each_growth_of_each_change(rt: HostRuntime) {
     for (index, case) in CASES.iter().enumerate() {
-        let refused = refusals_of(&rt, rt.alloc(), case)?;
-        same(&(2 < refused && refused < ROUNDS), &true, &(index, refused))?;
+        let refused = refusals_of(&rt, rt.alloc(), case);
+        assert!(rt;
+            2 < refused && refused < ROUNDS,
+            "case {index}: {refused} rounds"
+        );
     }
-    Ok(())
 }

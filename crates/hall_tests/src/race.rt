@@ -5,15 +5,15 @@ ghost use Rattle.hall.specs.Seats.{IsOf};
 
 use crate::guest::{Guest, Probes, manuals, two_seats};
 use crate::rows::{Row, Wrong, first_wrong, wrong_of};
+use crate::same::same;
 use desk_core::{Keep, board_entries};
 use hall::{Closed, Hall, Note, Seat};
 use probe_core::{Manual, Probe};
 use std::alloc::Global;
+use std::process::Abort;
 use std::sync::Wait;
-use std::test::Fail;
 use std::thread;
 use std::thread::Threads;
-use test_support::same;
 
 /// What two seats of a hall do, each in a thread of its own, and what they find.
 pub(crate) struct Race {
@@ -132,57 +132,58 @@ fn raced<R: Wait + Threads + Sync, P: Probe + Send, K: Keep + Send>(
 }
 
 /// Closes a hall with both its seats.
-pub(crate) fn close<P: Probe, K: Keep>(
+pub(crate) fn close<R: Abort, P: Probe, K: Keep>(
+    rt: &R,
     alloc: Global,
     hall: Hall<P, K>,
     first: Seat<P, K>,
     second: Seat<P, K>,
-) -> Result<Closed<P, K>, Fail>
+) -> Closed<P, K>
     requires first { IsOf hall first }
     requires second { IsOf hall second }
 {
-    match hall.close(Vec::from_array(alloc, [first, second])?) {
-        Ok(closed) => Ok(closed),
-        Err(_) => Err(Fail::new("not closed")),
+    let seats = Vec::from_array(alloc, [first, second]).expect(rt, "memory");
+    match hall.close(seats) {
+        Ok(closed) => closed,
+        Err(_) => panic!(rt; "not closed"),
     }
 }
 
-fn race_ended<R: Wait + Threads + Sync, P: Probe + Send, K: Keep + Send>(
+fn race_ended<R: Wait + Threads + Sync + Abort, P: Probe + Send, K: Keep + Send>(
     rt: &R,
     alloc: Global,
     race: &Race,
     probes: Probes<P>,
-) -> Result<Ended<P, K>, Fail> {
-    let (hall, mut first, second) = two_seats(alloc, race.names, race.max_entries, probes)?;
+) -> Ended<P, K> {
+    let (hall, mut first, second) = two_seats(rt, alloc, race.names, race.max_entries, probes);
     let before = wrong_of(rt, &hall, &mut first, race.before);
     let (mut first, mut second, [in_first, in_second]) = raced(rt, &hall, first, second, race);
     let after_first = wrong_of(rt, &hall, &mut first, race.after.0);
     let after_second = wrong_of(rt, &hall, &mut second, race.after.1);
-    let closed = close(alloc, hall, first.seat, second.seat)?;
+    let closed = close(rt, alloc, hall, first.seat, second.seat);
     let wrong = [before, in_first, in_second, after_first, after_second];
-    Ok((closed, wrong))
+    (closed, wrong)
 }
 
 /// What is left of the hall, where all went as the race says.
-pub(crate) fn closed_after<R: Wait + Threads + Sync, P: Probe + Send, K: Keep + Send>(
+pub(crate) fn closed_after<R: Wait + Threads + Sync + Abort, P: Probe + Send, K: Keep + Send>(
     rt: &R,
     alloc: Global,
     race: &Race,
     probes: Probes<P>,
-) -> Result<Closed<P, K>, Fail> {
-    let (closed, wrong) = race_ended(rt, alloc, race, probes)?;
+) -> Closed<P, K> {
+    let (closed, wrong) = race_ended(rt, alloc, race, probes);
     let ended = (wrong, board_entries(closed.desk.board()));
-    same(&ended, &([None; 5], race.entries), &"the race")?;
-    Ok(closed)
+    same(rt, &ended, &([None; 5], race.entries), &"the race");
+    closed
 }
 
 /// Goes through a race of services that are set by hand.
-pub(crate) fn expect_race<R: Wait + Threads + Sync, K: Keep + Send>(
+pub(crate) fn expect_race<R: Wait + Threads + Sync + Abort, K: Keep + Send>(
     rt: &R,
     alloc: Global,
     race: &Race,
-) -> Result<(), Fail> {
-    let closed: Closed<Manual, K> = closed_after(rt, alloc, race, manuals(alloc)?)?;
+) {
+    let closed: Closed<Manual, K> = closed_after(rt, alloc, race, manuals(rt, alloc));
     drop(closed);
-    Ok(())
 }

@@ -4,8 +4,8 @@ use crate::rows::{DONE, Found, Row, Step};
 use desk_core::{Extent, Finding, KeepAll, Refusal, Setting};
 use health_wire::Serving;
 use std::alloc::Global;
+use std::process::Abort;
 use std::sync::Wait;
-use std::test::Fail;
 use std::thread::Threads;
 
 const DOWN_A: Row = (Step::Set("a", Setting::Down), DONE);
@@ -103,15 +103,15 @@ static FULL_JOURNAL: Race = Race {
     entries: 3,
 };
 
-fn expect_races<R: Wait + Threads + Sync>(rt: &R, alloc: Global) -> Result<(), Fail> {
+fn expect_races<R: Wait + Threads + Sync + Abort>(rt: &R, alloc: Global) {
     for race in [&FLIPS, &CHECKED_FLIPS, &FULL_JOURNAL] {
-        expect_race::<R, KeepAll>(rt, alloc, race)?;
+        expect_race::<R, KeepAll>(rt, alloc, race);
     }
-    expect_race::<R, KeepFour>(rt, alloc, &EACH_CALL)
+    expect_race::<R, KeepFour>(rt, alloc, &EACH_CALL);
 }
 
 /// Two threads lose no change, are refused at a full journal, and make each call also where the hall forgets.
 #[test]
-fn loses_no_change_of_two_threads(rt: HostRuntime) -> Result<(), Fail> {
-    expect_races(&rt, rt.alloc())
+fn loses_no_change_of_two_threads(rt: HostRuntime) {
+    expect_races(&rt, rt.alloc());
 }

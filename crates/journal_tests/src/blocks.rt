@@ -1,7 +1,6 @@
+use crate::same::same;
 use record_log::{Memory, ReadError, RecordLog, crc32, read_entries};
 use std::alloc::Global;
-use std::test::Fail;
-use test_support::same;
 
 /// The last is the check value of the standard; zlib has the others.
 static CHECKSUMS: [(&[u8], u32); 4] = [
@@ -12,11 +11,10 @@ static CHECKSUMS: [(&[u8], u32); 4] = [
 ];
 
 #[test]
-fn has_the_checksums_of_zlib(rt: HostRuntime) -> Result<(), Fail> {
+fn has_the_checksums_of_zlib(rt: HostRuntime) {
     for (bytes, sum) in &CHECKSUMS {
-        same(&crc32(bytes), sum, bytes)?;
+        same(&rt, &crc32(bytes), sum, &bytes);
     }
-    Ok(())
 }
 
 /// The entries `abc` and an empty one, and a closed gate.
@@ -25,14 +23,16 @@ const FILE: [u8; 16] = [
 ];
 
 #[test]
-fn writes_blocks(rt: HostRuntime) -> Result<(), Fail> {
+fn writes_blocks(rt: HostRuntime) {
     let alloc = rt.alloc();
-    let mut log = RecordLog::new(Memory::new(alloc, Vec::new(alloc))?);
-    log.open(alloc)?;
-    let batch = vec![in alloc; b"abc".to_vec(alloc)?, Vec::new(alloc)]?;
-    log.append(alloc, &batch)?;
-    same(&log.device.bytes(), &FILE.as_slice(), &"the file")?;
-    same(&log.end, &15, &"the gate")
+    let device = Memory::new(alloc, Vec::new(alloc)).expect(&rt, "memory");
+    let mut log = RecordLog::new(device);
+    log.open(alloc).expect(&rt, "a file");
+    let entry = b"abc".to_vec(alloc).expect(&rt, "memory");
+    let batch = vec![in alloc; entry, Vec::new(alloc)].expect(&rt, "memory");
+    log.append(alloc, &batch).expect(&rt, "an append");
+    same(&rt, &log.device.bytes(), &FILE.as_slice(), &"the file");
+    same(&rt, &log.end, &15, &"the gate");
 }
 
 /// The place of the gate behind the entries of a file.
@@ -58,16 +58,15 @@ static CHANGES: [(usize, u8, Result<usize, ReadError>); 11] = [
 ];
 
 #[test]
-fn tells_damage_from_a_crash(rt: HostRuntime) -> Result<(), Fail> {
+fn tells_damage_from_a_crash(rt: HostRuntime) {
     let alloc = rt.alloc();
     for &(at, byte, expected) in &CHANGES {
         let mut file = FILE;
         if let Some(place) = file.get_mut(at) {
             *place = byte;
         }
-        same(&end_of(alloc, &file), &expected, &(at, byte))?;
+        same(&rt, &end_of(alloc, &file), &expected, &(byte, at));
     }
-    Ok(())
 }
 
 /// How many bytes are left of the file, and what is found.
@@ -81,10 +80,14 @@ static CUTS: [(usize, Result<usize, ReadError>); 6] = [
 ];
 
 #[test]
-fn tells_a_file_that_was_cut(rt: HostRuntime) -> Result<(), Fail> {
+fn tells_a_file_that_was_cut(rt: HostRuntime) {
     let alloc = rt.alloc();
     for (len, expected) in &CUTS {
-        same(&end_of(alloc, &FILE[..FILE.len().min(*len)]), expected, len)?;
+        same(
+            &rt,
+            &end_of(alloc, &FILE[..FILE.len().min(*len)]),
+            expected,
+            &len,
+        );
     }
-    Ok(())
 }

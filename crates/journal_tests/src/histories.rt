@@ -10,7 +10,7 @@ use journal_store::{Medium, Preface, Witness};
 use probe_core::{Maker, Manual, Rule};
 use record_log::{DeviceError, Memory, RecordLog};
 use std::alloc::{AllocError, Global};
-use std::test::Fail;
+use std::process::Abort;
 
 /// Numbers with no order, by Marsaglia's xorshift (2003).
 #[derive(Drop)]
@@ -25,9 +25,9 @@ impl Random {
     }
 
     /// A call of one of two slots.
-    pub(crate) fn call(&mut self) -> Result<Call, Fail> {
-        let slot = Slot::new((self.next() % 2) as u8).ok_or("no slot")?;
-        Ok(match self.next() % 8 {
+    pub(crate) fn call(&mut self, rt: &impl Abort) -> Call {
+        let slot = Slot::new((self.next() % 2) as u8).expect(rt, "a slot");
+        match self.next() % 8 {
             0 | 1 => Call::Register(slot, Rule::Manual),
             2 => Call::Retire(slot),
             3 => Call::Observe(slot, Finding::Fail),
@@ -35,7 +35,7 @@ impl Random {
             5 => Call::Set(slot, Setting::Down),
             6 => Call::Shutdown,
             _ => Call::Resume,
-        })
+        }
     }
 }
 
@@ -43,18 +43,19 @@ impl Random {
     /// The bytes up to this place, and others after it.
     pub(crate) fn garbled(
         &mut self,
+        rt: &impl Abort,
         alloc: Global,
         text: &[u8],
         cut: usize,
-    ) -> Result<Vec<u8>, AllocError>
+    ) -> Vec<u8>
         requires { cut ≤ length text.now }
     {
         let (front, back) = text.split_at(cut);
-        let mut torn = front.to_vec(alloc)?;
+        let mut torn = front.to_vec(alloc).expect(rt, "memory");
         for _ in back {
-            torn.push((self.next() % 256) as u8)?;
+            torn.push((self.next() % 256) as u8).expect(rt, "memory");
         }
-        Ok(torn)
+        torn
     }
 }
 
@@ -128,19 +129,21 @@ impl Registry {
 
 /// So many entries of this seat, one after the other.
 pub(crate) fn history(
+    rt: &impl Abort,
     alloc: Global,
     random: &mut Random,
     seat: u16,
     count: usize,
-) -> Result<Vec<Entry>, Fail> {
+) -> Vec<Entry> {
     let mut registry = Registry::EMPTY;
     let mut entries = Vec::new(alloc);
     for _ in 0..count {
-        let call = random.call()?;
+        let call = random.call(rt);
         let reply = registry.make(&call);
-        entries.push(Entry { seat, call, reply })?;
+        let entry = Entry { seat, call, reply };
+        entries.push(entry).expect(rt, "memory");
     }
-    Ok(entries)
+    entries
 }
 
 /// At each seat is the session of its number, at the same time.
@@ -154,11 +157,13 @@ impl Witness for Sessions {
 }
 
 /// A preface of the empty name and `a`.
-pub(crate) fn preface(alloc: Global) -> Result<Preface, Fail> {
-    let mut names = Vec::with_capacity(alloc, 2)?;
-    names.push(String::new(alloc))?;
-    names.push(String::from_str(alloc, "a")?)?;
-    Ok(Preface::new(alloc, &Catalogue::new(alloc, names)?)?)
+pub(crate) fn preface(rt: &impl Abort, alloc: Global) -> Preface {
+    let mut names = Vec::with_capacity(alloc, 2).expect(rt, "memory");
+    names.push(String::new(alloc)).expect(rt, "memory");
+    let name = String::from_str(alloc, "a").expect(rt, "memory");
+    names.push(name).expect(rt, "memory");
+    let catalogue = Catalogue::new(alloc, names).expect(rt, "a catalogue");
+    Preface::new(alloc, &catalogue).expect(rt, "memory")
 }
 
 /// Whether a file is put in the place of another, or that fails, with the old file there or the new one.

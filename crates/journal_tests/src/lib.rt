@@ -1,4 +1,5 @@
-//! Tests of the crates that keep a journal in a file and print it: `record_log`, `journal_store` and `journal_lines`. They see public calls alone.
+//! Tests of the crates that keep a journal in a file and print it: `entry_record`, `digest`, `record_log`, `journal_store` and
+//! `journal_lines`. They see public calls alone.
 #![tactic(auto)]
 
 #[cfg(test)]
@@ -7,6 +8,8 @@ mod blocks;
 mod bound;
 #[cfg(test)]
 mod crashes;
+#[cfg(test)]
+mod digests;
 #[cfg(test)]
 mod histories;
 #[cfg(test)]
@@ -20,8 +23,12 @@ mod prefaces;
 #[cfg(test)]
 mod printing;
 #[cfg(test)]
+mod records;
+#[cfg(test)]
 mod restarts;
 #[cfg(test)]
 mod retries;
 #[cfg(test)]
 mod rewritings;
+#[cfg(test)]
+mod same;

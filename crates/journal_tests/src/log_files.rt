@@ -1,189 +1,220 @@
 //! Over real files.
 
-ghost use Rattle.std.specs.Prelude.{◌<◌, All, length, IfOk};
+ghost use Rattle.std.specs.Prelude.{◌<◌, All, length};
 
+use crate::same::same;
 use record_log::{
     FileDevice, FileError, HeldFile, OpenError, RecordLog, blocks_of, write_anew, write_text_anew,
 };
-use std::alloc::{AllocError, Global};
+use std::alloc::Global;
 use std::fs;
-use std::test::Fail;
-use test_support::same;
+use std::fs::File;
+use std::process::Abort;
+use std::rt::Files;
 
 /// The log of a file, which is still to be opened.
-fn log_at(rt: &HostRuntime, path: &str) -> Result<RecordLog<FileDevice>, FileError> {
+fn log_at<R: Files<File = File> + AllocGlobal>(
+    rt: &R,
+    path: &str,
+) -> Result<RecordLog<FileDevice>, FileError> {
     Ok(RecordLog::new(FileDevice::open(rt, path)?))
 }
 
-fn one_and_two(alloc: Global) -> Result<Vec<Vec<u8>>, AllocError>
-    ensures some { IfOk result (λ batch. 0 < length batch.items) }
-    ensures short { IfOk result (λ batch. All (λ entry. length entry.items < 256) batch.items) }
-{
-    Ok(vec![in alloc; b"one".to_vec(alloc)?, b"two".to_vec(alloc)?]?)
+/// The same of a file that may be had.
+fn log_of<R: Files<File = File> + AllocGlobal + Abort>(
+    rt: &R,
+    path: &str,
+) -> RecordLog<FileDevice> {
+    log_at(rt, path).expect(rt, "a log")
 }
 
-fn three(alloc: Global) -> Result<Vec<Vec<u8>>, AllocError>
-    ensures some { IfOk result (λ batch. 0 < length batch.items) }
-    ensures short { IfOk result (λ batch. All (λ entry. length entry.items < 256) batch.items) }
+/// The bytes of a file.
+fn bytes_at<R: Files<File = File> + AllocGlobal + Abort>(rt: &R, path: &str) -> Vec<u8> {
+    fs::read(rt, path).expect(rt, "the file")
+}
+
+fn remove<R: Files<File = File> + AllocGlobal + Abort>(rt: &R, path: &str) {
+    fs::remove_file(rt, path).expect(rt, "a file to remove");
+}
+
+fn one_and_two(rt: &impl Abort, alloc: Global) -> Vec<Vec<u8>>
+    ensures some { 0 < length result.items }
+    ensures short { All (λ entry. length entry.items < 256) result.items }
 {
-    Ok(vec![in alloc; b"three".to_vec(alloc)?]?)
+    let one = b"one".to_vec(alloc).expect(rt, "memory");
+    let two = b"two".to_vec(alloc).expect(rt, "memory");
+    vec![in alloc; one, two].expect(rt, "memory")
+}
+
+fn three(rt: &impl Abort, alloc: Global) -> Vec<Vec<u8>>
+    ensures some { 0 < length result.items }
+    ensures short { All (λ entry. length entry.items < 256) result.items }
+{
+    let three = b"three".to_vec(alloc).expect(rt, "memory");
+    vec![in alloc; three].expect(rt, "memory")
 }
 
 /// There are so many entries, of which `three` is the last.
-fn expect(found: &[Vec<u8>], count: usize, what: &str) -> Result<(), Fail> {
-    same(&found.len(), &count, &what)?;
+fn expect(rt: &impl Abort, found: &[Vec<u8>], count: usize, what: &str) {
+    same(rt, &found.len(), &count, &what);
     let newest = found.last().map(Vec::as_slice);
-    same(&newest, &Some(b"three".as_slice()), &what)
+    same(rt, &newest, &Some(b"three".as_slice()), &what);
 }
 
 /// Makes a file of three entries, which nobody else opens meanwhile.
-fn make(rt: &HostRuntime, path: &str) -> Result<(), Fail> {
+fn make<R: Files<File = File> + AllocGlobal + Abort>(rt: &R, path: &str) {
     let alloc = rt.alloc();
-    let mut log = log_at(rt, path)?;
-    same(&log.open(alloc)?.len(), &0, &"made")?;
-    log.append(alloc, &one_and_two(alloc)?)?;
-    log.append(alloc, &three(alloc)?)?;
+    let mut log = log_of(rt, path);
+    let found = log.open(alloc).expect(rt, "no entry");
+    same(rt, &found.len(), &0, &"made");
+    let (first, second) = (one_and_two(rt, alloc), three(rt, alloc));
+    log.append(alloc, &first).expect(rt, "an append");
+    log.append(alloc, &second).expect(rt, "an append");
     let in_use = log_at(rt, path).map(drop);
     let is_in_use = matches!(in_use, Err(FileError::InUse));
-    same(&is_in_use, &true, &"in use")
+    assert!(rt; is_in_use, "in use");
 }
 
 /// Opens that file, adds to it and makes it anew.
-fn make_anew(rt: &HostRuntime, path: &str) -> Result<(), Fail> {
+fn make_anew<R: Files<File = File> + AllocGlobal + Abort>(rt: &R, path: &str) {
     let alloc = rt.alloc();
-    let mut log = log_at(rt, path)?;
-    expect(&log.open(alloc)?, 3, "opened")?;
-    log.append(alloc, &one_and_two(alloc)?)?;
-    let entries = three(alloc)?;
-    let mut anew = write_anew(rt, path, log, &entries)?;
-    anew.append(alloc, &entries)?;
-    Ok(())
+    let mut log = log_of(rt, path);
+    let found = log.open(alloc).expect(rt, "its entries");
+    expect(rt, &found, 3, "opened");
+    let (added, entries) = (one_and_two(rt, alloc), three(rt, alloc));
+    log.append(alloc, &added).expect(rt, "an append");
+    let mut anew = write_anew(rt, path, log, &entries).expect(rt, "a file");
+    anew.append(alloc, &entries).expect(rt, "an append");
 }
 
 #[test]
-fn a_file_keeps_what_is_acknowledged(rt: HostRuntime) -> Result<(), Fail> {
+fn a_file_keeps_what_is_acknowledged(rt: HostRuntime) {
     let path = "/tmp/record-log-keeps";
-    make(&rt, path)?;
-    make_anew(&rt, path)?;
-    let found = log_at(&rt, path)?.open(rt.alloc())?;
-    expect(&found, 2, "anew")?;
+    make(&rt, path);
+    make_anew(&rt, path);
+    let found = log_of(&rt, path).open(rt.alloc());
+    let found = found.expect(&rt, "its entries");
+    expect(&rt, &found, 2, "anew");
     let oldest = found.first().map(Vec::as_slice);
-    same(&oldest, &Some(b"three".as_slice()), &"anew")?;
-    fs::remove_file(&rt, path)?;
-    Ok(())
+    same(&rt, &oldest, &Some(b"three".as_slice()), &"anew");
+    remove(&rt, path);
 }
 
 #[test]
-fn an_empty_file_is_an_empty_log(rt: HostRuntime) -> Result<(), Fail> {
+fn an_empty_file_is_an_empty_log(rt: HostRuntime) {
     let path = "/tmp/record-log-empty";
-    fs::write(&rt, path, b"")?;
-    let count = log_at(&rt, path)?.open(rt.alloc())?.len();
-    same(&count, &0, &"empty")?;
-    same(&fs::read(&rt, path)?.as_slice(), &[0].as_slice(), &"a gate")?;
-    fs::remove_file(&rt, path)?;
-    Ok(())
+    fs::write(&rt, path, b"").expect(&rt, "a write");
+    let found = log_of(&rt, path).open(rt.alloc());
+    let found = found.expect(&rt, "no entry");
+    same(&rt, &found.len(), &0, &"empty");
+    same(
+        &rt,
+        &bytes_at(&rt, path).as_slice(),
+        &[0].as_slice(),
+        &"a gate",
+    );
+    remove(&rt, path);
 }
 
 /// Makes a file of two entries.
-fn make_two(rt: &HostRuntime, path: &str) -> Result<(), Fail> {
+fn make_two<R: Files<File = File> + AllocGlobal + Abort>(rt: &R, path: &str) {
     let alloc = rt.alloc();
-    let mut log = log_at(rt, path)?;
-    log.open(alloc)?;
-    log.append(alloc, &one_and_two(alloc)?)?;
-    Ok(())
+    let mut log = log_of(rt, path);
+    log.open(alloc).expect(rt, "its entries");
+    let entries = one_and_two(rt, alloc);
+    log.append(alloc, &entries).expect(rt, "an append");
 }
 
-fn expect_damage(rt: &HostRuntime, path: &str) -> Result<(), Fail> {
-    let opened = log_at(rt, path)?.open(rt.alloc()).map(drop);
-    same(&opened, &Err(OpenError::Damaged(9)), &"damaged")
+fn expect_damage<R: Files<File = File> + AllocGlobal + Abort>(rt: &R, path: &str) {
+    let opened = log_of(rt, path).open(rt.alloc()).map(drop);
+    same(rt, &opened, &Err(OpenError::Damaged(9)), &"damaged");
 }
 
 #[test]
-fn a_damaged_file_stays_as_it_is(rt: HostRuntime) -> Result<(), Fail> {
+fn a_damaged_file_stays_as_it_is(rt: HostRuntime) {
     let path = "/tmp/record-log-damaged";
-    make_two(&rt, path)?;
-    let mut file = fs::read(&rt, path)?;
+    make_two(&rt, path);
+    let mut file = bytes_at(&rt, path);
     if let Some(byte) = file.get_mut(12) {
         *byte = 0;
     }
-    fs::write(&rt, path, &file)?;
-    expect_damage(&rt, path)?;
-    same(&fs::read(&rt, path)?, &file, &"as it is")?;
-    fs::remove_file(&rt, path)?;
-    Ok(())
+    fs::write(&rt, path, &file).expect(&rt, "a write");
+    expect_damage(&rt, path);
+    same(&rt, &bytes_at(&rt, path), &file, &"as it is");
+    remove(&rt, path);
 }
 
 /// Puts the text of one entry in the place of a file. Says whether it is there.
-fn put_three(rt: &HostRuntime, path: &str) -> Result<bool, Fail> {
+fn put_three<R: Files<File = File> + AllocGlobal + Abort>(rt: &R, path: &str) -> bool {
     let alloc = rt.alloc();
-    let text = blocks_of(alloc, &three(alloc)?)?;
-    let mut log = log_at(rt, path)?;
-    log.open(alloc)?;
+    let text = blocks_of(alloc, &three(rt, alloc)).expect(rt, "memory");
+    let mut log = log_of(rt, path);
+    log.open(alloc).expect(rt, "its entries");
     let is_put = write_text_anew(rt, path, log, &text).is_ok();
-    let left = fs::read(rt, path)?;
-    same(&(left == text), &is_put, &"its text")?;
-    Ok(is_put)
+    let left = bytes_at(rt, path);
+    same(rt, &(left == text), &is_put, &"its text");
+    is_put
 }
 
 /// Where the new file cannot be written, the old one is as it was.
 #[test]
-fn a_text_is_put_in_the_place_of_a_file(rt: HostRuntime) -> Result<(), Fail> {
+fn a_text_is_put_in_the_place_of_a_file(rt: HostRuntime) {
     let (path, beside) = ("/tmp/record-log-text", "/tmp/record-log-text.new");
-    make_two(&rt, path)?;
-    let before = fs::read(&rt, path)?;
-    fs::create_dir(&rt, beside)?;
-    same(&put_three(&rt, path)?, &false, &"a folder is there")?;
-    same(&fs::read(&rt, path)?, &before, &"as it was")?;
-    fs::remove_dir(&rt, beside)?;
-    same(&put_three(&rt, path)?, &true, &"put")?;
-    fs::remove_file(&rt, path)?;
-    Ok(())
+    make_two(&rt, path);
+    let before = bytes_at(&rt, path);
+    fs::create_dir(&rt, beside).expect(&rt, "a folder");
+    assert!(rt; !put_three(&rt, path), "a folder is there");
+    same(&rt, &bytes_at(&rt, path), &before, &"as it was");
+    fs::remove_dir(&rt, beside).expect(&rt, "the folder");
+    assert!(rt; put_three(&rt, path), "put");
+    remove(&rt, path);
 }
 
 /// Whether another log has the file at a path.
-fn is_in_use(rt: &HostRuntime, path: &str) -> bool {
+fn is_in_use<R: Files<File = File> + AllocGlobal>(rt: &R, path: &str) -> bool {
     let opened = log_at(rt, path).map(drop);
     matches!(opened, Err(FileError::InUse))
 }
 
 /// Tries to put the text of one entry in the place of a file, which a folder does not let be.
-fn held_at(rt: &HostRuntime, path: &str) -> Result<HeldFile, Fail> {
+fn held_at<R: Files<File = File> + AllocGlobal + Abort>(rt: &R, path: &str) -> HeldFile {
     let alloc = rt.alloc();
-    let mut log = log_at(rt, path)?;
-    log.open(alloc)?;
-    match write_text_anew(rt, path, log, &blocks_of(alloc, &three(alloc)?)?) {
-        Ok(_) => Err(Fail::new(format_args!("it was put"))),
-        Err(failed) => Ok(failed.old),
+    let text = blocks_of(alloc, &three(rt, alloc)).expect(rt, "memory");
+    let mut log = log_of(rt, path);
+    log.open(alloc).expect(rt, "its entries");
+    match write_text_anew(rt, path, log, &text) {
+        Ok(_) => panic!(rt; "it was put"),
+        Err(failed) => failed.old,
     }
 }
 
 /// It is opened by what is held, and free once that is let go.
 #[test]
-fn a_file_that_is_not_replaced_stays_locked(rt: HostRuntime) -> Result<(), Fail> {
+fn a_file_that_is_not_replaced_stays_locked(rt: HostRuntime) {
     let (path, beside) = ("/tmp/record-log-held", "/tmp/record-log-held.new");
-    make_two(&rt, path)?;
-    fs::create_dir(&rt, beside)?;
-    let held = held_at(&rt, path)?;
-    same(&is_in_use(&rt, path), &true, &"held")?;
-    same(&held.is_at(&rt, path), &true, &"at its path")?;
-    same(&held.is_at(&rt, "/tmp"), &false, &"at another")?;
-    let mut log = RecordLog::new(held.open(&rt, path)?);
-    same(&log.open(rt.alloc())?.len(), &2, &"its entries")?;
+    make_two(&rt, path);
+    fs::create_dir(&rt, beside).expect(&rt, "a folder");
+    let held = held_at(&rt, path);
+    assert!(rt; is_in_use(&rt, path), "held");
+    assert!(rt; held.is_at(&rt, path), "at its path");
+    assert!(rt; !held.is_at(&rt, "/tmp"), "at another");
+    let mut log = RecordLog::new(held.open(&rt, path).expect(&rt, "a device"));
+    let found = log.open(rt.alloc()).expect(&rt, "its entries");
+    same(&rt, &found.len(), &2, &"its entries");
     drop(held);
-    same(&is_in_use(&rt, path), &true, &"opened")?;
+    assert!(rt; is_in_use(&rt, path), "opened");
     drop(log);
-    same(&is_in_use(&rt, path), &false, &"let go")?;
-    fs::remove_dir(&rt, beside)?;
-    fs::remove_file(&rt, path)?;
-    Ok(())
+    assert!(rt; !is_in_use(&rt, path), "let go");
+    fs::remove_dir(&rt, beside).expect(&rt, "the folder");
+    remove(&rt, path);
 }
 
 #[test]
-fn what_is_no_file_is_not_opened(rt: HostRuntime) -> Result<(), Fail> {
+fn what_is_no_file_is_not_opened(rt: HostRuntime) {
     let folder = log_at(&rt, "/tmp").map(drop);
     let is_refused = matches!(folder, Err(FileError::NotAFile));
-    same(&is_refused, &true, &"a folder")?;
+    assert!(rt; is_refused, "a folder");
     let missing = log_at(&rt, "/tmp/record-log-missing/log").map(drop);
     let is_refused = matches!(missing, Err(FileError::Io(_)));
-    same(&is_refused, &true, &"missing")
+    assert!(rt; is_refused, "missing");
 }

@@ -63,6 +63,3 @@ impl Allowance {
         turned.told()
     }
 }
-
-#[cfg(test)]
-mod tests;

@@ -55,8 +55,6 @@ pub use crate::met::Met;
 pub use crate::minutely::Minutely;
 pub use crate::outlet::Outlet;
 pub use crate::status::Status;
+pub use crate::waiting::Waiting;
 pub use crate::who::Who;
 pub use crate::writer::Writer;
-
-#[cfg(test)]
-mod tests;

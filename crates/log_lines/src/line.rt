@@ -16,6 +16,3 @@ impl fmt::Display for Line<'_> {
         writeln!(f, "{time} {level:<5} {event}")
     }
 }
-
-#[cfg(test)]
-mod tests;

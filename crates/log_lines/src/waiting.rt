@@ -13,7 +13,7 @@ const MAX_WRITE: usize = 4_096;
 
 /// The bytes of lines that wait to be written, the oldest first. Contracts see them as a list.
 #[derive(Drop)]
-pub(crate) struct Waiting {
+pub struct Waiting {
     bytes: Vec<u8>,
 }
 
@@ -31,7 +31,7 @@ impl Model for Waiting {
 
 impl Waiting {
     /// Nothing that waits. It takes its memory at once, and no more later.
-    pub(crate) fn new(alloc: Global) -> Result<Waiting, AllocError>
+    pub fn new(alloc: Global) -> Result<Waiting, AllocError>
         ensures { IfOk result (λ waiting. waiting ≡ []) }
     {
         Ok(Waiting {
@@ -40,7 +40,7 @@ impl Waiting {
     }
 
     /// Whether there is room for this line, which then waits whole.
-    pub(crate) fn push(&mut self, line: &[u8]) -> bool
+    pub fn push(&mut self, line: &[u8]) -> bool
         ensures room { IsTrue result ↔ (length self.old + length line.now ≤ 65536) }
         ensures pushed { OnTrue result (self.new ≡ self.old ++ line.now) }
         ensures full { OnFalse result (self.new ≡ self.old) }
@@ -51,14 +51,14 @@ impl Waiting {
         self.bytes.extend_from_slice(line).is_ok()
     }
 
-    pub(crate) fn is_empty(&self) -> bool
+    pub fn is_empty(&self) -> bool
         ensures { IsTrue result ↔ (self.now ≡ []) }
     {
         self.bytes.is_empty()
     }
 
     /// What is written next: of the first 4,096 bytes as many whole lines as there are, or all of a longer line's that fit.
-    pub(crate) fn next(&self) -> &[u8]
+    pub fn next(&self) -> &[u8]
         ensures front { result.now ≡ take (length result.now) self.now }
         ensures most { length result.now ≤ 4096 }
         ensures some { 0 < length self.now → 0 < length result.now }
@@ -71,7 +71,7 @@ impl Waiting {
     }
 
     /// So many bytes at the front are written.
-    pub(crate) fn drop_front(&mut self, count: usize)
+    pub fn drop_front(&mut self, count: usize)
         requires { count ≤ length self.old }
         ensures { self.new ≡ drop count self.old }
     {
@@ -80,6 +80,3 @@ impl Waiting {
         self.bytes.truncate(left);
     }
 }
-
-#[cfg(test)]
-mod tests;

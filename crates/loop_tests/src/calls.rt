@@ -4,14 +4,14 @@ use crate::descriptors::watch_and_wait;
 use crate::ends::{
     break_off, send_on_where_refused, send_without_end, shut_sides, stay_behind_the_end,
 };
-use crate::scenes::{Place, Scene, client, rest};
+use crate::same::same;
+use crate::scenes::{OneLoop, Scene, client, rest, scene_of};
 use std::alloc::Global;
 use std::io::Write;
 use std::net::{Net, TcpStream};
-use std::test::Fail;
+use std::process::Abort;
 use std::time::Clock;
 use test_support::requests::CHECK_OF_EMPTY;
-use test_support::same;
 
 /// The response to a Check of the empty name.
 const SERVING: &[u8] = b"HTTP/1.1 200 OK\r\n\
@@ -30,70 +30,70 @@ const REFUSED: &[u8] = b"HTTP/1.1 405 Method Not Allowed\r\n\
     content-length: 0\r\n\
     \r\n";
 
-fn expect<R: Net<Stream = TcpStream> + Clock>(
+fn expect<R: Net<Stream = TcpStream> + Clock + Abort>(
     rt: &R,
-    place: &mut Place,
+    place: &mut OneLoop,
     scene: &Scene,
     request: &[u8],
     response: &[u8],
-) -> Result<(), Fail> {
-    let mut stream = client(rt, place, request)?;
-    place.rounds(rt, scene)?;
-    let found = rest(place.alloc, &mut stream)?;
-    same(&found.as_slice(), &response, &request)
+) {
+    let mut stream = client(rt, place, request);
+    place.rounds(rt, scene);
+    let found = rest(rt, place.alloc, &mut stream);
+    same(rt, &found.as_slice(), &response, &request);
 }
 
-fn call_one_after_another<R: Net<Stream = TcpStream> + Clock>(
+fn call_one_after_another<R: Net<Stream = TcpStream> + Clock + Abort>(
     rt: &R,
-    place: &mut Place,
+    place: &mut OneLoop,
     scene: &Scene,
-) -> Result<(), Fail> {
+) {
     for _ in 0..3u8 {
-        expect(rt, place, scene, CHECK_OF_EMPTY, SERVING)?;
-        expect(rt, place, scene, LONGER, REFUSED)?;
+        expect(rt, place, scene, CHECK_OF_EMPTY, SERVING);
+        expect(rt, place, scene, LONGER, REFUSED);
     }
     let found = (place.server.connections(), place.server.ended());
-    same(&found, &(0, 6), &"all have ended")
+    same(rt, &found, &(0, 6), &"all have ended");
 }
 
-fn send_in_two_parts<R: Net<Stream = TcpStream> + Clock>(
+fn send_in_two_parts<R: Net<Stream = TcpStream> + Clock + Abort>(
     rt: &R,
-    place: &mut Place,
+    place: &mut OneLoop,
     scene: &Scene,
-) -> Result<(), Fail> {
+) {
     let (front, back) = CHECK_OF_EMPTY.split_at(40);
-    let mut stream = client(rt, place, front)?;
-    place.rounds(rt, scene)?;
-    same(&place.server.connections(), &1, &"the front")?;
-    stream.write_all(back)?;
-    place.rounds(rt, scene)?;
-    let found = rest(place.alloc, &mut stream)?;
-    same(&found.as_slice(), &SERVING, &"the whole")
+    let mut stream = client(rt, place, front);
+    place.rounds(rt, scene);
+    same(rt, &place.server.connections(), &1, &"the front");
+    stream.write_all(back).expect(rt, "a write");
+    place.rounds(rt, scene);
+    let found = rest(rt, place.alloc, &mut stream);
+    same(rt, &found.as_slice(), &SERVING, &"the whole");
 }
 
 /// Each step begins with what the one before it has left. What the loop counts is of all of them.
-fn call_in_turn<R: Net<Stream = TcpStream> + Clock>(
+fn call_in_turn<R: Net<Stream = TcpStream> + Clock + Abort>(
     rt: &R,
-    place: &mut Place,
+    place: &mut OneLoop,
     scene: &mut Scene,
-) -> Result<(), Fail> {
-    call_one_after_another(rt, place, scene)?;
-    send_in_two_parts(rt, place, scene)?;
-    send_on_where_refused(rt, place, scene)?;
-    shut_sides(rt, place, scene)?;
-    send_without_end(rt, place, scene)?;
-    break_off(rt, place, scene)?;
-    stay_behind_the_end(rt, place, scene)?;
-    watch_and_wait(rt, place, scene)
+) {
+    call_one_after_another(rt, place, scene);
+    send_in_two_parts(rt, place, scene);
+    send_on_where_refused(rt, place, scene);
+    shut_sides(rt, place, scene);
+    send_without_end(rt, place, scene);
+    break_off(rt, place, scene);
+    stay_behind_the_end(rt, place, scene);
+    watch_and_wait(rt, place, scene);
 }
 
-fn call_at_a_loop<R: Net<Stream = TcpStream> + Clock>(rt: &R, alloc: Global) -> Result<(), Fail> {
-    let mut scene = Scene::new(alloc)?;
-    let mut place = Place::new(rt, alloc, 10, 10)?;
-    call_in_turn(rt, &mut place, &mut scene)
+fn call_at_a_loop<R: Net<Stream = TcpStream> + Clock + Abort>(rt: &R, alloc: Global) {
+    let mut scene = scene_of(rt, alloc);
+    let mut place = OneLoop::new(rt, alloc, 10, 10);
+    call_in_turn(rt, &mut place, &mut scene);
 }
 
 #[test]
-fn clients_are_answered_and_leave_one_after_another(rt: HostRuntime) -> Result<(), Fail> {
-    call_at_a_loop(&rt, rt.alloc())
+fn clients_are_answered_and_leave_one_after_another(rt: HostRuntime) {
+    call_at_a_loop(&rt, rt.alloc());
 }

@@ -1,11 +1,11 @@
 //! Rounds at readings of a clock that a test picks.
 
-use crate::scenes::{Place, ROUNDS, Scene};
+use crate::scenes::{OneLoop, ROUNDS, Scene};
 use live_server::{Caller, Handler, Visit};
 use reactor::{Connection, Left};
 use std::alloc::Global;
 use std::io;
-use std::test::Fail;
+use std::process::Abort;
 use std::time::{Clock, Duration, Instant};
 use web_call::{Call, Door};
 
@@ -80,29 +80,29 @@ impl Clock for At {
 }
 
 fn round_at<D: Door>(
+    rt: &impl Abort,
     manner: Manner,
     clock: &At,
-    place: &mut Place,
+    place: &mut OneLoop,
     door: &mut D,
-) -> Result<(), Fail> {
+) {
     let mut host = Host { manner, door };
-    place.server.round(clock, &mut host, &place.news)?;
-    Ok(())
+    let round = place.server.round(clock, &mut host, &place.news);
+    round.expect(rt, "a round");
 }
 
 /// Some rounds so many milliseconds behind the beginning.
 pub(crate) fn rounds_at(
+    rt: &impl Abort,
     manner: Manner,
     begun: Duration,
     millis: u64,
-    place: &mut Place,
+    place: &mut OneLoop,
     scene: &Scene,
-) -> Result<(), Fail> {
-    let Some(now) = begun.checked_add(Duration::from_millis(millis)) else {
-        return Err(Fail::new("the clock does not go so far"));
-    };
+) {
+    let now = begun.checked_add(Duration::from_millis(millis));
+    let clock = At(now.expect(rt, "a time"));
     for _ in 0..ROUNDS {
-        round_at(manner, &At(now), place, &mut scene.door())?;
+        round_at(rt, manner, &clock, place, &mut scene.door());
     }
-    Ok(())
 }

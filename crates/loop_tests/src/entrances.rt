@@ -1,18 +1,18 @@
 //! Calls and plain requests, each at the entrance that it comes to.
 
-use crate::scenes::{ROUNDS, Scene, rest};
+use crate::same::same;
+use crate::scenes::{ROUNDS, Scene, come, news_of, places_of, rest, scene_of};
 use inquiry::{Meter, Reception};
-use live_server::{Accept, Acceptor, Entrance, EventServer, Limits, News, Places};
+use live_server::{Accept, Acceptor, Entrance, EventServer, News, Places, ServerLimits};
 use mio::net::TcpListener;
 use plain::Figures;
 use std::alloc::Global;
 use std::io::Write;
 use std::net::{Net, SocketAddr, TcpStream};
+use std::process::Abort;
 use std::sync::Arc;
-use std::test::Fail;
 use std::time::{Clock, Duration};
 use test_support::requests::CHECK_OF_EMPTY;
-use test_support::same;
 
 struct Nothing;
 
@@ -41,15 +41,15 @@ struct Sockets {
 }
 
 impl Sockets {
-    fn new<R: Net>(rt: &R) -> Result<Sockets, Fail> {
+    fn new<R: Net + Abort>(rt: &R) -> Sockets {
         let any = SocketAddr::from(([127, 0, 0, 1], 0));
-        let calls = TcpListener::bind(rt, any)?;
-        let plain = TcpListener::bind(rt, any)?;
-        Ok(Sockets {
-            calls: calls.local_addr()?,
-            plain: plain.local_addr()?,
+        let calls = TcpListener::bind(rt, any).expect(rt, "a socket");
+        let plain = TcpListener::bind(rt, any).expect(rt, "a socket");
+        Sockets {
+            calls: calls.local_addr().expect(rt, "an address"),
+            plain: plain.local_addr().expect(rt, "an address"),
             acceptor: Acceptor::new(calls).with_plain(plain),
-        })
+        }
     }
 
     fn addr(&self, entrance: Entrance) -> SocketAddr {
@@ -60,40 +60,38 @@ impl Sockets {
     }
 
     /// A client comes there.
-    fn visit<R: Net<Stream = TcpStream>>(&self, rt: &R, at: Entrance) -> Result<TcpStream, Fail> {
-        let stream = TcpStream::connect(rt, self.addr(at))?;
-        stream.set_read_timeout(Some(Duration::from_secs(5)))?;
-        Ok(stream)
+    fn visit<R: Net<Stream = TcpStream> + Abort>(&self, rt: &R, at: Entrance) -> TcpStream {
+        come(rt, self.addr(at))
     }
 }
 
 /// Where the next that are accepted came in.
-fn accepted(sockets: &mut Sockets) -> Result<[Entrance; 4], Fail> {
+fn accepted(rt: &impl Abort, sockets: &mut Sockets) -> [Entrance; 4] {
     let mut found = [Entrance::Calls; 4];
     for place in &mut found {
-        *place = sockets.acceptor.accept()?.entrance();
+        *place = sockets.acceptor.accept().expect(rt, "who comes").entrance();
     }
-    Ok(found)
+    found
 }
 
-fn take_turns<R: Net<Stream = TcpStream>>(rt: &R, sockets: &mut Sockets) -> Result<(), Fail> {
-    let _first = sockets.visit(rt, Entrance::Plain)?;
-    let _second = sockets.visit(rt, Entrance::Plain)?;
-    let _third = sockets.visit(rt, Entrance::Calls)?;
-    let _fourth = sockets.visit(rt, Entrance::Calls)?;
-    let found = accepted(sockets)?;
+fn take_turns<R: Net<Stream = TcpStream> + Abort>(rt: &R, sockets: &mut Sockets) {
+    let _first = sockets.visit(rt, Entrance::Plain);
+    let _second = sockets.visit(rt, Entrance::Plain);
+    let _third = sockets.visit(rt, Entrance::Calls);
+    let _fourth = sockets.visit(rt, Entrance::Calls);
+    let found = accepted(rt, sockets);
     let expected = [
         Entrance::Calls,
         Entrance::Plain,
         Entrance::Calls,
         Entrance::Plain,
     ];
-    same(&found, &expected, &"who is accepted")
+    same(rt, &found, &expected, &"who is accepted");
 }
 
 #[test]
-fn both_entrances_take_turns(rt: HostRuntime) -> Result<(), Fail> {
-    take_turns(&rt, &mut Sockets::new(&rt)?)
+fn both_entrances_take_turns(rt: HostRuntime) {
+    take_turns(&rt, &mut Sockets::new(&rt));
 }
 
 /// Where a request comes in, the request, and how its answer begins and ends.
@@ -150,73 +148,67 @@ struct House {
 }
 
 impl House {
-    fn new<R: Net + Clock>(rt: &R, alloc: Global, acceptor: Acceptor) -> Result<House, Fail> {
-        let limits = Limits {
+    fn new<R: Net + Clock + Abort>(rt: &R, alloc: Global, acceptor: Acceptor) -> House {
+        let limits = ServerLimits {
             connections: 4,
             watches: 2,
         };
-        let places = Arc::new(alloc, Places::new(limits))?;
-        let server = EventServer::new(rt, alloc, acceptor, places)?;
-        let mut wakers = Vec::new(alloc);
-        wakers.push(server.waker()?)?;
-        Ok(House {
-            server,
-            news: News::new(wakers),
-        })
+        let places = places_of(rt, alloc, limits);
+        let server = EventServer::new(rt, alloc, acceptor, places).expect(rt, "a loop");
+        let news = news_of(rt, alloc, &server, None);
+        House { server, news }
     }
 
-    fn rounds<R: Clock>(&mut self, rt: &R, scene: &Scene) -> Result<(), Fail> {
+    fn rounds<R: Clock + Abort>(&mut self, rt: &R, scene: &Scene) {
         for _ in 0..ROUNDS {
             let mut door = scene.door();
             let mut reception = Reception::new(&mut door, &Nothing);
-            self.server.round(rt, &mut reception, &self.news)?;
+            let round = self.server.round(rt, &mut reception, &self.news);
+            round.expect(rt, "a round");
         }
-        Ok(())
     }
 
-    fn expect<R: Clock>(
+    fn expect<R: Clock + Abort>(
         &mut self,
         rt: &R,
         alloc: Global,
         scene: &Scene,
         stream: &mut TcpStream,
         row: &(Entrance, &[u8], &[u8], &[u8]),
-    ) -> Result<(), Fail> {
+    ) {
         let (_, request, start, end) = *row;
-        stream.write_all(request)?;
-        self.rounds(rt, scene)?;
-        let found = rest(alloc, stream)?;
-        same(&found.starts_with(start), &true, row)?;
-        same(&found.ends_with(end), &true, row)
+        stream.write_all(request).expect(rt, "a write");
+        self.rounds(rt, scene);
+        let found = rest(rt, alloc, stream);
+        assert!(rt; found.starts_with(start), "{row:?}");
+        assert!(rt; found.ends_with(end), "{row:?}");
     }
 }
 
-fn expect_rows<R: Net<Stream = TcpStream> + Clock>(
+fn expect_rows<R: Net<Stream = TcpStream> + Clock + Abort>(
     rt: &R,
     alloc: Global,
     addrs: (SocketAddr, SocketAddr),
     house: &mut House,
-) -> Result<(), Fail> {
-    let scene = Scene::new(alloc)?;
+) {
+    let scene = scene_of(rt, alloc);
     for row in &ROWS {
         let addr = match row.0 {
             Entrance::Calls => addrs.0,
             Entrance::Plain => addrs.1,
         };
-        let mut stream = TcpStream::connect(rt, addr)?;
-        stream.set_read_timeout(Some(Duration::from_secs(5)))?;
-        house.expect(rt, alloc, &scene, &mut stream, row)?;
+        let mut stream = come(rt, addr);
+        house.expect(rt, alloc, &scene, &mut stream, row);
     }
-    Ok(())
 }
 
 #[test]
-fn each_entrance_answers_what_it_is_for(rt: HostRuntime) -> Result<(), Fail> {
+fn each_entrance_answers_what_it_is_for(rt: HostRuntime) {
     let Sockets {
         acceptor,
         calls,
         plain,
-    } = Sockets::new(&rt)?;
-    let mut house = House::new(&rt, rt.alloc(), acceptor)?;
-    expect_rows(&rt, rt.alloc(), (calls, plain), &mut house)
+    } = Sockets::new(&rt);
+    let mut house = House::new(&rt, rt.alloc(), acceptor);
+    expect_rows(&rt, rt.alloc(), (calls, plain), &mut house);
 }

@@ -24,6 +24,8 @@ mod queues;
 #[cfg(test)]
 mod recorder;
 #[cfg(test)]
+mod same;
+#[cfg(test)]
 mod scenes;
 #[cfg(test)]
 mod stop;

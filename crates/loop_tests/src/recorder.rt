@@ -1,11 +1,11 @@
 //! What a loop asks its door.
 
-use crate::scenes::{Place, Scene};
+use crate::scenes::{OneLoop, Scene};
 use desk_core::{Behind, Watch};
 use health_wire::Serving;
 use plain::Inquiry;
 use std::alloc::{AllocError, Global};
-use std::test::Fail;
+use std::process::Abort;
 use std::time::Clock;
 use web_call::Door;
 
@@ -82,25 +82,26 @@ impl<D: Door> Door for Recorder<'_, D> {
 }
 
 /// What a loop asks its door first in a round, and how often it asks it.
-fn round_of<R: Clock, D: Door>(
+fn round_of<R: Clock + Abort, D: Door>(
     rt: &R,
-    place: &mut Place,
+    place: &mut OneLoop,
     door: &mut D,
-) -> Result<([u8; MOST], usize), Fail> {
+) -> ([u8; MOST], usize) {
     let mut recorder = Recorder {
         door,
         asked: [b'.'; MOST],
         count: 0,
     };
-    place.server.round(rt, &mut recorder, &place.news)?;
-    Ok((recorder.asked, recorder.count))
+    let round = place.server.round(rt, &mut recorder, &place.news);
+    round.expect(rt, "a round");
+    (recorder.asked, recorder.count)
 }
 
 /// The same over the registry.
-pub(crate) fn asked_in_round<R: Clock>(
+pub(crate) fn asked_in_round<R: Clock + Abort>(
     rt: &R,
-    place: &mut Place,
+    place: &mut OneLoop,
     scene: &Scene,
-) -> Result<([u8; MOST], usize), Fail> {
+) -> ([u8; MOST], usize) {
     round_of(rt, place, &mut scene.door())
 }

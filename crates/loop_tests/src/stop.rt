@@ -1,15 +1,15 @@
 //! What is left at a loop once all is to end.
 
-use crate::scenes::{ANSWERED, Place, Scene, client, expect_rest, rest, sent};
+use crate::same::same;
+use crate::scenes::{ANSWERED, OneLoop, Scene, client, expect_rest, rest, scene_of, sent};
 use crate::watches::{DOWN, ENDED, UP};
 use desk_core::Setting;
 use std::alloc::Global;
 use std::io::Write;
 use std::net::{Net, TcpStream};
-use std::test::Fail;
+use std::process::Abort;
 use std::time::{Clock, Duration, Instant};
 use test_support::requests::{CHECK_OF_EMPTY, WATCH_OF_EMPTY};
-use test_support::same;
 
 /// How often a service goes down and up again: so many changes take several turns.
 const TIMES: usize = 50;
@@ -30,113 +30,112 @@ struct Left {
     silent: TcpStream,
 }
 
-fn come_before_the_end<R: Net<Stream = TcpStream> + Clock>(
+fn come_before_the_end<R: Net<Stream = TcpStream> + Clock + Abort>(
     rt: &R,
-    place: &mut Place,
+    place: &mut OneLoop,
     scene: &Scene,
-) -> Result<Left, Fail> {
+) -> Left {
     let left = Left {
-        watcher: client(rt, place, WATCH_OF_EMPTY)?,
-        half: client(rt, place, &CHECK_OF_EMPTY[..SENT])?,
-        later: client(rt, place, b"")?,
-        silent: client(rt, place, b"")?,
+        watcher: client(rt, place, WATCH_OF_EMPTY),
+        half: client(rt, place, &CHECK_OF_EMPTY[..SENT]),
+        later: client(rt, place, b""),
+        silent: client(rt, place, b""),
     };
-    place.rounds(rt, scene)?;
-    Ok(left)
+    place.rounds(rt, scene);
+    left
 }
 
 /// Sets the service often, and gives what the Watch has to be told of that.
-fn set_often(alloc: Global, scene: &mut Scene) -> Result<Vec<u8>, Fail> {
+fn set_often(rt: &impl Abort, alloc: Global, scene: &mut Scene) -> Vec<u8> {
     let mut expected = Vec::new(alloc);
     for _ in 0..TIMES {
         scene.set(Setting::Down);
-        expected.extend_from_slice(DOWN)?;
+        expected.extend_from_slice(DOWN).expect(rt, "memory");
         scene.set(Setting::Up);
-        expected.extend_from_slice(UP)?;
+        expected.extend_from_slice(UP).expect(rt, "memory");
     }
-    Ok(expected)
+    expected
 }
 
 /// Lets a loop make rounds until it holds so many connections.
-fn rounds_until<R: Clock>(
-    rt: &R,
-    place: &mut Place,
-    scene: &Scene,
-    connections: usize,
-) -> Result<(), Fail> {
+fn rounds_until<R: Clock + Abort>(rt: &R, place: &mut OneLoop, scene: &Scene, connections: usize) {
     for _ in 0..8u8 {
         if place.server.connections() == connections {
-            return Ok(());
+            return;
         }
-        place.round(rt, scene)?;
+        place.round(rt, scene);
     }
-    same(&place.server.connections(), &connections, &"connections")
+    same(
+        rt,
+        &place.server.connections(),
+        &connections,
+        &"connections",
+    );
 }
 
 /// Who sends a whole request is answered, and who sends nothing is closed two tenths of a second behind the end.
-fn end_beside_silence<R: Net<Stream = TcpStream> + Clock>(
+fn end_beside_silence<R: Net<Stream = TcpStream> + Clock + Abort>(
     rt: &R,
-    place: &mut Place,
+    place: &mut OneLoop,
     scene: &Scene,
     left: &mut Left,
-) -> Result<(), Fail> {
-    let begun = Instant::now(rt)?;
+) {
+    let begun = Instant::now(rt).expect(rt, "a reading");
     place.news.end();
-    place.round(rt, scene)?;
+    place.round(rt, scene);
     let calls = place
         .server
         .connections()
         .checked_sub(place.server.watches());
-    same(&calls, &Some(3), &"all are held")?;
-    left.later.write_all(CHECK_OF_EMPTY)?;
-    rounds_until(rt, place, scene, 2)?;
-    expect_rest(place.alloc, &mut left.later, ANSWERED)?;
-    rounds_until(rt, place, scene, 1)?;
-    let now = Instant::now(rt)?;
+    same(rt, &calls, &Some(3), &"all are held");
+    left.later.write_all(CHECK_OF_EMPTY).expect(rt, "a write");
+    rounds_until(rt, place, scene, 2);
+    expect_rest(rt, place.alloc, &mut left.later, ANSWERED);
+    rounds_until(rt, place, scene, 1);
+    let now = Instant::now(rt).expect(rt, "a reading");
     for (millis, is_past) in [(200, true), (600, false)] {
         let then = begun.checked_add(Duration::from_millis(millis));
         let found = then.is_some_and(|then| then <= now);
-        same(&found, &is_past, &millis)?;
+        same(rt, &found, &is_past, &millis);
     }
-    let found = rest(place.alloc, &mut left.silent)?;
-    same(&found.is_empty(), &true, &"closed")?;
-    same(
-        &place.ends(),
-        &(3, 1, 0),
-        &"the Watch, the Check, and who was silent",
-    )
+    let found = rest(rt, place.alloc, &mut left.silent);
+    assert!(rt; found.is_empty(), "closed");
+    let told = "the Watch, the Check, and who was silent";
+    same(rt, &place.ends(), &(3, 1, 0), &told);
 }
 
 /// Who has begun a request keeps its time, a client that comes late is not accepted, and the Watch was told each change before its end.
-fn end_in_order<R: Net<Stream = TcpStream> + Clock>(
+fn end_in_order<R: Net<Stream = TcpStream> + Clock + Abort>(
     rt: &R,
-    place: &mut Place,
+    place: &mut OneLoop,
     scene: &mut Scene,
     left: &mut Left,
-) -> Result<(), Fail> {
-    let found = sent(place.alloc, &mut left.watcher)?;
-    same(&found.ends_with(UP), &true, &"open")?;
-    let expected = set_often(place.alloc, scene)?;
-    left.watcher.write_all(b"x")?;
-    end_beside_silence(rt, place, scene, left)?;
+) {
+    let found = sent(rt, place.alloc, &mut left.watcher);
+    assert!(rt; found.ends_with(UP), "open");
+    let expected = set_often(rt, place.alloc, scene);
+    left.watcher.write_all(b"x").expect(rt, "a write");
+    end_beside_silence(rt, place, scene, left);
     let is_late = TcpStream::connect(rt, place.addr).is_err();
-    same(&is_late, &true, &"a client that comes late")?;
-    left.half.write_all(&CHECK_OF_EMPTY[SENT..])?;
-    place.rounds(rt, scene)?;
-    expect_rest(place.alloc, &mut left.half, ANSWERED)?;
-    let found = rest(place.alloc, &mut left.watcher)?;
-    same(&found.starts_with(&expected), &true, &"each change")?;
-    same(&found.ends_with(ENDED), &true, &"the end")
+    assert!(rt; is_late, "a client that comes late");
+    left.half
+        .write_all(&CHECK_OF_EMPTY[SENT..])
+        .expect(rt, "a write");
+    place.rounds(rt, scene);
+    expect_rest(rt, place.alloc, &mut left.half, ANSWERED);
+    let found = rest(rt, place.alloc, &mut left.watcher);
+    assert!(rt; found.starts_with(&expected), "each change");
+    assert!(rt; found.ends_with(ENDED), "the end");
 }
 
-fn end_at_a_loop<R: Net<Stream = TcpStream> + Clock>(rt: &R, alloc: Global) -> Result<(), Fail> {
-    let mut scene = Scene::new(alloc)?;
-    let mut place = Place::new(rt, alloc, 10, 10)?;
-    let mut left = come_before_the_end(rt, &mut place, &scene)?;
-    end_in_order(rt, &mut place, &mut scene, &mut left)
+fn end_at_a_loop<R: Net<Stream = TcpStream> + Clock + Abort>(rt: &R, alloc: Global) {
+    let mut scene = scene_of(rt, alloc);
+    let mut place = OneLoop::new(rt, alloc, 10, 10);
+    let mut left = come_before_the_end(rt, &mut place, &scene);
+    end_in_order(rt, &mut place, &mut scene, &mut left);
 }
 
 #[test]
-fn once_all_is_to_end_what_has_begun_is_brought_to_its_end(rt: HostRuntime) -> Result<(), Fail> {
-    end_at_a_loop(&rt, rt.alloc())
+fn once_all_is_to_end_what_has_begun_is_brought_to_its_end(rt: HostRuntime) {
+    end_at_a_loop(&rt, rt.alloc());
 }

@@ -5,12 +5,11 @@ use mio::net::TcpListener;
 use mio::{Events, Poll, Token};
 use std::alloc::Global;
 use std::net::{Net, SocketAddr, TcpStream};
+use std::process::Abort;
 use std::sync::Wait;
-use std::test::Fail;
 use std::thread::Threads;
 use std::time::{Clock, Duration};
 use std::{net, thread};
-use test_support::same;
 
 /// A poll that waits for a connection.
 #[derive(Drop)]
@@ -21,15 +20,17 @@ struct Waiter {
 }
 
 impl Waiter {
-    fn new<R: Net>(rt: &R, alloc: Global, listener: net::TcpListener) -> Result<Waiter, Fail> {
-        let poll = Poll::new(rt)?;
+    fn new<R: Net + Abort>(rt: &R, alloc: Global, listener: net::TcpListener) -> Waiter {
+        let poll = Poll::new(rt).expect(rt, "a poll");
         let mut acceptor = Acceptor::new(TcpListener::from_std(listener));
-        acceptor.report(&poll, Token(0))?;
-        Ok(Waiter {
+        let report = acceptor.report(&poll, Token(0));
+        report.expect(rt, "reports");
+        let events = Events::with_capacity(alloc, 4).expect(rt, "memory");
+        Waiter {
             poll,
-            events: Events::with_capacity(alloc, 4)?,
+            events,
             acceptor,
-        })
+        }
     }
 
     /// Whether a connection is reported within two seconds.
@@ -42,7 +43,7 @@ impl Waiter {
 /// Whether each of the two is woken for a connection that comes once both wait.
 fn woken<R>(rt: &R, first: &mut Waiter, second: &mut Waiter, addr: SocketAddr) -> (bool, bool)
 where
-    R: Wait + Threads + Clock + Sync + Net<Stream = TcpStream>,
+    R: Wait + Threads + Clock + Sync + Net<Stream = TcpStream> + Abort,
 {
     let (woken, _) = thread::join(
         rt,
@@ -55,20 +56,21 @@ where
     woken
 }
 
-fn woken_at_one_socket<R>(rt: &R, alloc: Global) -> Result<(bool, bool), Fail>
+fn woken_at_one_socket<R>(rt: &R, alloc: Global) -> (bool, bool)
 where
-    R: Wait + Threads + Clock + Sync + Net<Listener = net::TcpListener, Stream = TcpStream>,
+    R: Wait + Threads + Clock + Sync + Net<Listener = net::TcpListener, Stream = TcpStream> + Abort,
 {
     let any = SocketAddr::from(([127, 0, 0, 1], 0));
-    let listener = net::TcpListener::from(TcpListener::bind(rt, any)?);
-    let addr = listener.local_addr()?;
-    let mut first = Waiter::new(rt, alloc, listener.try_clone()?)?;
-    let mut second = Waiter::new(rt, alloc, listener)?;
-    Ok(woken(rt, &mut first, &mut second, addr))
+    let listener = net::TcpListener::from(TcpListener::bind(rt, any).expect(rt, "a socket"));
+    let addr = listener.local_addr().expect(rt, "an address");
+    let copy = listener.try_clone().expect(rt, "a copy");
+    let mut first = Waiter::new(rt, alloc, copy);
+    let mut second = Waiter::new(rt, alloc, listener);
+    woken(rt, &mut first, &mut second, addr)
 }
 
 #[test]
-fn one_of_those_that_wait_is_woken_for_a_connection(rt: HostRuntime) -> Result<(), Fail> {
-    let (first, second) = woken_at_one_socket(&rt, rt.alloc())?;
-    same(&(first != second), &true, &(first, second))
+fn one_of_those_that_wait_is_woken_for_a_connection(rt: HostRuntime) {
+    let (first, second) = woken_at_one_socket(&rt, rt.alloc());
+    assert!(rt; first != second, "{first} and {second}");
 }

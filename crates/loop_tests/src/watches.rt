@@ -2,14 +2,14 @@
 
 use crate::looks::tell_much;
 use crate::order::look_behind_all_else;
-use crate::scenes::{Place, Scene, client, sent};
+use crate::same::same;
+use crate::scenes::{OneLoop, Scene, client, scene_of, sent};
 use desk_core::Setting;
 use std::alloc::Global;
 use std::net::{Net, TcpStream};
-use std::test::Fail;
+use std::process::Abort;
 use std::time::Clock;
 use test_support::requests::WATCH_OF_EMPTY;
-use test_support::same;
 
 /// The messages NOT_SERVING and SERVING as a Watch tells them.
 pub(crate) const DOWN: &[u8] = b"7\r\n\x00\x00\x00\x00\x02\x08\x02\r\n";
@@ -24,33 +24,34 @@ pub(crate) const WATCHERS: usize = 100;
 
 /// Each of the clients has been sent what ends so, and nothing else where it is said so.
 fn expect_sent(
+    rt: &impl Abort,
     alloc: Global,
     streams: &mut [TcpStream],
     message: &[u8],
     is_all: bool,
-) -> Result<(), Fail> {
+) {
     for stream in streams {
-        let found = sent(alloc, stream)?;
-        same(&found.ends_with(message), &true, &message)?;
+        let found = sent(rt, alloc, stream);
+        assert!(rt; found.ends_with(message), "{message:?}");
         if is_all {
-            same(&found.as_slice(), &message, &"no more")?;
+            same(rt, &found.as_slice(), &message, &"no more");
         }
     }
-    Ok(())
 }
 
 /// Watches are told each change.
-fn tell_changes<R: Net<Stream = TcpStream> + Clock>(
+fn tell_changes<R: Net<Stream = TcpStream> + Clock + Abort>(
     rt: &R,
-    place: &mut Place,
+    place: &mut OneLoop,
     scene: &mut Scene,
-) -> Result<(), Fail> {
+) {
     let mut streams = Vec::new(place.alloc);
     for _ in 0..3u8 {
-        streams.push(client(rt, place, WATCH_OF_EMPTY)?)?;
+        let stream = client(rt, place, WATCH_OF_EMPTY);
+        streams.push(stream).expect(rt, "memory");
     }
-    place.rounds(rt, scene)?;
-    expect_sent(place.alloc, &mut streams, UP, false)?;
+    place.rounds(rt, scene);
+    expect_sent(rt, place.alloc, &mut streams, UP, false);
     for (setting, message) in [
         (Setting::Down, DOWN),
         (Setting::Up, UP),
@@ -59,36 +60,36 @@ fn tell_changes<R: Net<Stream = TcpStream> + Clock>(
     ] {
         scene.set(setting);
         place.news.change();
-        place.rounds(rt, scene)?;
-        expect_sent(place.alloc, &mut streams, message, true)?;
+        place.rounds(rt, scene);
+        expect_sent(rt, place.alloc, &mut streams, message, true);
     }
     let left = streams.pop();
     drop(left);
-    place.expect_held(rt, scene, (2, 2))?;
+    place.expect_held(rt, scene, (2, 2));
     drop(streams);
-    place.expect_held(rt, scene, (0, 0))?;
-    same(&place.ends(), &(3, 0, 0), &"all have left")
+    place.expect_held(rt, scene, (0, 0));
+    same(rt, &place.ends(), &(3, 0, 0), &"all have left");
 }
 
 /// Each step begins with no connection. The last one ends with the end of all.
-fn watch_in_turn<R: Net<Stream = TcpStream> + Clock>(
+fn watch_in_turn<R: Net<Stream = TcpStream> + Clock + Abort>(
     rt: &R,
-    place: &mut Place,
+    place: &mut OneLoop,
     scene: &mut Scene,
-) -> Result<(), Fail> {
-    tell_changes(rt, place, scene)?;
-    look_behind_all_else(rt, place, scene)?;
-    place.expect_held(rt, scene, (0, 0))?;
-    tell_much(rt, place, scene)
+) {
+    tell_changes(rt, place, scene);
+    look_behind_all_else(rt, place, scene);
+    place.expect_held(rt, scene, (0, 0));
+    tell_much(rt, place, scene);
 }
 
-fn watch_at_a_loop<R: Net<Stream = TcpStream> + Clock>(rt: &R, alloc: Global) -> Result<(), Fail> {
-    let mut scene = Scene::new(alloc)?;
-    let mut place = Place::new(rt, alloc, WATCHERS, WATCHERS)?;
-    watch_in_turn(rt, &mut place, &mut scene)
+fn watch_at_a_loop<R: Net<Stream = TcpStream> + Clock + Abort>(rt: &R, alloc: Global) {
+    let mut scene = scene_of(rt, alloc);
+    let mut place = OneLoop::new(rt, alloc, WATCHERS, WATCHERS);
+    watch_in_turn(rt, &mut place, &mut scene);
 }
 
 #[test]
-fn watches_are_told_each_change_a_part_of_them_in_a_round(rt: HostRuntime) -> Result<(), Fail> {
-    watch_at_a_loop(&rt, rt.alloc())
+fn watches_are_told_each_change_a_part_of_them_in_a_round(rt: HostRuntime) {
+    watch_at_a_loop(&rt, rt.alloc());
 }

@@ -1,6 +1,5 @@
+use crate::same::same;
 use observation::{Answer, Kind, MAX_ANSWER_LEN, Verdict, Why, answer_of};
-use std::test::Fail;
-use test_support::same;
 
 /// What a server of ours answers to a Check: SERVING.
 const SERVING: &[u8] = b"HTTP/1.1 200 OK\r\ncontent-type: application/grpc-web+proto\r\n\
@@ -15,7 +14,7 @@ const NOT_FOUND: &[u8] =
     b"HTTP/1.1 200 OK\r\ncontent-length: 20\r\n\r\n\x80\0\0\0\x0fgrpc-status:5\r\n";
 
 #[test]
-fn tells_what_whole_answers_are(rt: HostRuntime) -> Result<(), Fail> {
+fn tells_what_whole_answers_are(rt: HostRuntime) {
     const ROWS: [(Kind, &[u8], Verdict); 15] = [
         (Kind::Tcp, b"", Verdict::Pass),
         (Kind::Http, b"HTTP/1.1 200 OK\r\n", Verdict::Pass),
@@ -67,16 +66,26 @@ fn tells_what_whole_answers_are(rt: HostRuntime) -> Result<(), Fail> {
     ];
     for (kind, bytes, verdict) in ROWS {
         let found = answer_of(rt.alloc(), kind, bytes);
-        same(&found, &Answer::Told(verdict), &bytes)?;
+        same(&rt, &found, &Answer::Told(verdict), &bytes);
     }
     let found = answer_of(rt.alloc(), Kind::GrpcWeb, b"HTTP/1.1 503 No\r\n\r\n");
-    same(&found, &Answer::Told(Verdict::Fail(Why::Status(503))), &503)?;
+    same(
+        &rt,
+        &found,
+        &Answer::Told(Verdict::Fail(Why::Status(503))),
+        &"found",
+    );
     let found = answer_of(rt.alloc(), Kind::GrpcWeb, b"SSH-2.0-OpenSSH\r\n\r\n");
-    same(&found, &Answer::Told(Verdict::Fail(Why::Malformed)), &"ssh")
+    same(
+        &rt,
+        &found,
+        &Answer::Told(Verdict::Fail(Why::Malformed)),
+        &"ssh",
+    );
 }
 
 #[test]
-fn waits_for_the_whole_answer(rt: HostRuntime) -> Result<(), Fail> {
+fn waits_for_the_whole_answer(rt: HostRuntime) {
     const ROWS: [(Kind, &[u8]); 3] = [
         (Kind::Http, b"HTTP/1.1 200 OK\r\n"),
         (Kind::GrpcWeb, SERVING),
@@ -85,27 +94,21 @@ fn waits_for_the_whole_answer(rt: HostRuntime) -> Result<(), Fail> {
     for (kind, bytes) in ROWS {
         for len in 0..bytes.len() {
             let found = answer_of(rt.alloc(), kind, &bytes[..len]);
-            same(&found, &Answer::Open, &(kind, len))?;
+            same(&rt, &found, &Answer::Open, &(kind, len));
         }
     }
-    Ok(())
 }
 
 #[test]
-fn reads_no_more_than_the_limit(rt: HostRuntime) -> Result<(), Fail> {
+fn reads_no_more_than_the_limit(rt: HostRuntime) {
     let mut bytes = Vec::new(rt.alloc());
-    bytes.resize(MAX_ANSWER_LEN - 1, b'a')?;
-    same(
-        &answer_of(rt.alloc(), Kind::Http, &bytes),
-        &Answer::Open,
-        &"http",
-    )?;
-    same(
-        &answer_of(rt.alloc(), Kind::GrpcWeb, &bytes),
-        &Answer::Open,
-        &"grpc-web",
-    )?;
-    bytes.push(b'a')?;
+    bytes.resize(MAX_ANSWER_LEN - 1, b'a').expect(&rt, "memory");
+    for kind in [Kind::Http, Kind::GrpcWeb] {
+        let found = answer_of(rt.alloc(), kind, &bytes);
+        same(&rt, &found, &Answer::Open, &kind);
+    }
+    bytes.push(b'a').expect(&rt, "memory");
     let late = Answer::Told(Verdict::Fail(Why::TooLong));
-    same(&answer_of(rt.alloc(), Kind::Http, &bytes), &late, &"http")
+    let found = answer_of(rt.alloc(), Kind::Http, &bytes);
+    same(&rt, &found, &late, &"found");
 }

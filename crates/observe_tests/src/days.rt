@@ -1,6 +1,5 @@
+use crate::same::same;
 use observation::{Event, Kind, Lookout, Terms, Verdict};
-use std::test::Fail;
-use test_support::same;
 
 /// The milliseconds of a day.
 const DAY: u64 = 86_400_000;
@@ -51,10 +50,8 @@ fn day_of(rt: &HostRuntime, terms: Terms, place: u32, delay: u64) -> Counts {
 }
 
 #[test]
-fn has_one_report_for_each_look_of_a_day(rt: HostRuntime) -> Result<(), Fail> {
-    let Some(terms) = Terms::new(5000, 2000) else {
-        return Err(Fail::new(format_args!("no terms")));
-    };
+fn has_one_report_for_each_look_of_a_day(rt: HostRuntime) {
+    let terms = Terms::new(5000, 2000).expect(&rt, "terms");
     for (place, delay, passes) in [
         (0, 0, 17_280),
         (1, 1, 17_280),
@@ -67,18 +64,15 @@ fn has_one_report_for_each_look_of_a_day(rt: HostRuntime) -> Result<(), Fail> {
             reports: 17_280,
             passes,
         };
-        same(&found, &expected, &place)?;
+        same(&rt, &found, &expected, &place);
     }
-    Ok(())
 }
 
 #[test]
-fn begins_no_look_beside_another(rt: HostRuntime) -> Result<(), Fail> {
-    let Some(terms) = Terms::new(1000, 900) else {
-        return Err(Fail::new(format_args!("no terms")));
-    };
+fn begins_no_look_beside_another(rt: HostRuntime) {
+    let terms = Terms::new(1000, 900).expect(&rt, "terms");
     let mut lookout = Lookout::spread(rt.alloc(), Kind::Tcp, terms, 1, 2, DAY);
-    same(&lookout.until(), &(DAY + 500), &"first")?;
+    same(&rt, &lookout.until(), &(DAY + 500), &"first");
     const ROWS: [(u64, bool); 5] = [
         (DAY + 499, false),
         (DAY + 1000, true),
@@ -87,18 +81,15 @@ fn begins_no_look_beside_another(rt: HostRuntime) -> Result<(), Fail> {
         (DAY + 1999, false),
     ];
     for (now, begins) in ROWS {
-        same(&lookout.begin(rt.alloc(), now), &begins, &now)?;
+        same(&rt, &lookout.begin(rt.alloc(), now), &begins, &now);
     }
     lookout.hear(1, DAY + 1999, Event::Waited);
-    same(
-        &lookout.begin(rt.alloc(), DAY + 9700),
-        &true,
-        &"after a pause",
-    )?;
+    assert!(rt; lookout.begin(rt.alloc(), DAY + 9700), "after a pause");
     lookout.hear(2, DAY + 10_600, Event::Waited);
     same(
+        &rt,
         &lookout.until(),
         &(DAY + 10_500),
         &"missed looks are left out",
-    )
+    );
 }

@@ -12,6 +12,8 @@ mod looks;
 #[cfg(test)]
 mod once;
 #[cfg(test)]
+mod same;
+#[cfg(test)]
 mod servers;
 #[cfg(test)]
 mod targets;

@@ -1,41 +1,47 @@
 use super::servers::{Counter, hold, listen, target, terms};
+use crate::same::same;
 use control::Place;
 use observing::observe;
-use std::test::Fail;
-use std::time::Duration;
-use std::{io, thread};
-use test_support::same;
+use std::alloc::Global;
+use std::net::{Net, TcpListener, TcpStream};
+use std::process::Abort;
+use std::thread;
+use std::time::{Clock, Duration};
 
 /// Holds a session, and one more at the same port once nobody has listened there for a while.
-fn hold_twice(
-    rt: &HostRuntime,
+fn hold_twice<R>(
+    rt: &R,
+    alloc: Global,
     port: u16,
     first: &[&str],
     second: &[&str],
-) -> io::Result<(Vec<u8>, Vec<u8>)> {
-    let alloc = rt.alloc();
-    let (listener, _) = listen(rt, port)?;
-    let before = hold(alloc, &listener, first)?;
+) -> (Vec<u8>, Vec<u8>)
+where
+    R: Abort + Clock + Net<Listener = TcpListener, Stream = TcpStream>,
+{
+    let (listener, _) = listen(rt, port);
+    let before = hold(rt, alloc, &listener, first);
     drop(listener);
     thread::sleep(rt, Duration::from_millis(500));
-    let (listener, _) = listen(rt, port)?;
-    let after = hold(alloc, &listener, second)?;
-    Ok((before, after))
+    let (listener, _) = listen(rt, port);
+    let after = hold(rt, alloc, &listener, second);
+    (before, after)
 }
 
 #[test]
-fn goes_on_once_the_place_is_back(rt: HostRuntime) -> Result<(), Fail> {
+fn goes_on_once_the_place_is_back(rt: HostRuntime) {
     let alloc = rt.alloc();
-    let (listener, addr) = listen(&rt, 0)?;
-    let targets = [target(alloc, "a=tcp://", addr)?];
-    let terms = terms(100, 90)?;
+    let (listener, addr) = listen(&rt, 0);
+    let targets = [target(&rt, alloc, "a=tcp://", addr)];
+    let terms = terms(&rt, 100, 90);
     let mut counter = Counter::up_to(30);
-    let (place, place_addr) = listen(&rt, 0)?;
+    let (place, place_addr) = listen(&rt, 0);
     drop(place);
     let (sessions, telling) = thread::join(
         &rt,
         || hold_twice(
             &rt,
+            alloc,
             place_addr.port(),
             &["done\n"; 3],
             &["done\n", "missing\n", "missing\n", "done\n"],
@@ -51,48 +57,49 @@ fn goes_on_once_the_place_is_back(rt: HostRuntime) -> Result<(), Fail> {
             )
         },
     );
-    let (before, after) = sessions?;
+    drop(listener);
+    let (before, after) = sessions;
     same(
+        &rt,
         &before.as_slice(),
         &b"pass a;pass a;pass a;".as_slice(),
-        &"before",
-    )?;
+        &"found",
+    );
     same(
+        &rt,
         &after.as_slice(),
         &b"pass a;pass a;pass a;pass a;".as_slice(),
-        &"after",
-    )?;
-    let Ok(telling) = telling else {
-        return Err(Fail::new(format_args!("not observed")));
-    };
-    same(&telling.told, &5, &"told")?;
-    same(&(telling.told.saturating_add(telling.untold)), &30, &"all")?;
-    same(&(counter.passes, counter.refusals), &(30, 1), &"looks")?;
+        &"found",
+    );
+    let telling = telling.expect(&rt, "what was told");
+    same(&rt, &telling.told, &5, &"told");
     same(
-        &(counter.lost >= 1, counter.found >= 1),
-        &(true, true),
-        &"notes",
-    )?;
-    drop(listener);
-    Ok(())
+        &rt,
+        &telling.told.saturating_add(telling.untold),
+        &30,
+        &"all",
+    );
+    same(&rt, &(counter.passes, counter.refusals), &(30, 1), &"looks");
+    assert!(rt; counter.lost >= 1 && counter.found >= 1, "{counter:?}");
 }
 
 #[test]
-fn looks_at_a_hundred_targets(rt: HostRuntime) -> Result<(), Fail> {
+fn looks_at_a_hundred_targets(rt: HostRuntime) {
     let alloc = rt.alloc();
-    let (listener, addr) = listen(&rt, 0)?;
+    let (listener, addr) = listen(&rt, 0);
     let mut targets = Vec::new(alloc);
     for place in 0..100 {
         let name = if place == 50 { "n=http://" } else { "a=tcp://" };
-        targets.push(target(alloc, name, addr)?)?;
+        let target = target(&rt, alloc, name, addr);
+        targets.push(target).expect(&rt, "memory");
     }
     let mut counter = Counter::up_to(120);
-    let (place, place_addr) = listen(&rt, 0)?;
-    let terms = terms(1000, 200)?;
+    let (place, place_addr) = listen(&rt, 0);
+    let terms = terms(&rt, 1000, 200);
     let answers = ["done\n"; 120];
     let (lines, telling) = thread::join(
         &rt,
-        || hold(alloc, &place, &answers),
+        || hold(&rt, alloc, &place, &answers),
         || observe(
             &rt,
             Place::Address(place_addr),
@@ -102,10 +109,8 @@ fn looks_at_a_hundred_targets(rt: HostRuntime) -> Result<(), Fail> {
         ),
     );
     drop(listener);
-    let Ok(telling) = telling else {
-        return Err(Fail::new(format_args!("not observed")));
-    };
-    same(&(telling.told, telling.untold), &(120, 0), &"told")?;
-    same(&lines?.len(), &840, &"lines")?;
-    same(&counter.passes, &119, &"passes")
+    let telling = telling.expect(&rt, "what was told");
+    same(&rt, &(telling.told, telling.untold), &(120, 0), &"told");
+    same(&rt, &lines.len(), &840, &"lines");
+    same(&rt, &counter.passes, &119, &"passes");
 }

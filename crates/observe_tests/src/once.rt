@@ -1,10 +1,10 @@
 use super::servers::{Counter, answer, closed, hold, listen, target, terms};
+use crate::same::same;
 use control::Place;
 use observation::{Verdict, Why};
-use observing::observe_once;
-use std::test::Fail;
+use observing::{Observed, observe_once};
+use std::process::Abort;
 use std::thread;
-use test_support::same;
 
 /// What each target is asked by, what it answers, and what the look comes to.
 const ROWS: [(&str, &[&str], Verdict); 6] = [
@@ -32,28 +32,31 @@ const ROWS: [(&str, &[&str], Verdict); 6] = [
 ];
 
 #[test]
-fn looks_once_at_each(rt: HostRuntime) -> Result<(), Fail> {
+fn looks_once_at_each(rt: HostRuntime) {
     let alloc = rt.alloc();
-    let (place, place_addr) = listen(&rt, 0)?;
+    let (place, place_addr) = listen(&rt, 0);
     let mut listeners = Vec::new(alloc);
     let mut targets = Vec::new(alloc);
     for (name, _, _) in ROWS {
-        let (listener, addr) = listen(&rt, 0)?;
-        listeners.push(listener)?;
-        targets.push(target(alloc, name, addr)?)?;
+        let (listener, addr) = listen(&rt, 0);
+        listeners.push(listener).expect(&rt, "memory");
+        let target = target(&rt, alloc, name, addr);
+        targets.push(target).expect(&rt, "memory");
     }
-    let (silent, silent_addr) = listen(&rt, 0)?;
-    targets.push(target(alloc, "g=http://", silent_addr)?)?;
-    targets.push(target(alloc, "h=tcp://", closed(&rt)?)?)?;
+    let (silent, silent_addr) = listen(&rt, 0);
+    let silent_target = target(&rt, alloc, "g=http://", silent_addr);
+    targets.push(silent_target).expect(&rt, "memory");
+    let closed_target = target(&rt, alloc, "h=tcp://", closed(&rt));
+    targets.push(closed_target).expect(&rt, "memory");
     let mut counter = Counter::up_to(u64::MAX);
-    let terms = terms(2000, 1000)?;
+    let terms = terms(&rt, 2000, 1000);
     let (_, observed) = thread::join(
         &rt,
         || {
             for (listener, (_, texts, _)) in listeners.iter().zip(ROWS) {
                 let _ = answer(listener, texts);
             }
-            hold(alloc, &place, &["done\n"; 8])
+            hold(&rt, alloc, &place, &["done\n"; 8])
         },
         || observe_once(
             &rt,
@@ -63,28 +66,20 @@ fn looks_once_at_each(rt: HostRuntime) -> Result<(), Fail> {
             &mut counter,
         ),
     );
-    let Ok(observed) = observed else {
-        return Err(Fail::new(format_args!("not observed")));
-    };
-    for (verdict, (name, _, expected)) in observed.verdicts.iter().zip(ROWS) {
-        same(verdict, &expected, &name)?;
-    }
-    same(
-        &observed.verdicts.get(6).copied(),
-        &Some(Verdict::Fail(Why::Late)),
-        &"silent",
-    )?;
-    same(
-        &observed.verdicts.get(7).copied(),
-        &Some(Verdict::Fail(Why::Refused)),
-        &"closed",
-    )?;
-    same(&(counter.looks, counter.passes), &(8, 3), &"looks")?;
-    same(
-        &(observed.telling.told, observed.telling.untold),
-        &(8, 0),
-        &"told",
-    )?;
     drop(silent);
-    Ok(())
+    same(&rt, &(counter.looks, counter.passes), &(8, 3), &"looks");
+    expect_observed(&rt, &observed.expect(&rt, "what was observed"));
+}
+
+/// The verdict of each row, then those of the target that is silent and of the one that is closed, each of which was told.
+fn expect_observed(rt: &impl Abort, observed: &Observed) {
+    for (verdict, (name, _, expected)) in observed.verdicts.iter().zip(ROWS) {
+        same(rt, verdict, &expected, &name);
+    }
+    let silent = observed.verdicts.get(6).copied();
+    same(rt, &silent, &Some(Verdict::Fail(Why::Late)), &"silent");
+    let closed = observed.verdicts.get(7).copied();
+    same(rt, &closed, &Some(Verdict::Fail(Why::Refused)), &"closed");
+    let telling = observed.telling;
+    same(rt, &(telling.told, telling.untold), &(8, 0), &"told");
 }

@@ -4,20 +4,27 @@ use observing::{Note, Sink};
 use std::alloc::Global;
 use std::io;
 use std::io::{Read, Write};
-use std::net::{SocketAddr, TcpListener};
-use std::test::Fail;
+use std::net::{Net, SocketAddr, TcpListener, TcpStream};
+use std::process::Abort;
 
 /// A place that was listened at and is not any more.
-pub(super) fn closed(rt: &HostRuntime) -> io::Result<SocketAddr> {
-    let (_listener, addr) = listen(rt, 0)?;
-    Ok(addr)
+pub(super) fn closed<R>(rt: &R) -> SocketAddr
+where
+    R: Abort + Net<Listener = TcpListener, Stream = TcpStream>,
+{
+    let (_listener, addr) = listen(rt, 0);
+    addr
 }
 
 /// A listener at this port, or at one that the system picks.
-pub(super) fn listen(rt: &HostRuntime, port: u16) -> io::Result<(TcpListener, SocketAddr)> {
-    let listener = TcpListener::bind(rt, SocketAddr::from(([127, 0, 0, 1], port)))?;
-    let addr = listener.local_addr()?;
-    Ok((listener, addr))
+pub(super) fn listen<R>(rt: &R, port: u16) -> (TcpListener, SocketAddr)
+where
+    R: Abort + Net<Listener = TcpListener, Stream = TcpStream>,
+{
+    let place = SocketAddr::from(([127, 0, 0, 1], port));
+    let listener = TcpListener::bind(rt, place).expect(rt, "a listener");
+    let addr = listener.local_addr().expect(rt, "its address");
+    (listener, addr)
 }
 
 /// Answers one connection with these texts, one after the other.
@@ -33,30 +40,34 @@ pub(super) fn answer(listener: &TcpListener, texts: &[&str]) -> io::Result<()> {
 }
 
 /// Holds one session, in which lines have these answers. It tells the lines.
-pub(super) fn hold(alloc: Global, listener: &TcpListener, answers: &[&str]) -> io::Result<Vec<u8>> {
-    let (stream, _) = listener.accept()?;
+pub(super) fn hold(
+    rt: &impl Abort,
+    alloc: Global,
+    listener: &TcpListener,
+    answers: &[&str],
+) -> Vec<u8> {
+    let (stream, _) = listener.accept().expect(rt, "a session");
     let mut socket = &stream;
     let mut lines = Vec::new(alloc);
     for answer in answers {
-        let mut line = Vec::with_capacity(alloc, LINE_ROOM)?;
-        match read_line(&mut socket, &mut line)? {
-            LineEnd::LineFeed => {}
-            _ => return Ok(lines),
+        let mut line = Vec::with_capacity(alloc, LINE_ROOM).expect(rt, "memory");
+        let end = read_line(&mut socket, &mut line).expect(rt, "a line");
+        if end != LineEnd::LineFeed {
+            break;
         }
-        lines.extend_from_slice(&line)?;
-        lines.push(b';')?;
-        socket.write_all(answer.as_bytes())?;
+        lines.extend_from_slice(&line).expect(rt, "memory");
+        lines.push(b';').expect(rt, "memory");
+        socket
+            .write_all(answer.as_bytes())
+            .expect(rt, "an answered line");
     }
-    Ok(lines)
+    lines
 }
 
 /// A target with this name at this address.
-pub(super) fn target(alloc: Global, name: &str, addr: SocketAddr) -> Result<Target, Fail> {
-    let text = format!(in alloc; "{name}{addr}")?;
-    match Target::read(alloc, &text) {
-        Ok(target) => Ok(target),
-        Err(fault) => Err(Fail::new(format_args!("{text}: {fault}"))),
-    }
+pub(super) fn target(rt: &impl Abort, alloc: Global, name: &str, addr: SocketAddr) -> Target {
+    let text = format!(in alloc; "{name}{addr}").expect(rt, "memory");
+    Target::read(alloc, &text).expect(rt, &text)
 }
 
 /// Counts what it is shown, up to so many looks.
@@ -105,9 +116,6 @@ impl Sink for Counter {
 }
 
 /// A target is looked at every so many milliseconds, each time for so many at most.
-pub(super) fn terms(period: u32, limit: u32) -> Result<Terms, Fail> {
-    match Terms::new(period, limit) {
-        Some(terms) => Ok(terms),
-        None => Err(Fail::new(format_args!("no terms"))),
-    }
+pub(super) fn terms(rt: &impl Abort, period: u32, limit: u32) -> Terms {
+    Terms::new(period, limit).expect(rt, "terms")
 }

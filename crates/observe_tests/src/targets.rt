@@ -1,9 +1,8 @@
+use crate::same::same;
 use observation::{Kind, Target, TargetFault};
-use std::test::Fail;
-use test_support::same;
 
 #[test]
-fn reads_targets(rt: HostRuntime) -> Result<(), Fail> {
+fn reads_targets(rt: HostRuntime) {
     const ROWS: [(&str, &str, Kind, &str, u16); 7] = [
         (
             "db=tcp://localhost:5432",
@@ -32,19 +31,16 @@ fn reads_targets(rt: HostRuntime) -> Result<(), Fail> {
         ),
     ];
     for (text, name, kind, host, port) in ROWS {
-        let Ok(target) = Target::read(rt.alloc(), text) else {
-            return Err(Fail::new(format_args!("refused {text}")));
-        };
-        same(&target.name(), &name, &text)?;
-        same(&target.kind(), &kind, &text)?;
-        same(&target.host(), &host, &text)?;
-        same(&target.port(), &port, &text)?;
+        let target = Target::read(rt.alloc(), text).expect(&rt, text);
+        same(&rt, &target.name(), &name, &text);
+        same(&rt, &target.kind(), &kind, &text);
+        same(&rt, &target.host(), &host, &text);
+        same(&rt, &target.port(), &port, &text);
     }
-    Ok(())
 }
 
 #[test]
-fn refuses_mistakes(rt: HostRuntime) -> Result<(), Fail> {
+fn refuses_mistakes(rt: HostRuntime) {
     const ROWS: [(&str, TargetFault); 19] = [
         ("", TargetFault::NoUrl),
         ("tcp://localhost:1", TargetFault::NoUrl),
@@ -67,16 +63,13 @@ fn refuses_mistakes(rt: HostRuntime) -> Result<(), Fail> {
         ("db=tcp://::1:1", TargetFault::BadHost),
     ];
     for (text, fault) in ROWS {
-        let Err(found) = Target::read(rt.alloc(), text) else {
-            return Err(Fail::new(format_args!("a mistake was read")));
-        };
-        same(&found, &fault, &text)?;
+        let found = Target::read(rt.alloc(), text).err();
+        same(&rt, &found, &Some(fault), &text);
     }
-    Ok(())
 }
 
 #[test]
-fn writes_requests(rt: HostRuntime) -> Result<(), Fail> {
+fn writes_requests(rt: HostRuntime) {
     const ROWS: [(&str, &str); 4] = [
         ("db=tcp://h:1", ""),
         (
@@ -95,13 +88,8 @@ fn writes_requests(rt: HostRuntime) -> Result<(), Fail> {
         ),
     ];
     for (text, request) in ROWS {
-        let Ok(target) = Target::read(rt.alloc(), text) else {
-            return Err(Fail::new(format_args!("refused {text}")));
-        };
-        let Some(found) = target.request(rt.alloc()) else {
-            return Err(Fail::new(format_args!("no request for {text}")));
-        };
-        same(&found.as_slice(), &request.as_bytes(), &text)?;
+        let target = Target::read(rt.alloc(), text).expect(&rt, text);
+        let found = target.request(rt.alloc()).expect(&rt, "a request");
+        same(&rt, &found.as_slice(), &request.as_bytes(), &text);
     }
-    Ok(())
 }

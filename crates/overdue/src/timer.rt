@@ -127,6 +127,3 @@ impl Timer {
         self.due
     }
 }
-
-#[cfg(test)]
-mod tests;

@@ -11,8 +11,6 @@ mod response;
 mod services;
 mod status_text;
 mod target;
-#[cfg(test)]
-mod tests;
 mod verb;
 
 pub use answering::answer;

@@ -1,12 +1,13 @@
+use crate::begun::{call_of, staged_of};
+use crate::same::same;
 use crate::streams::{Manner, Wire, wire};
 use crate::turns::{by_turns, turn_once};
 use reactor::{Fate, Turned};
 use std::alloc::Global;
-use std::test::Fail;
+use std::process::Abort;
 use test_support::requests::{
     CHECK_OF_EMPTY, CHECK_OF_ZZ, CHECK_WITHOUT_TYPE, LIST, WATCH_OF_EMPTY, WATCH_OF_ZZ,
 };
-use test_support::same;
 use web_call::staged::Staged;
 use web_call::{Bell, Call, Door, Limits, Outcome, Tap, Turn, exchange};
 
@@ -28,11 +29,12 @@ impl Bell for Mute {
 
 /// How an exchange with a client of this request ends, what it sends, and how many bytes it leaves unread; a Watch has no Looks.
 fn by_exchange(
+    rt: &impl Abort,
     alloc: Global,
     door: &mut impl Door,
     request: &[u8],
     sent: &mut Vec<u8>,
-) -> Result<(Outcome, usize), Fail> {
+) -> (Outcome, usize) {
     let mut rest = request;
     let result = exchange(
         alloc,
@@ -43,8 +45,8 @@ fn by_exchange(
         Limits { looks: 0 },
     );
     match result {
-        Ok(outcome) => Ok((outcome, rest.len())),
-        Err(_) => Err(Fail::new("the exchange failed")),
+        Ok(outcome) => (outcome, rest.len()),
+        Err(_) => panic!(rt; "the exchange failed"),
     }
 }
 
@@ -59,48 +61,48 @@ const REQUESTS: [&[u8]; 6] = [
 
 /// A call over this link comes to this end, and sends this.
 fn expect_call(
+    rt: &impl Abort,
     alloc: Global,
     staged: &Staged,
     link: &mut Wire<'_>,
     outcome: Outcome,
     sent: &[u8],
-) -> Result<(), Fail> {
-    let mut call = Call::new(alloc)?;
+) {
+    let mut call = call_of(rt, alloc);
     let fate = by_turns(alloc, link, &mut staged.door(), &mut call, Turn::End);
-    same(&fate, &Fate::Done, &sent)?;
-    same(&call.outcome(), &Some(outcome), &sent)?;
-    same(&link.stream().writer.taken.as_slice(), &sent, &sent)
+    same(rt, &fate, &Fate::Done, &sent);
+    same(rt, &call.outcome(), &Some(outcome), &sent);
+    same(rt, &link.stream().writer.taken.as_slice(), &sent, &sent);
 }
 
 /// A request in the manner comes to what an exchange comes to. In one read there may be bytes that stand behind the request.
 fn expect_the_same(
+    rt: &impl Abort,
     alloc: Global,
     staged: &Staged,
     request: &[u8],
     manner: Manner,
-) -> Result<(), Fail> {
+) {
     let mut sent = Vec::new(alloc);
-    let (outcome, rest) = by_exchange(alloc, &mut staged.door(), request, &mut sent)?;
-    let mut link = wire(alloc, request, manner, manner)?;
-    expect_call(alloc, staged, &mut link, outcome, &sent)?;
+    let (outcome, rest) = by_exchange(rt, alloc, &mut staged.door(), request, &mut sent);
+    let mut link = wire(rt, alloc, request, manner, manner);
+    expect_call(rt, alloc, staged, &mut link, outcome, &sent);
     if manner.piece == 1 {
-        same(&link.stream().reader.rest.len(), &rest, &request)?;
+        same(rt, &link.stream().reader.rest.len(), &rest, &request);
     }
-    Ok(())
 }
 
 #[test]
-fn a_call_by_turns_is_answered_as_an_exchange(rt: HostRuntime) -> Result<(), Fail> {
-    let staged = Staged::new(rt.alloc())?;
+fn a_call_by_turns_is_answered_as_an_exchange(rt: HostRuntime) {
+    let staged = staged_of(&rt, rt.alloc());
     for request in REQUESTS {
         for piece in [1usize, 7, 4_096] {
             for pauses in [false, true] {
                 let manner = Manner { piece, pauses };
-                expect_the_same(rt.alloc(), &staged, request, manner)?;
+                expect_the_same(&rt, rt.alloc(), &staged, request, manner);
             }
         }
     }
-    Ok(())
 }
 
 /// The bytes of a call, how they come, and how its answer is taken; how many bytes its first turn reads and sends, and what comes of that.
@@ -148,24 +150,21 @@ const ROWS: [Row; 6] = [
     ),
 ];
 
-fn expect_turn(alloc: Global, staged: &Staged, row: &Row) -> Result<(), Fail> {
+fn expect_turn(rt: &impl Abort, alloc: Global, staged: &Staged, row: &Row) {
     let (bytes, reads, writes, moved, turned) = *row;
-    let mut call = Call::new(alloc)?;
-    let mut link = wire(alloc, bytes, reads, writes)?;
+    let mut call = call_of(rt, alloc);
+    let mut link = wire(rt, alloc, bytes, reads, writes);
     let found = turn_once(alloc, &mut link, &mut staged.door(), &mut call, Turn::End);
     let pair = link.stream();
     let read = bytes.len().saturating_sub(pair.reader.rest.len());
     let sent = pair.writer.taken.len();
-    same(&(found, (read, sent)), &(turned, moved), &bytes)
+    same(rt, &(found, (read, sent)), &(turned, moved), &bytes);
 }
 
 #[test]
-fn a_turn_gives_way_after_64_pieces_of_work_and_tells_of_bytes_behind_the_request(
-    rt: HostRuntime,
-) -> Result<(), Fail> {
-    let staged = Staged::new(rt.alloc())?;
+fn a_turn_gives_way_after_64_pieces_of_work_and_tells_of_bytes_behind_the_request(rt: HostRuntime) {
+    let staged = staged_of(&rt, rt.alloc());
     for row in &ROWS {
-        expect_turn(rt.alloc(), &staged, row)?;
+        expect_turn(&rt, rt.alloc(), &staged, row);
     }
-    Ok(())
 }

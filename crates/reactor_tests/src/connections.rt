@@ -2,8 +2,8 @@
 
 use crate::streams::{Basin, Pair, Trickle, Wire};
 use reactor::{Connection, Left, MOST_TAKEN, Occasion};
-use std::alloc::{AllocError, Global};
-use std::test::Fail;
+use std::alloc::Global;
+use std::process::Abort;
 use std::time::{Duration, Instant};
 use web_call::staged::Staged;
 use web_call::{Call, Turn};
@@ -11,12 +11,14 @@ use web_call::{Call, Turn};
 pub(crate) type Held<'a> = Connection<Pair<Trickle<'a>, Basin>, Call>;
 
 /// It begins now.
-pub(crate) fn connection(
+pub(crate) fn connection<'a>(
+    rt: &impl Abort,
     alloc: Global,
-    wire: Wire<'_>,
+    wire: Wire<'a>,
     now: Instant,
-) -> Result<Held<'_>, AllocError> {
-    Ok(Connection::new(wire.into_stream(), Call::new(alloc)?, now))
+) -> Held<'a> {
+    let call = Call::new(alloc).expect(rt, "memory");
+    Connection::new(wire.into_stream(), call, now)
 }
 
 /// How a turn leaves it in which it may look, and for which no event is told.
@@ -36,9 +38,7 @@ pub(crate) fn turn_at(
 }
 
 /// So many milliseconds later.
-pub(crate) fn after(begun: Instant, millis: u64) -> Result<Instant, Fail> {
-    match begun.checked_add(Duration::from_millis(millis)) {
-        Some(then) => Ok(then),
-        None => Err(Fail::new("the clock does not go so far")),
-    }
+pub(crate) fn after(rt: &impl Abort, begun: Instant, millis: u64) -> Instant {
+    let then = begun.checked_add(Duration::from_millis(millis));
+    then.expect(rt, "a time")
 }

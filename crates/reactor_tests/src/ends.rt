@@ -1,17 +1,18 @@
+use crate::begun::{call_of, console_of, session_of, staged_of};
+use crate::same::same;
 use crate::sessions::tended;
 use crate::streams::Pair;
 use crate::turns::turn_once;
-use control::Session;
 use control::one_thread::OneThread;
 use probe_core::Manual;
 use reactor::{Fate, Host, Link, Machine};
 use std::alloc::Global;
 use std::io::ErrorKind;
-use std::test::Fail;
+use std::process::Abort;
 use test_support::requests::CHECK_OF_EMPTY;
-use test_support::{Fault, FaultyReader, FaultyWriter, same};
+use test_support::{Fault, FaultyReader, FaultyWriter};
 use web_call::staged::Staged;
-use web_call::{Call, Turn, Why};
+use web_call::{Turn, Why};
 
 /// The faulty read, or else the faulty write, counted from 1, what it does, and the fate of a call and of a session, each with how many
 /// bytes were sent.
@@ -56,25 +57,25 @@ fn first_turn<M: Machine, H: Host<M>>(
 }
 
 fn expect_ends(
+    rt: &impl Abort,
     alloc: Global,
     staged: &Staged,
     console: &mut OneThread<Manual>,
     row: &Row,
-) -> Result<(), Fail> {
-    let mut call = Call::new(alloc)?;
+) {
+    let mut call = call_of(rt, alloc);
     let called = first_turn(alloc, CHECK_OF_EMPTY, row, &mut staged.door(), &mut call);
-    let mut session = Session::new(alloc)?;
+    let mut session = session_of(rt, alloc);
     let lines = b"check a\ncheck a\n";
     let talked = first_turn(alloc, lines, row, &mut tended(console), &mut session);
-    same(&(called, talked), &(row.3, row.4), row)
+    same(rt, &(called, talked), &(row.3, row.4), &row);
 }
 
 #[test]
-fn a_turn_ends_with_its_reader_and_its_writer(rt: HostRuntime) -> Result<(), Fail> {
-    let staged = Staged::new(rt.alloc())?;
-    let mut console = OneThread::new(rt.alloc())?;
+fn a_turn_ends_with_its_reader_and_its_writer(rt: HostRuntime) {
+    let staged = staged_of(&rt, rt.alloc());
+    let mut console = console_of(&rt, rt.alloc());
     for row in &ROWS {
-        expect_ends(rt.alloc(), &staged, &mut console, row)?;
+        expect_ends(&rt, rt.alloc(), &staged, &mut console, row);
     }
-    Ok(())
 }

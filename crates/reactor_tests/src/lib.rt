@@ -2,6 +2,8 @@
 #![tactic(auto)]
 
 #[cfg(test)]
+mod begun;
+#[cfg(test)]
 mod calls;
 #[cfg(test)]
 mod connections;
@@ -15,6 +17,8 @@ mod memory;
 mod put_off;
 #[cfg(test)]
 mod reports;
+#[cfg(test)]
+mod same;
 #[cfg(test)]
 mod sessions;
 #[cfg(test)]

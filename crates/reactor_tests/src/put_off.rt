@@ -1,13 +1,14 @@
 //! Events of sockets that are left to a later turn.
 
+use crate::begun::staged_of;
 use crate::connections::{Held, connection, turn_at};
+use crate::same::same;
 use crate::streams::{Manner, wire_of};
 use reactor::{End, Left, Ready};
 use std::alloc::Global;
-use std::test::Fail;
+use std::process::Abort;
 use std::time::Instant;
 use test_support::requests::WATCH_OF_EMPTY;
-use test_support::same;
 use web_call::staged::Staged;
 
 /// Whether what is reported of a Watch whose status waits to be sent and whose client has left says that there is something to read, and
@@ -20,38 +21,51 @@ const ROWS: [(bool, bool, bool, Left); 4] = [
 ];
 
 /// A Watch whose client has left. Its first write would wait, and the second takes all.
-fn watch(alloc: Global, now: Instant) -> Result<Held<'static>, Fail> {
-    let link = wire_of(alloc, WATCH_OF_EMPTY, false, Manner::WHOLE, Manner::PAUSING)?;
-    Ok(connection(alloc, link, now)?)
+fn watch(rt: &impl Abort, alloc: Global, now: Instant) -> Held<'static> {
+    let link = wire_of(
+        rt,
+        alloc,
+        WATCH_OF_EMPTY,
+        false,
+        Manner::WHOLE,
+        Manner::PAUSING,
+    );
+    connection(rt, alloc, link, now)
 }
 
 fn expect_left(
+    rt: &impl Abort,
     alloc: Global,
     staged: &Staged,
     connection: &mut Held<'_>,
     now: Instant,
     row: &(bool, bool, bool, Left),
-) -> Result<(), Fail> {
+) {
     let (readable, writable, may_go_on, left) = *row;
     let _ = turn_at(alloc, staged, connection, now);
     let found = (connection.is_watching(), connection.gave_way());
-    same(&found, &(true, false), &"its status waits")?;
+    same(rt, &found, &(true, false), &"its status waits");
     connection.put_off(Ready { readable, writable });
-    same(&connection.gave_way(), &may_go_on, &(readable, writable))?;
+    same(
+        rt,
+        &connection.gave_way(),
+        &may_go_on,
+        &(readable, writable),
+    );
     let found = turn_at(alloc, staged, connection, now);
-    same(&found, &left, &(readable, writable))?;
+    same(rt, &found, &left, &(readable, writable));
     let is_sent = connection.machine().frames() == 1;
     let found = (is_sent, connection.gave_way());
-    same(&found, &(true, false), &"its status is sent")
+    same(rt, &found, &(true, false), &"its status is sent");
 }
 
 #[test]
-fn an_event_that_is_put_off_counts_at_the_next_turn(rt: HostRuntime) -> Result<(), Fail> {
+fn an_event_that_is_put_off_counts_at_the_next_turn(rt: HostRuntime) {
     let alloc = rt.alloc();
-    let staged = Staged::new(alloc)?;
-    let now = Instant::now(&rt)?;
+    let staged = staged_of(&rt, alloc);
+    let now = Instant::now(&rt).expect(&rt, "a reading");
     for row in &ROWS {
-        expect_left(alloc, &staged, &mut watch(alloc, now)?, now, row)?;
+        let mut connection = watch(&rt, alloc, now);
+        expect_left(&rt, alloc, &staged, &mut connection, now, row);
     }
-    Ok(())
 }

@@ -1,15 +1,16 @@
 //! Sessions of a place where findings are reported.
 
+use crate::begun::{console_of, session_of};
+use crate::same::same;
 use crate::streams::{Manner, wire_of};
 use crate::turns::by_turns;
+use control::Rights;
 use control::one_thread::{OneThread, Told};
-use control::{Rights, Session};
 use probe_core::{Maker, Rule, Threshold};
 use reactor::{Attendant, Fate};
 use std::alloc::{AllocError, Global};
 use std::marker::PhantomData;
-use std::test::Fail;
-use test_support::same;
+use std::process::Abort;
 use web_call::Turn;
 
 /// Makes services that are checked. There is no memory for one of another rule.
@@ -26,29 +27,27 @@ impl Maker<Threshold> for Thresholds {
 
 /// What a session answers to the lines, beside the server as it is behind them.
 fn expect_answers(
+    rt: &impl Abort,
     alloc: Global,
     console: &mut OneThread<Threshold>,
     server: Told,
     lines: &[u8],
     answers: &[u8],
-) -> Result<Told, Fail> {
+) -> Told {
     let mut host = Attendant {
         console,
         server,
         maker: &Thresholds,
         of: PhantomData,
     };
-    let mut session = Session::new(alloc)?;
-    let mut link = wire_of(alloc, lines, false, Manner::WHOLE, Manner::WHOLE)?;
+    let mut session = session_of(rt, alloc);
+    let mut link = wire_of(rt, alloc, lines, false, Manner::WHOLE, Manner::WHOLE);
     let fate = by_turns(alloc, &mut link, &mut host, &mut session, Turn::Look);
-    same(&fate, &Fate::Done, &"its end")?;
-    same(
-        &link.stream().writer.taken.as_slice(),
-        &answers,
-        &"its answers",
-    )?;
+    same(rt, &fate, &Fate::Done, &"its end");
+    let found = link.stream().writer.taken.as_slice();
+    same(rt, &found, &answers, &"its answers");
     let Attendant { server, .. } = host;
-    Ok(server)
+    server
 }
 
 /// A line of who reports, and its answer. `a` is registered and up, and there is room for three entries more.
@@ -87,22 +86,22 @@ const LINES: [(&[u8], &[u8]); 27] = [
 ];
 
 /// All lines, and their answers.
-fn talk(alloc: Global) -> Result<(Vec<u8>, Vec<u8>), AllocError> {
+fn talk(rt: &impl Abort, alloc: Global) -> (Vec<u8>, Vec<u8>) {
     let mut lines = Vec::new(alloc);
     let mut answers = Vec::new(alloc);
     for (line, answer) in &LINES {
-        lines.extend_from_slice(line)?;
-        answers.extend_from_slice(answer)?;
+        lines.extend_from_slice(line).expect(rt, "memory");
+        answers.extend_from_slice(answer).expect(rt, "memory");
     }
-    Ok((lines, answers))
+    (lines, answers)
 }
 
-fn expect_reports(alloc: Global, console: &mut OneThread<Threshold>) -> Result<(), Fail> {
+fn expect_reports(rt: &impl Abort, alloc: Global, console: &mut OneThread<Threshold>) {
     let opening = b"register a threshold 1\n";
-    expect_answers(alloc, console, Told::NOTHING, opening, b"done\n")?;
-    let (lines, answers) = talk(alloc)?;
+    expect_answers(rt, alloc, console, Told::NOTHING, opening, b"done\n");
+    let (lines, answers) = talk(rt, alloc);
     let server = Told::NOTHING_BY_REPORTERS;
-    let server = expect_answers(alloc, console, server, &lines, &answers)?;
+    let server = expect_answers(rt, alloc, console, server, &lines, &answers);
     // the one change that showed, and no end
     let told = Told {
         rights: Rights::Reports,
@@ -110,12 +109,11 @@ fn expect_reports(alloc: Global, console: &mut OneThread<Threshold>) -> Result<(
         expected: None,
         stops: 0,
     };
-    same(&server, &told, &"what the server was told")
+    same(rt, &server, &told, &"what the server was told");
 }
 
 #[test]
-fn who_reports_is_answered_and_changes_nothing_but_by_findings(
-    rt: HostRuntime,
-) -> Result<(), Fail> {
-    expect_reports(rt.alloc(), &mut OneThread::new(rt.alloc())?)
+fn who_reports_is_answered_and_changes_nothing_but_by_findings(rt: HostRuntime) {
+    let mut console = console_of(&rt, rt.alloc());
+    expect_reports(&rt, rt.alloc(), &mut console);
 }

@@ -1,3 +1,5 @@
+use crate::begun::{console_of, session_of};
+use crate::same::same;
 use crate::streams::{Manner, Wire, filled, wire, wire_of};
 use crate::turns::{by_turns, turn_once};
 use control::Session;
@@ -6,8 +8,7 @@ use probe_core::Manual;
 use reactor::{Attendant, Fate};
 use std::alloc::Global;
 use std::marker::PhantomData;
-use std::test::Fail;
-use test_support::same;
+use std::process::Abort;
 use web_call::Turn;
 
 /// What sessions of tests are held over.
@@ -49,39 +50,46 @@ const TALKS: [(&[u8], bool, &[u8]); 7] = [
 
 /// The bytes of the link are answered so, and the session is done.
 fn expect_sent(
+    rt: &impl Abort,
     alloc: Global,
     link: &mut Wire<'_>,
     console: &mut OneThread<Manual>,
     expected: &[u8],
-) -> Result<(), Fail> {
-    let mut session = Session::new(alloc)?;
+) {
+    let mut session = session_of(rt, alloc);
     let mut host = tended(console);
     let fate = by_turns(alloc, link, &mut host, &mut session, Turn::Look);
-    same(&fate, &Fate::Done, &expected)?;
-    same(&link.stream().writer.taken.as_slice(), &expected, &expected)
+    same(rt, &fate, &Fate::Done, &expected);
+    same(
+        rt,
+        &link.stream().writer.taken.as_slice(),
+        &expected,
+        &expected,
+    );
 }
 
 /// So is what comes in pieces of such a length, where each second call would wait or none.
 fn expect_talk(
+    rt: &impl Abort,
     alloc: Global,
     talk: &(&'static [u8], bool, &[u8]),
     manner: Manner,
-) -> Result<(), Fail> {
+) {
     let (bytes, is_open, expected) = *talk;
-    let mut link = wire_of(alloc, bytes, is_open, manner, manner)?;
-    expect_sent(alloc, &mut link, &mut OneThread::new(alloc)?, expected)
+    let mut link = wire_of(rt, alloc, bytes, is_open, manner, manner);
+    let mut console = console_of(rt, alloc);
+    expect_sent(rt, alloc, &mut link, &mut console, expected);
 }
 
 #[test]
-fn answers_each_line_over_any_streams_up_to_its_last(rt: HostRuntime) -> Result<(), Fail> {
+fn answers_each_line_over_any_streams_up_to_its_last(rt: HostRuntime) {
     for talk in &TALKS {
         for piece in [1usize, 7, 4_096] {
             for pauses in [false, true] {
-                expect_talk(rt.alloc(), talk, Manner { piece, pauses })?;
+                expect_talk(&rt, rt.alloc(), talk, Manner { piece, pauses });
             }
         }
     }
-    Ok(())
 }
 
 /// Whether nothing can be sent in a turn, what the turn may do, its fate, how often a status has changed by then, and how many bytes were
@@ -105,34 +113,32 @@ const STEPS: [&[Step]; 3] = [
 ];
 
 fn expect_steps(
+    rt: &impl Abort,
     alloc: Global,
     host: &mut Tended<'_>,
     session: &mut Session,
     steps: &[Step],
-) -> Result<(), Fail> {
-    let mut link = wire(alloc, LINES, Manner::WHOLE, Manner::WHOLE)?;
+) {
+    let mut link = wire(rt, alloc, LINES, Manner::WHOLE, Manner::WHOLE);
     for (number, (is_full, then, fate, wakes, sent, unread)) in steps.iter().enumerate() {
         link = filled(link, *is_full);
         let found = turn_once(alloc, &mut link, host, session, *then).fate;
-        same(&found, fate, &number)?;
-        same(&host.server.wakes, wakes, &number)?;
+        same(rt, &found, fate, &number);
+        same(rt, &host.server.wakes, wakes, &number);
         let pair = link.stream();
         let found = (pair.writer.taken.len(), pair.reader.rest.len());
-        same(&found, &(*sent, *unread), &number)?;
+        same(rt, &found, &(*sent, *unread), &number);
     }
     let sent = link.stream().writer.taken.as_slice();
-    same(&b"done\ndone\n".starts_with(sent), &true, &sent)
+    assert!(rt; b"done\ndone\n".starts_with(sent), "{sent:?}");
 }
 
 #[test]
-fn a_line_waits_for_the_answer_before_it_and_none_is_answered_behind_the_end(
-    rt: HostRuntime,
-) -> Result<(), Fail> {
+fn a_line_waits_for_the_answer_before_it_and_none_is_answered_behind_the_end(rt: HostRuntime) {
     let alloc = rt.alloc();
     for steps in STEPS {
-        let mut console = OneThread::new(alloc)?;
-        let mut session = Session::new(alloc)?;
-        expect_steps(alloc, &mut tended(&mut console), &mut session, steps)?;
+        let mut console = console_of(&rt, alloc);
+        let mut session = session_of(&rt, alloc);
+        expect_steps(&rt, alloc, &mut tended(&mut console), &mut session, steps);
     }
-    Ok(())
 }

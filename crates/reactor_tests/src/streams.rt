@@ -6,9 +6,10 @@ ghost use Rattle.std.specs.Io.KnownBytes.{ReadConsumes, WriteAppends};
 
 use mio::{Interest, Registry, Token};
 use reactor::{Link, Socket, Stream};
-use std::alloc::{AllocError, Global};
+use std::alloc::Global;
 use std::io;
 use std::io::{ErrorKind, Read, Write};
+use std::process::Abort;
 
 /// How a stream gives or takes bytes.
 #[derive(Clone, Copy)]
@@ -151,13 +152,14 @@ impl<R: Read + Drop, W: Write + Drop> Socket for Pair<R, W> {
 pub(crate) type Wire<'a> = Link<Pair<Trickle<'a>, Basin>>;
 
 /// A link over which these bytes come, and then no more for now where it is open. For what is sent there is memory up to 1,024 bytes.
-pub(crate) fn wire_of(
+pub(crate) fn wire_of<'a>(
+    rt: &impl Abort,
     alloc: Global,
-    bytes: &[u8],
+    bytes: &'a [u8],
     is_open: bool,
     reads: Manner,
     writes: Manner,
-) -> Result<Wire<'_>, AllocError> {
+) -> Wire<'a> {
     let reader = Trickle {
         rest: bytes,
         is_open,
@@ -165,22 +167,23 @@ pub(crate) fn wire_of(
         calls: 0,
     };
     let writer = Basin {
-        taken: Vec::with_capacity(alloc, 1_024)?,
+        taken: Vec::with_capacity(alloc, 1_024).expect(rt, "memory"),
         is_full: false,
         manner: writes,
         calls: 0,
     };
-    Ok(Link::new(Pair { reader, writer }))
+    Link::new(Pair { reader, writer })
 }
 
 /// The same, where it is open.
-pub(crate) fn wire(
+pub(crate) fn wire<'a>(
+    rt: &impl Abort,
     alloc: Global,
-    bytes: &[u8],
+    bytes: &'a [u8],
     reads: Manner,
     writes: Manner,
-) -> Result<Wire<'_>, AllocError> {
-    wire_of(alloc, bytes, true, reads, writes)
+) -> Wire<'a> {
+    wire_of(rt, alloc, bytes, true, reads, writes)
 }
 
 /// The same link, whose writer would wait from now on, or takes bytes again.

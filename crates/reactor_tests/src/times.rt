@@ -1,14 +1,15 @@
 //! The time that a connection has.
 
+use crate::begun::staged_of;
 use crate::connections::{Held, after, connection, turn_at};
+use crate::same::same;
 use crate::streams::{Manner, filled, wire};
 use desk_core::Setting;
 use reactor::End;
 use std::alloc::Global;
-use std::test::Fail;
+use std::process::Abort;
 use std::time::Instant;
 use test_support::requests::WATCH_OF_EMPTY;
-use test_support::same;
 use web_call::Why;
 use web_call::staged::Staged;
 
@@ -28,57 +29,50 @@ const TIMES: [Time; 7] = [
 
 /// It is late so many milliseconds behind its beginning, and is then given up so, or it is not late.
 fn expect_late(
+    rt: &impl Abort,
     connection: &Held<'_>,
     begun: Instant,
     millis: u64,
     why: Option<Why>,
-) -> Result<(), Fail> {
-    let is_late = connection.is_late(after(begun, millis)?);
-    same(&is_late, &why.is_some(), &millis)?;
-    match why {
-        Some(why) => same(&connection.late_end(), &End::GivenUp(why), &millis),
-        None => Ok(()),
+) {
+    let is_late = connection.is_late(after(rt, begun, millis));
+    same(rt, &is_late, &why.is_some(), &millis);
+    if let Some(why) = why {
+        same(rt, &connection.late_end(), &End::GivenUp(why), &millis);
     }
 }
 
 /// A connection that is new has ten seconds, whatever comes of its request by its one turn.
 fn expect_time(
+    rt: &impl Abort,
     alloc: Global,
     staged: &Staged,
     connection: &mut Held<'_>,
     begun: Instant,
     time: &Time,
-) -> Result<(), Fail> {
+) {
     for (millis, why) in [
         (0, None),
         (9_999, None),
         (10_000, Some(Why::Read)),
         (20_000, Some(Why::Read)),
     ] {
-        expect_late(connection, begun, millis, why)?;
+        expect_late(rt, connection, begun, millis, why);
     }
     let _ = turn_at(alloc, staged, connection, begun);
-    expect_late(connection, begun, time.2, time.3)
+    expect_late(rt, connection, begun, time.2, time.3);
 }
 
 #[test]
-fn a_request_has_ten_seconds_and_a_peer_that_takes_nothing_thirty(
-    rt: HostRuntime,
-) -> Result<(), Fail> {
+fn a_request_has_ten_seconds_and_a_peer_that_takes_nothing_thirty(rt: HostRuntime) {
     let alloc = rt.alloc();
-    let staged = Staged::new(alloc)?;
-    let now = Instant::now(&rt)?;
+    let staged = staged_of(&rt, alloc);
+    let now = Instant::now(&rt).expect(&rt, "a reading");
     for time in &TIMES {
-        let link = filled(wire(alloc, time.0, Manner::WHOLE, Manner::WHOLE)?, time.1);
-        expect_time(
-            alloc,
-            &staged,
-            &mut connection(alloc, link, now)?,
-            now,
-            time,
-        )?;
+        let link = wire(&rt, alloc, time.0, Manner::WHOLE, Manner::WHOLE);
+        let mut connection = connection(&rt, alloc, filled(link, time.1), now);
+        expect_time(&rt, alloc, &staged, &mut connection, now, time);
     }
-    Ok(())
 }
 
 /// What is set before a turn of a Watch, if anything, how many milliseconds behind its connection's beginning the turn is, and since
@@ -94,28 +88,29 @@ const QUIET: [(Option<Setting>, u64, u64); 6] = [
 ];
 
 fn expect_quiet(
+    rt: &impl Abort,
     alloc: Global,
     staged: &mut Staged,
     connection: &mut Held<'_>,
     begun: Instant,
-) -> Result<(), Fail> {
-    same(&connection.quiet_since(), &begun, &"new")?;
+) {
+    same(rt, &connection.quiet_since(), &begun, &"new");
     for (setting, millis, quiet) in QUIET {
         if let Some(setting) = setting {
             staged.set(setting);
         }
-        let _ = turn_at(alloc, staged, connection, after(begun, millis)?);
-        same(&connection.quiet_since(), &after(begun, quiet)?, &millis)?;
+        let _ = turn_at(alloc, staged, connection, after(rt, begun, millis));
+        let quiet = after(rt, begun, quiet);
+        same(rt, &connection.quiet_since(), &quiet, &millis);
     }
-    Ok(())
 }
 
 #[test]
-fn a_connection_is_quiet_since_bytes_last_went_over_it(rt: HostRuntime) -> Result<(), Fail> {
+fn a_connection_is_quiet_since_bytes_last_went_over_it(rt: HostRuntime) {
     let alloc = rt.alloc();
-    let mut staged = Staged::new(alloc)?;
-    let begun = Instant::now(&rt)?;
-    let link = wire(alloc, WATCH_OF_EMPTY, Manner::WHOLE, Manner::PAUSING)?;
-    let mut connection = connection(alloc, link, begun)?;
-    expect_quiet(alloc, &mut staged, &mut connection, begun)
+    let mut staged = staged_of(&rt, alloc);
+    let begun = Instant::now(&rt).expect(&rt, "a reading");
+    let link = wire(&rt, alloc, WATCH_OF_EMPTY, Manner::WHOLE, Manner::PAUSING);
+    let mut connection = connection(&rt, alloc, link, begun);
+    expect_quiet(&rt, alloc, &mut staged, &mut connection, begun);
 }

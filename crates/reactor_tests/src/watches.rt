@@ -1,15 +1,16 @@
 //! Watches over a registry that forgets.
 
+use crate::begun::call_of;
+use crate::same::same;
 use crate::streams::{Manner, Wire, filled, wire};
 use crate::turns::turn_once;
 use desk_core::{Catalogue, Desk, Entry, Keep, NotStored, Setting, Slot};
 use probe_core::Manual;
 use reactor::Fate;
-use std::alloc::{AllocError, Global};
+use std::alloc::Global;
 use std::ops::Range;
-use std::test::Fail;
+use std::process::Abort;
 use test_support::requests::WATCH_OF_EMPTY;
-use test_support::same;
 use web_call::{Call, DeskDoor, Outcome, Turn};
 
 /// The last sixteen: in tests much is soon forgotten.
@@ -41,20 +42,20 @@ struct Scene {
 
 impl Scene {
     /// The name is serving, and nothing is read yet.
-    fn new(alloc: Global) -> Result<Scene, Fail> {
+    fn new(rt: &impl Abort, alloc: Global) -> Scene {
         let mut names = Vec::new(alloc);
-        names.push(String::new(alloc))?;
+        names.push(String::new(alloc)).expect(rt, "memory");
         let mut scene = Scene {
             alloc,
-            catalogue: Catalogue::new(alloc, names)?,
+            catalogue: Catalogue::new(alloc, names).expect(rt, "a catalogue"),
             desk: Desk::new(alloc, 1_000),
-            call: Call::new(alloc)?,
+            call: call_of(rt, alloc),
         };
         if let Some(slot) = Slot::new(0) {
             let _ = scene.desk.register(0, slot, Manual::new());
         }
         scene.set(Setting::Up);
-        Ok(scene)
+        scene
     }
 
     fn set(&mut self, setting: Setting) {
@@ -70,8 +71,8 @@ impl Scene {
 }
 
 /// A Watch of the name, over a stream that gives and takes all.
-fn whole_watch(alloc: Global) -> Result<Wire<'static>, AllocError> {
-    wire(alloc, WATCH_OF_EMPTY, Manner::WHOLE, Manner::WHOLE)
+fn whole_watch(rt: &impl Abort, alloc: Global) -> Wire<'static> {
+    wire(rt, alloc, WATCH_OF_EMPTY, Manner::WHOLE, Manner::WHOLE)
 }
 
 /// What is set before a turn of an open Watch, what the turn may do, its fate, and how many messages were sent whole by then.
@@ -88,20 +89,21 @@ const STEPS: [Step; 6] = [
     (Setting::Down, Turn::End, Fate::Done, 4),
 ];
 
-fn expect_steps(scene: &mut Scene, link: &mut Wire<'_>) -> Result<(), Fail> {
+fn expect_steps(rt: &impl Abort, scene: &mut Scene, link: &mut Wire<'_>) {
     for (setting, then, fate, frames) in STEPS {
         scene.set(setting);
         let found = scene.turn(link, then);
-        same(&(found, scene.call.frames()), &(fate, frames), &frames)?;
+        same(rt, &(found, scene.call.frames()), &(fate, frames), &frames);
     }
     let expected = Some(Outcome::Watched { messages: 3 });
-    same(&scene.call.outcome(), &expected, &"the end")
+    same(rt, &scene.call.outcome(), &expected, &"the end");
 }
 
 #[test]
-fn a_watch_is_told_each_change_by_turns(rt: HostRuntime) -> Result<(), Fail> {
-    let mut link = whole_watch(rt.alloc())?;
-    expect_steps(&mut Scene::new(rt.alloc())?, &mut link)
+fn a_watch_is_told_each_change_by_turns(rt: HostRuntime) {
+    let mut link = whole_watch(&rt, rt.alloc());
+    let mut scene = Scene::new(&rt, rt.alloc());
+    expect_steps(&rt, &mut scene, &mut link);
 }
 
 /// The first three statuses, and the one that waited for its client, are told; the end is that of any Watch.
@@ -114,36 +116,34 @@ const TOLD: &[u8] = b"HTTP/1.1 200 OK\r\nconnection: close\r\n\
     2f\r\n\x80\0\0\0\x2agrpc-status:14\r\ngrpc-message:watch ended\r\n\r\n0\r\n\r\n";
 
 /// So many turns, each of which rests, and behind each of which the name is set the other way.
-fn rest(scene: &mut Scene, link: &mut Wire<'_>, turns: Range<u8>) -> Result<(), Fail> {
+fn rest(rt: &impl Abort, scene: &mut Scene, link: &mut Wire<'_>, turns: Range<u8>) {
     for number in turns {
-        same(&scene.turn(link, Turn::Look), &Fate::Rests, &number)?;
+        same(rt, &scene.turn(link, Turn::Look), &Fate::Rests, &number);
         scene.set(if number % 2 == 0 {
             Setting::Down
         } else {
             Setting::Up
         });
     }
-    Ok(())
 }
 
-fn expect_behind(scene: &mut Scene, link: Wire<'_>) -> Result<(), Fail> {
+fn expect_behind(rt: &impl Abort, scene: &mut Scene, link: Wire<'_>) {
     let mut link = link;
-    rest(scene, &mut link, 0..3)?;
+    rest(rt, scene, &mut link, 0..3);
     link = filled(link, true);
-    rest(scene, &mut link, 3..103)?;
+    rest(rt, scene, &mut link, 3..103);
     link = filled(link, false);
     let fate = scene.turn(&mut link, Turn::Look);
-    same(&fate, &Fate::Done, &"its end")?;
+    same(rt, &fate, &Fate::Done, &"its end");
     let expected = Some(Outcome::Behind { messages: 4 });
-    same(&scene.call.outcome(), &expected, &"the end")?;
+    same(rt, &scene.call.outcome(), &expected, &"the end");
     let told = link.stream().writer.taken.as_slice();
-    same(&told, &TOLD, &"what it was told")
+    same(rt, &told, &TOLD, &"what it was told");
 }
 
 #[test]
-fn a_watch_whose_client_takes_nothing_is_behind_once_it_takes_again(
-    rt: HostRuntime,
-) -> Result<(), Fail> {
-    let link = whole_watch(rt.alloc())?;
-    expect_behind(&mut Scene::new(rt.alloc())?, link)
+fn a_watch_whose_client_takes_nothing_is_behind_once_it_takes_again(rt: HostRuntime) {
+    let link = whole_watch(&rt, rt.alloc());
+    let mut scene = Scene::new(&rt, rt.alloc());
+    expect_behind(&rt, &mut scene, link);
 }

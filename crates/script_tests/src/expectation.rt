@@ -1,7 +1,8 @@
+use crate::same::same;
 use script::{Mode, Script, ScriptExpectation, ScriptFault, read_expectation, read_script};
-use std::alloc::{AllocError, Global};
-use std::test::Fail;
-use test_support::{Scarcity, same};
+use std::alloc::Global;
+use std::process::Abort;
+use test_support::Scarcity;
 
 /// Texts, and the name and the seconds of the expectation that each gives.
 const TEXTS: [(&str, Option<(&str, u32)>); 29] = [
@@ -37,13 +38,12 @@ const TEXTS: [(&str, Option<(&str, u32)>); 29] = [
 ];
 
 #[test]
-fn reads_a_name_and_up_to_86_400_seconds(rt: HostRuntime) -> Result<(), Fail> {
-    for (text, expected) in &TEXTS {
-        let found = read_expectation(rt.alloc(), *text)?;
+fn reads_a_name_and_up_to_86_400_seconds(rt: HostRuntime) {
+    for (text, expected) in TEXTS {
+        let found = read_expectation(rt.alloc(), text).expect(&rt, "memory");
         let found = found.as_ref().map(|one| (one.name.as_str(), one.seconds));
-        same(&found, expected, text)?;
+        same(&rt, &found, &expected, &text);
     }
-    Ok(())
 }
 
 /// What a script says of an expectation: the number of its line, how many lines stand before it, its
@@ -73,28 +73,26 @@ fn said_by(one: &ScriptExpectation) -> Said<'_> {
     (one.number, one.behind, name, one.expectation.seconds)
 }
 
-fn expect_said(script: &Script, said: &[Said<'_>], text: &str) -> Result<(), Fail> {
-    same(&script.expectations().len(), &said.len(), &text)?;
+fn expect_said(rt: &impl Abort, script: &Script, said: &[Said<'_>], text: &str) {
+    same(rt, &script.expectations().len(), &said.len(), &text);
     for (index, one) in said.iter().enumerate() {
         let found = script.expectations().get(index).map(said_by);
-        same(&found, &Some(*one), &text)?;
+        same(rt, &found, &Some(*one), &text);
     }
-    Ok(())
 }
 
-fn expect_numbers(script: &Script, numbers: &[u32], text: &str) -> Result<(), Fail> {
-    same(&script.lines().len(), &numbers.len(), &text)?;
-    same(&script.numbers(), &numbers, &text)
+fn expect_numbers(rt: &impl Abort, script: &Script, numbers: &[u32], text: &str) {
+    same(rt, &script.lines().len(), &numbers.len(), &text);
+    same(rt, &script.numbers(), &numbers, &text);
 }
 
 #[test]
-fn keeps_expectations_apart_from_the_lines(rt: HostRuntime) -> Result<(), Fail> {
-    for (text, numbers, said) in &SCRIPTS {
-        let script = read_script(rt.alloc(), text.as_bytes(), Mode::Run)?;
-        expect_numbers(&script, *numbers, *text)?;
-        expect_said(&script, *said, *text)?;
+fn keeps_expectations_apart_from_the_lines(rt: HostRuntime) {
+    for (text, numbers, said) in SCRIPTS {
+        let script = read_script(rt.alloc(), text.as_bytes(), Mode::Run).expect(&rt, "a script");
+        expect_numbers(&rt, &script, numbers, text);
+        expect_said(&rt, &script, said, text);
     }
-    Ok(())
 }
 
 /// Scripts that are none, by the number of the line that is bad.
@@ -114,42 +112,46 @@ const BAD: [(Mode, &str, u32); 12] = [
 ];
 
 #[test]
-fn refuses_a_bad_expectation_and_any_in_other_modes(rt: HostRuntime) -> Result<(), Fail> {
-    for (mode, text, number) in &BAD {
-        let fault = read_script(rt.alloc(), text.as_bytes(), *mode).err();
-        same(&fault, &Some(ScriptFault::BadLine(*number)), text)?;
+fn refuses_a_bad_expectation_and_any_in_other_modes(rt: HostRuntime) {
+    for (mode, text, number) in BAD {
+        let fault = read_script(rt.alloc(), text.as_bytes(), mode).err();
+        same(&rt, &fault, &Some(ScriptFault::BadLine(number)), &text);
     }
-    Ok(())
 }
 
-/// Whether there is memory to read the first of the scripts.
-fn is_read(alloc: Global) -> Result<bool, Fail> {
+/// Whether there was memory to read the first of the scripts.
+fn is_read(rt: &impl Abort, read: &Result<Script, ScriptFault>) -> bool {
     let (text, _, said) = SCRIPTS[0];
-    match read_script(alloc, text.as_bytes(), Mode::Run) {
+    match read {
         Ok(script) => {
-            expect_said(&script, said, text)?;
-            Ok(true)
+            expect_said(rt, script, said, text);
+            true
         }
         Err(fault) => {
-            same(&fault, &ScriptFault::NoMemory, &text)?;
-            Ok(false)
+            same(rt, fault, &ScriptFault::NoMemory, &text);
+            false
         }
     }
 }
 
 #[test]
-fn refuses_each_growth_of_a_script_that_expects(rt: HostRuntime) -> Result<(), Fail> {
-    let scarcity = Scarcity::with_small_room(rt.alloc())?;
+fn refuses_each_growth_of_a_script_that_expects(rt: HostRuntime) {
+    let (text, _, _) = SCRIPTS[0];
+    let scarcity = Scarcity::with_small_room(rt.alloc()).expect(&rt, "a room");
     let (mut refused, mut whole) = (0u32, 0u32);
     for steps in 0..512usize {
-        let filler = scarcity.leave_steps(steps)?;
-        if is_read(rt.alloc())? {
+        let filler = scarcity.leave_steps(steps).expect(&rt, "a room");
+        let read = read_script(rt.alloc(), text.as_bytes(), Mode::Run);
+        drop(filler);
+        if is_read(&rt, &read) {
             whole = whole.wrapping_add(1);
         } else {
             refused = refused.wrapping_add(1);
         }
-        drop(filler);
     }
     drop(scarcity);
-    same(&(refused > 3, whole > 0), &(true, true), &"refused, whole")
+    assert!(rt;
+        refused > 3 && whole > 0,
+        "{refused} refused, {whole} whole"
+    );
 }

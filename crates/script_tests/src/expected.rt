@@ -1,8 +1,8 @@
+use crate::same::same;
 use desk_core::{Refusal, Reply};
 use script::{Expected, Mode, RefusedExpectation, expected_of, read_script};
-use std::alloc::{AllocError, Global};
-use std::test::Fail;
-use test_support::same;
+use std::alloc::Global;
+use std::process::Abort;
 
 /// What comes of the expectations of a script: the slots with their seconds, or the number of the
 /// first line that does not stand, and its answer.
@@ -102,41 +102,43 @@ const SCRIPTS: [(&str, Found); 28] = [
     ),
 ];
 
-fn joined(alloc: Global, opening: &str, body: &str) -> Result<String, AllocError> {
-    let mut text = String::from_str(alloc, opening)?;
-    text.push_str(body)?;
-    Ok(text)
+fn joined(rt: &impl Abort, alloc: Global, opening: &str, body: &str) -> String {
+    let mut text = String::from_str(alloc, opening).expect(rt, "memory");
+    text.push_str(body).expect(rt, "memory");
+    text
 }
 
-fn expect_slots(found: &[Expected], slots: &[(u8, u32)], text: &str) -> Result<(), Fail> {
-    same(&found.len(), &slots.len(), &text)?;
+fn expect_slots(rt: &impl Abort, found: &[Expected], slots: &[(u8, u32)], text: &str) {
+    same(rt, &found.len(), &slots.len(), &text);
     for (index, one) in slots.iter().enumerate() {
         let found = found.get(index);
         let found = found.map(|one| (one.slot.number(), one.seconds));
-        same(&found, &Some(*one), &text)?;
+        same(rt, &found, &Some(*one), &text);
     }
-    Ok(())
 }
 
 fn expect_found(
+    rt: &impl Abort,
     found: &Result<Vec<Expected>, RefusedExpectation>,
-    wanted: &Found,
+    wanted: Found,
     text: &str,
-) -> Result<(), Fail> {
+) {
     match (found, wanted) {
-        (Ok(expected), Ok(slots)) => expect_slots(expected, *slots, text),
-        (Err(refused), Err(answer)) => { same(&(refused.number, refused.answer), answer, &text) }
-        _ => same(&found.is_ok(), &wanted.is_ok(), &text),
+        (Ok(expected), Ok(slots)) => expect_slots(rt, expected, slots, text),
+        (Err(refused), Err(answer)) => {
+            same(rt, &(refused.number, refused.answer), &answer, &text)
+        }
+        _ => same(rt, &found.is_ok(), &wanted.is_ok(), &text),
     }
 }
 
 #[test]
-fn expects_what_stands_behind_the_last_line(rt: HostRuntime) -> Result<(), Fail> {
-    for (body, wanted) in &SCRIPTS {
-        let text = joined(rt.alloc(), "catalogue a b -\n", *body)?;
-        let script = read_script(rt.alloc(), text.as_bytes(), Mode::Run)?;
-        let found = expected_of(rt.alloc(), &script)?;
-        expect_found(&found, wanted, *body)?;
+fn expects_what_stands_behind_the_last_line(rt: HostRuntime) {
+    let alloc = rt.alloc();
+    for (body, wanted) in SCRIPTS {
+        let text = joined(&rt, alloc, "catalogue a b -\n", body);
+        let script = read_script(alloc, text.as_bytes(), Mode::Run).expect(&rt, "a script");
+        let found = expected_of(alloc, &script).expect(&rt, "memory");
+        expect_found(&rt, &found, wanted, body);
     }
-    Ok(())
 }

@@ -1,8 +1,9 @@
+use crate::same::same;
 use desk_core::CatalogueFault;
 use script::{Mode, ScriptFault, explain, read_script};
-use std::alloc::{AllocError, Global};
-use std::test::Fail;
-use test_support::{Scarcity, same};
+use std::alloc::Global;
+use std::process::Abort;
+use test_support::Scarcity;
 
 /// Scripts to run that are none, and what is said of them.
 const EXPLAINED: [(&str, &str); 66] = [
@@ -290,21 +291,18 @@ const EXPLAINED: [(&str, &str); 66] = [
 ];
 
 /// What is said of a text that is no script to run.
-fn explained(alloc: Global, text: &str) -> Result<Option<String>, AllocError> {
-    match read_script(alloc, text.as_bytes(), Mode::Run) {
-        Ok(_) => Ok(None),
-        Err(fault) => Ok(Some(explain(alloc, text.as_bytes(), fault)?)),
-    }
+fn explained(rt: &impl Abort, alloc: Global, text: &str) -> Option<String> {
+    let fault = read_script(alloc, text.as_bytes(), Mode::Run).err()?;
+    Some(explain(alloc, text.as_bytes(), fault).expect(rt, "memory"))
 }
 
 #[test]
-fn tells_a_bad_line_with_its_text_and_what_was_expected(rt: HostRuntime) -> Result<(), Fail> {
-    for (text, expected) in &EXPLAINED {
-        let found = explained(rt.alloc(), *text)?;
+fn tells_a_bad_line_with_its_text_and_what_was_expected(rt: HostRuntime) {
+    for (text, expected) in EXPLAINED {
+        let found = explained(&rt, rt.alloc(), text);
         let found = found.as_ref().map(|text| text.as_str());
-        same(&found, &Some(*expected), text)?;
+        same(&rt, &found, &Some(expected), &text);
     }
-    Ok(())
 }
 
 /// Faults that are none of the text's own, and what is said then.
@@ -352,21 +350,20 @@ const ELSEWHERE: [(&[u8], ScriptFault, &str); 10] = [
 ];
 
 #[test]
-fn tells_only_what_it_finds(rt: HostRuntime) -> Result<(), Fail> {
-    for (bytes, fault, expected) in &ELSEWHERE {
-        let found = explain(rt.alloc(), *bytes, *fault)?;
-        same(&found.as_str(), expected, bytes)?;
+fn tells_only_what_it_finds(rt: HostRuntime) {
+    for (bytes, fault, expected) in ELSEWHERE {
+        let found = explain(rt.alloc(), bytes, fault).expect(&rt, "memory");
+        same(&rt, &found.as_str(), &expected, &bytes);
     }
-    Ok(())
 }
 
 #[test]
-fn refuses_each_growth_of_a_message(rt: HostRuntime) -> Result<(), Fail> {
+fn refuses_each_growth_of_a_message(rt: HostRuntime) {
     let text = "catalogue db -\nregister db treshold 2";
-    let scarcity = Scarcity::with_small_room(rt.alloc())?;
+    let scarcity = Scarcity::with_small_room(rt.alloc()).expect(&rt, "a room");
     let (mut refused, mut whole) = (0u32, 0u32);
     for steps in 0..512usize {
-        let filler = scarcity.leave_steps(steps)?;
+        let filler = scarcity.leave_steps(steps).expect(&rt, "a room");
         match explain(rt.alloc(), text.as_bytes(), ScriptFault::BadLine(2)) {
             Ok(_) => whole = whole.wrapping_add(1),
             Err(_) => refused = refused.wrapping_add(1),
@@ -374,5 +371,8 @@ fn refuses_each_growth_of_a_message(rt: HostRuntime) -> Result<(), Fail> {
         drop(filler);
     }
     drop(scarcity);
-    same(&(refused > 3, whole > 0), &(true, true), &"refused, whole")
+    assert!(rt;
+        refused > 3 && whole > 0,
+        "{refused} refused, {whole} whole"
+    );
 }

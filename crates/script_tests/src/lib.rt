@@ -12,4 +12,6 @@ mod reading;
 #[cfg(test)]
 mod replay;
 #[cfg(test)]
+mod same;
+#[cfg(test)]
 mod setup;

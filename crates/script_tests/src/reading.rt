@@ -1,9 +1,10 @@
+use crate::same::same;
 use desk_core::{CatalogueFault, Finding, Order, Setting};
 use probe_core::{Rule, Start};
 use script::{Line, Mode, Script, ScriptFault, read_script};
-use std::alloc::{AllocError, Global};
-use std::test::Fail;
-use test_support::{Scarcity, same};
+use std::alloc::Global;
+use std::process::Abort;
+use test_support::Scarcity;
 
 /// What a line says, with its names as texts.
 #[derive(Clone, Copy, Debug, PartialEq)]
@@ -325,80 +326,89 @@ static OTHERS: [Read; 20] = [
     },
 ];
 
-fn expect_lines(script: &Script, read: &Read) -> Result<(), Fail> {
-    same(&script.lines().len(), &read.lines.len(), &read.text)?;
+fn expect_lines(rt: &impl Abort, script: &Script, read: &Read) {
+    let text = read.text;
+    same(rt, &script.lines().len(), &read.lines.len(), &text);
     for (index, (number, said)) in read.lines.iter().enumerate() {
         let found = script.lines().get(index).map(said_by);
-        same(&found, &Some(*said), &read.text)?;
-        same(&script.numbers().get(index), &Some(number), &read.text)?;
+        same(rt, &found, &Some(*said), &text);
+        same(rt, &script.numbers().get(index), &Some(number), &text);
     }
-    Ok(())
 }
 
-fn expect_orders(script: &Script, read: &Read) -> Result<(), Fail> {
-    same(&script.orders().len(), &read.orders.len(), &read.text)?;
+fn expect_orders(rt: &impl Abort, script: &Script, read: &Read) {
+    let text = read.text;
+    same(rt, &script.orders().len(), &read.orders.len(), &text);
     for (index, said) in read.orders.iter().enumerate() {
         let found = script.orders().get(index).map(said_by_order);
-        same(&found, &Some(*said), &read.text)?;
+        same(rt, &found, &Some(*said), &text);
     }
-    Ok(())
 }
 
-fn expect_parts(script: &Script, read: &Read) -> Result<(), Fail> {
+fn expect_parts(rt: &impl Abort, script: &Script, read: &Read) {
     let sizes = (script.catalogue().len(), script.max());
-    same(&sizes, &read.sizes, &read.text)?;
-    expect_lines(script, read)?;
-    expect_orders(script, read)
+    same(rt, &sizes, &read.sizes, &read.text);
+    expect_lines(rt, script, read);
+    expect_orders(rt, script, read);
 }
 
-/// Whether there is memory to read the text.
-fn is_read(alloc: Global, read: &Read) -> Result<bool, Fail> {
-    match read_script(alloc, read.text.as_bytes(), read.mode) {
+/// Whether there was memory to read the text.
+fn is_read(rt: &impl Abort, found: &Result<Script, ScriptFault>, read: &Read) -> bool {
+    match found {
         Ok(script) => {
-            expect_parts(&script, read)?;
-            Ok(true)
+            expect_parts(rt, script, read);
+            true
         }
         Err(fault) => {
-            same(&fault, &ScriptFault::NoMemory, &read.text)?;
-            Ok(false)
+            same(rt, fault, &ScriptFault::NoMemory, &read.text);
+            false
         }
     }
 }
 
-#[test]
-fn reads_each_form_of_a_line(rt: HostRuntime) -> Result<(), Fail> {
-    same(&is_read(rt.alloc(), &FORMS)?, &true, &FORMS.text)
+fn read_in(alloc: Global, read: &Read) -> Result<Script, ScriptFault> {
+    read_script(alloc, read.text.as_bytes(), read.mode)
 }
 
 #[test]
-fn reads_scripts_of_each_mode(rt: HostRuntime) -> Result<(), Fail> {
+fn reads_each_form_of_a_line(rt: HostRuntime) {
+    let found = read_in(rt.alloc(), &FORMS);
+    assert!(rt; is_read(&rt, &found, &FORMS), "{:?}", FORMS.text);
+}
+
+#[test]
+fn reads_scripts_of_each_mode(rt: HostRuntime) {
     for read in &OTHERS {
-        same(&is_read(rt.alloc(), read)?, &true, &read.text)?;
+        let found = read_in(rt.alloc(), read);
+        assert!(rt; is_read(&rt, &found, read), "{:?}", read.text);
     }
-    Ok(())
 }
 
 /// A script is read whole, or memory runs out.
-fn expect_each_growth(alloc: Global, read: &Read) -> Result<(), Fail> {
-    let scarcity = Scarcity::with_small_room(alloc)?;
+fn expect_each_growth(rt: &impl Abort, alloc: Global, read: &Read) {
+    let scarcity = Scarcity::with_small_room(alloc).expect(rt, "a room");
     let (mut refused, mut whole) = (0u32, 0u32);
     for steps in 0..512usize {
-        let filler = scarcity.leave_steps(steps)?;
-        if is_read(alloc, read)? {
+        let filler = scarcity.leave_steps(steps).expect(rt, "a room");
+        let found = read_in(alloc, read);
+        drop(filler);
+        if is_read(rt, &found, read) {
             whole = whole.wrapping_add(1);
         } else {
             refused = refused.wrapping_add(1);
         }
-        drop(filler);
     }
     drop(scarcity);
-    same(&(refused > 3, whole > 0), &(true, true), &"refused, whole")
+    assert!(rt;
+        refused > 3 && whole > 0,
+        "{refused} refused, {whole} whole"
+    );
 }
 
 #[test]
-fn refuses_each_growth(rt: HostRuntime) -> Result<(), Fail> {
-    expect_each_growth(rt.alloc(), &SERVED)?;
-    expect_each_growth(rt.alloc(), &RUN)
+fn refuses_each_growth(rt: HostRuntime) {
+    expect_each_growth(&rt, rt.alloc(), &SERVED);
+    expect_each_growth(&rt, rt.alloc(), &RUN);
 }
 
 /// What is bad as the fourth line of a script to replay, behind an opened watch.
@@ -499,36 +509,31 @@ const BAD_BEHIND_CATALOGUE: [(&str, u32); 9] = [
     ("\nup a\ngo", 4),
 ];
 
-fn joined(alloc: Global, opening: &str, body: &str) -> Result<String, AllocError> {
-    let mut text = String::from_str(alloc, opening)?;
-    text.push_str(body)?;
-    Ok(text)
+fn joined(rt: &impl Abort, alloc: Global, opening: &str, body: &str) -> String {
+    let mut text = String::from_str(alloc, opening).expect(rt, "memory");
+    text.push_str(body).expect(rt, "memory");
+    text
 }
 
-fn expect_bad(
-    alloc: Global,
-    mode: Mode,
-    opening: &str,
-    bodies: &[(&str, u32)],
-) -> Result<(), Fail> {
+fn expect_bad<R: Abort>(rt: &R, alloc: Global, mode: Mode, opening: &str, bodies: &[(&str, u32)]) {
     for (body, number) in bodies {
-        let text = joined(alloc, opening, *body)?;
+        let text = joined(rt, alloc, opening, *body);
         let fault = read_script(alloc, text.as_bytes(), mode).err();
-        same(&fault, &Some(ScriptFault::BadLine(*number)), body)?;
+        same(rt, &fault, &Some(ScriptFault::BadLine(*number)), &body);
     }
-    Ok(())
 }
 
 #[test]
-fn refuses_each_bad_line(rt: HostRuntime) -> Result<(), Fail> {
+fn refuses_each_bad_line(rt: HostRuntime) {
     let alloc = rt.alloc();
     let opening = "catalogue a b -\nmax 100\nopen a\n";
-    expect_bad(alloc, Mode::Replay, opening, &BAD_TO_REPLAY)?;
+    expect_bad(&rt, alloc, Mode::Replay, opening, &BAD_TO_REPLAY);
     let opening = "catalogue a -\nmax 9\n";
-    expect_bad(alloc, Mode::Serve, opening, &BAD_TO_SERVE)?;
+    expect_bad(&rt, alloc, Mode::Serve, opening, &BAD_TO_SERVE);
     let opening = "catalogue a -\r\n# the most\nmax 9\n";
-    expect_bad(alloc, Mode::Run, opening, &BAD_TO_RUN)?;
-    expect_bad(alloc, Mode::Run, "catalogue a -\n", &BAD_BEHIND_CATALOGUE)
+    expect_bad(&rt, alloc, Mode::Run, opening, &BAD_TO_RUN);
+    let opening = "catalogue a -\n";
+    expect_bad(&rt, alloc, Mode::Run, opening, &BAD_BEHIND_CATALOGUE);
 }
 
 /// Openings, and the fault of a script that goes no further, in each mode.
@@ -613,36 +618,31 @@ const ELSEWHERE: [(&str, ScriptFault); 10] = [
     ),
 ];
 
-fn expect_faults(alloc: Global, mode: Mode, texts: &[(&str, ScriptFault)]) -> Result<(), Fail> {
+fn expect_faults<R: Abort>(rt: &R, alloc: Global, mode: Mode, texts: &[(&str, ScriptFault)]) {
     for (text, fault) in texts {
         let found = read_script(alloc, text.as_bytes(), mode).err();
-        same(&found, &Some(*fault), text)?;
+        same(rt, &found, &Some(*fault), &text);
     }
-    Ok(())
 }
 
 #[test]
-fn refuses_a_bad_opening(rt: HostRuntime) -> Result<(), Fail> {
+fn refuses_a_bad_opening(rt: HostRuntime) {
     let alloc = rt.alloc();
     for mode in [Mode::Replay, Mode::Serve, Mode::Run] {
-        expect_faults(alloc, mode, &OPENINGS)?;
+        expect_faults(&rt, alloc, mode, &OPENINGS);
     }
-    expect_faults(alloc, Mode::Run, &OPENINGS_TO_RUN)
+    expect_faults(&rt, alloc, Mode::Run, &OPENINGS_TO_RUN);
 }
 
 #[test]
-fn has_comments_carriage_returns_and_no_max_only_to_run(rt: HostRuntime) -> Result<(), Fail> {
+fn has_comments_carriage_returns_and_no_max_only_to_run(rt: HostRuntime) {
     let alloc = rt.alloc();
-    expect_faults(alloc, Mode::Replay, &ELSEWHERE)?;
-    expect_faults(alloc, Mode::Serve, &ELSEWHERE)?;
-    for (text, _) in &ELSEWHERE {
-        same(
-            &read_script(alloc, text.as_bytes(), Mode::Run).err(),
-            &None,
-            text,
-        )?;
+    expect_faults(&rt, alloc, Mode::Replay, &ELSEWHERE);
+    expect_faults(&rt, alloc, Mode::Serve, &ELSEWHERE);
+    for (text, _) in ELSEWHERE {
+        let found = read_script(alloc, text.as_bytes(), Mode::Run).err();
+        same(&rt, &found, &None, &text);
     }
-    Ok(())
 }
 
 /// The largest texts, filled up with this byte, and their fault. With one byte more each is too long.
@@ -654,21 +654,21 @@ const LARGEST: [(Mode, &[u8], u8, Option<ScriptFault>); 4] = [
 ];
 
 /// The bytes and then so many times one byte that there are 65,536 in all.
-fn filled(alloc: Global, front: &[u8], byte: u8) -> Result<Vec<u8>, AllocError> {
-    let mut bytes = Vec::from_slice(alloc, front)?;
-    bytes.resize(65_536, byte)?;
-    Ok(bytes)
+fn filled(rt: &impl Abort, alloc: Global, front: &[u8], byte: u8) -> Vec<u8> {
+    let mut bytes = Vec::from_slice(alloc, front).expect(rt, "memory");
+    bytes.resize(65_536, byte).expect(rt, "memory");
+    bytes
 }
 
 #[test]
-fn takes_65_536_bytes_of_text_and_no_more(rt: HostRuntime) -> Result<(), Fail> {
+fn takes_65_536_bytes_of_text_and_no_more(rt: HostRuntime) {
     let alloc = rt.alloc();
     for (mode, front, byte, fault) in LARGEST {
-        let mut bytes = filled(alloc, front, byte)?;
-        same(&read_script(alloc, &bytes, mode).err(), &fault, &front)?;
-        bytes.push(byte)?;
-        let fault = Some(ScriptFault::TooLong);
-        same(&read_script(alloc, &bytes, mode).err(), &fault, &front)?;
+        let mut bytes = filled(&rt, alloc, front, byte);
+        let found = read_script(alloc, &bytes, mode).err();
+        same(&rt, &found, &fault, &front);
+        bytes.push(byte).expect(&rt, "memory");
+        let found = read_script(alloc, &bytes, mode).err();
+        same(&rt, &found, &Some(ScriptFault::TooLong), &front);
     }
-    Ok(())
 }

@@ -2,11 +2,12 @@ ghost use Rattle.std.specs.Prelude.{IfOk};
 ghost use Rattle.probe_core.specs.Made.{IsAsked};
 ghost use Rattle.script.specs.Run.{IsScriptRun};
 
+use crate::same::same;
 use probe_core::{Depends, FnMaker, Manual, Probe, ProbeFn, Rule, Threshold};
 use script::{Mode, Script, read_script, run_script};
 use std::alloc::{AllocError, Global};
-use std::test::Fail;
-use test_support::{Scarcity, same};
+use std::process::Abort;
+use test_support::Scarcity;
 
 /// The first two lines of a script, and its others with what each prints.
 type Run = (&'static str, &'static [(&'static str, &'static str)]);
@@ -195,19 +196,20 @@ static RUNS: [Run; 10] = [
 
 /// The script that the lines make, and what a run of it is to print.
 fn texts_of(
+    rt: &impl Abort,
     alloc: Global,
     opening: &str,
     lines: &[(&str, &str)],
-) -> Result<(String, String), AllocError> {
-    let mut text = String::from_str(alloc, opening)?;
+) -> (String, String) {
+    let mut text = String::from_str(alloc, opening).expect(rt, "memory");
     let mut output = String::new(alloc);
     for (line, printed) in lines {
-        text.push_str(line)?;
-        text.push('\n')?;
-        output.push_str(printed)?;
-        output.push('\n')?;
+        text.push_str(line).expect(rt, "memory");
+        text.push('\n').expect(rt, "memory");
+        output.push_str(printed).expect(rt, "memory");
+        output.push('\n').expect(rt, "memory");
     }
-    Ok((text, output))
+    (text, output)
 }
 
 /// What a run prints, with the probes that the closure makes.
@@ -243,81 +245,89 @@ fn printed(alloc: Global, script: Script) -> Result<Vec<u8>, AllocError>
     printed_by(alloc, script, make)
 }
 
-fn expect_run(alloc: Global, opening: &str, lines: &[(&str, &str)]) -> Result<(), Fail> {
-    let (text, expected) = texts_of(alloc, opening, lines)?;
-    let script = read_script(alloc, text.as_bytes(), Mode::Replay)?;
-    let output = printed(alloc, script)?;
-    same(&output.as_slice(), &expected.as_bytes(), &opening)
+fn expect_run(rt: &impl Abort, alloc: Global, opening: &str, lines: &[(&str, &str)]) {
+    let (text, expected) = texts_of(rt, alloc, opening, lines);
+    let script = read_script(alloc, text.as_bytes(), Mode::Replay).expect(rt, "a script");
+    let output = printed(alloc, script).expect(rt, "memory");
+    same(rt, &output.as_slice(), &expected.as_bytes(), &text);
 }
 
 /// An answer of `NoMemory` in place of every output meets the contract of `run_script`, as of each call that takes memory:
 /// `always_out_of_memory` is refused here.
 #[test]
-fn prints_what_each_line_comes_to(rt: HostRuntime) -> Result<(), Fail> {
+fn prints_what_each_line_comes_to(rt: HostRuntime) {
     for (opening, lines) in &RUNS {
-        expect_run(rt.alloc(), *opening, *lines)?;
+        expect_run(&rt, rt.alloc(), *opening, *lines);
     }
-    Ok(())
 }
 
 /// How many runs there are, each with 16 bytes more room than the last.
 const STEPS: usize = 512;
 
 /// The script so many times, since a run takes its own.
-fn copies(alloc: Global, text: &str) -> Result<Vec<Script>, Fail> {
-    let mut scripts = Vec::with_capacity(alloc, STEPS)?;
+fn copies(rt: &impl Abort, alloc: Global, text: &str) -> Vec<Script> {
+    let mut scripts = Vec::with_capacity(alloc, STEPS).expect(rt, "memory");
     for _ in 0..STEPS {
-        scripts.push(read_script(alloc, text.as_bytes(), Mode::Replay)?)?;
+        let script = read_script(alloc, text.as_bytes(), Mode::Replay).expect(rt, "a script");
+        scripts.push(script).expect(rt, "memory");
     }
-    Ok(scripts)
+    scripts
 }
 
-/// Which of the outputs a run prints, if there is memory to print one.
-fn row_of(alloc: Global, script: Script, outputs: &[&str]) -> Result<Option<usize>, Fail> {
-    let Ok(output) = printed(alloc, script) else {
-        return Ok(None);
-    };
+/// Which of the outputs this is that a run printed, if there was memory to print one.
+fn row_of<R: Abort>(
+    rt: &R,
+    output: Result<Vec<u8>, AllocError>,
+    outputs: &[&str],
+) -> Option<usize> {
+    let output = output.ok()?;
     let row = outputs
         .iter()
         .position(|text| text.as_bytes() == output.as_slice());
-    same(&row.is_some(), &true, &"one of the outputs")?;
-    Ok(row)
+    assert!(rt; row.is_some(), "one of the outputs");
+    row
 }
 
 /// With more and more memory a run prints nothing at first, and then each of these.
-fn expect_ends(alloc: Global, text: &str, outputs: &[&str]) -> Result<(), Fail> {
-    let mut scripts = copies(alloc, text)?;
-    let mut ends = Vec::with_capacity(alloc, 8)?;
-    let scarcity = Scarcity::with_small_room(alloc)?;
+fn expect_ends(rt: &impl Abort, alloc: Global, text: &str, outputs: &[&str]) {
+    let mut scripts = copies(rt, alloc, text);
+    let mut ends = Vec::with_capacity(alloc, 8).expect(rt, "memory");
+    let scarcity = Scarcity::with_small_room(alloc).expect(rt, "a room");
     for steps in 0..STEPS {
         let Some(script) = scripts.pop() else {
             break;
         };
-        let filler = scarcity.leave_steps(steps)?;
-        let row = row_of(alloc, script, outputs)?;
+        let filler = scarcity.leave_steps(steps).expect(rt, "a room");
+        let output = printed(alloc, script);
         drop(filler);
+        let row = row_of(rt, output, outputs);
         if !ends.contains(&row) {
-            ends.push(row)?;
+            ends.push(row).expect(rt, "memory");
         }
     }
     drop(scarcity);
     let seen = ends.iter().flatten().count();
-    same(&(ends.first(), seen), &(Some(&None), outputs.len()), &text)
+    same(
+        rt,
+        &(ends.first(), seen),
+        &(Some(&None), outputs.len()),
+        &text,
+    );
 }
 
 /// A registration that is refused out of memory leaves nothing, and the run goes on.
 #[test]
-fn goes_on_after_each_refused_change(rt: HostRuntime) -> Result<(), Fail> {
+fn goes_on_after_each_refused_change(rt: HostRuntime) {
     let text = "catalogue a -\nmax 100\nregister a manual\ncheck a\n";
     let refused = "refused no memory\nnot found\n";
-    expect_ends(rt.alloc(), text, &[refused, "done\nserving\n"])
+    expect_ends(&rt, rt.alloc(), text, &[refused, "done\nserving\n"]);
 }
 
 /// The fifth watch needs room that the first four don't.
 #[test]
-fn ends_where_a_watch_finds_no_memory(rt: HostRuntime) -> Result<(), Fail> {
+fn ends_where_a_watch_finds_no_memory(rt: HostRuntime) {
     let text = "catalogue a -\nmax 9\nopen a\nopen a\nopen a\nopen a\nopen a\nstep 4\n";
     let whole = "watch 0 service unknown\nwatch 1 service unknown\nwatch 2 service unknown\n\
         watch 3 service unknown\nwatch 4 service unknown\nnone\n";
-    expect_ends(rt.alloc(), text, &[whole])
+    expect_ends(&rt, rt.alloc(), text, &[whole]);
 }

@@ -1,9 +1,10 @@
+use crate::same::same;
 use desk_core::{Call, Catalogue, Desk, Effect, Refusal, Registrar, Reply};
 use probe_core::{Maker, Manual, Probe, Rule};
-use script::{Mode, read_script, set_up};
+use script::{Line, Mode, read_script, set_up};
 use std::alloc::{AllocError, Global};
-use std::test::Fail;
-use test_support::{Scarcity, same};
+use std::process::Abort;
+use test_support::Scarcity;
 
 /// A registry of one thread.
 #[derive(Drop)]
@@ -63,6 +64,14 @@ impl Maker<Manual> for Manuals {
 const TEXT: &[u8] = b"catalogue a b -\nmax 4\nregister a manual\ncheck a\ndown a\ndown zz\n\
     retire b\nopen a\npass a\nup a\nboard\nretire zz\n";
 
+/// A registry as a script opens it, and the lines of the script.
+fn registry_of<R: Abort>(rt: &R, alloc: Global, text: &[u8]) -> (Registry<Manual>, Vec<Line>) {
+    let script = read_script(alloc, text, Mode::Replay).expect(rt, "a script");
+    let (catalogue, max, lines, _) = script.into_parts();
+    let desk = Desk::new(alloc, max);
+    (Registry { catalogue, desk }, lines)
+}
+
 /// What comes of the lines that ask for a change.
 const RESULTS: [Result<Reply, Refusal>; 7] = [
     Ok(Reply::Done),
@@ -75,59 +84,56 @@ const RESULTS: [Result<Reply, Refusal>; 7] = [
 ];
 
 #[test]
-fn makes_the_change_of_each_line(rt: HostRuntime) -> Result<(), Fail> {
+fn makes_the_change_of_each_line(rt: HostRuntime) {
     let alloc = rt.alloc();
-    let (catalogue, max, lines, _) = read_script(alloc, TEXT, Mode::Replay)?.into_parts();
-    let desk = Desk::new(alloc, max);
-    let mut registry = Registry { catalogue, desk };
-    let results = set_up(alloc, &mut registry, &lines, &Manuals)?;
-    same(&results.as_slice(), &RESULTS.as_slice(), &TEXT)
+    let (mut registry, lines) = registry_of(&rt, alloc, TEXT);
+    let results = set_up(alloc, &mut registry, &lines, &Manuals).expect(&rt, "memory");
+    same(&rt, &results.as_slice(), &RESULTS.as_slice(), &"found");
 }
 
 /// Lines that register one service, by hand.
 const THREE: &[u8] = b"catalogue a -\nmax 4\nregister a manual\nshutdown\nretire a\n";
 
 /// How many of the results are replies. The others were refused out of memory.
-fn replies(results: &[Result<Reply, Refusal>]) -> Result<u64, Fail> {
+fn replies(rt: &impl Abort, results: &[Result<Reply, Refusal>]) -> u64 {
     let mut replies = 0u64;
     for result in results {
         match result {
             Ok(_) => replies = replies.wrapping_add(1),
-            Err(refusal) => same(refusal, &Refusal::NoMemory, &"refusal")?,
+            Err(refusal) => same(rt, refusal, &Refusal::NoMemory, &"found"),
         }
     }
-    Ok(replies)
+    replies
 }
 
 /// How many changes the lines make with so many steps of memory left, if there is room for their results.
-fn made_in(alloc: Global, steps: usize) -> Result<Option<u64>, Fail> {
-    let (catalogue, max, lines, _) = read_script(alloc, THREE, Mode::Replay)?.into_parts();
-    let desk = Desk::new(alloc, max);
-    let mut registry = Registry { catalogue, desk };
-    let scarcity = Scarcity::with_small_room(alloc)?;
-    let filler = scarcity.leave_steps(steps)?;
+fn made_in(rt: &impl Abort, alloc: Global, steps: usize) -> Option<u64> {
+    let (mut registry, lines) = registry_of(rt, alloc, THREE);
+    let scarcity = Scarcity::with_small_room(alloc).expect(rt, "a room");
+    let filler = scarcity.leave_steps(steps).expect(rt, "a room");
     let results = set_up(alloc, &mut registry, &lines, &Manuals).ok();
     drop(filler);
     drop(scarcity);
     let entries = registry.desk.board() >> 32;
     let Some(results) = results else {
-        same(&entries, &0, &steps)?;
-        return Ok(None);
+        same(rt, &entries, &0, &steps);
+        return None;
     };
-    same(&(results.len(), replies(&results)?), &(3, entries), &steps)?;
-    Ok(Some(entries))
+    let made = replies(rt, &results);
+    same(rt, &(results.len(), made), &(3, entries), &steps);
+    Some(entries)
 }
 
 #[test]
-fn goes_on_behind_each_growth_that_is_refused(rt: HostRuntime) -> Result<(), Fail> {
+fn goes_on_behind_each_growth_that_is_refused(rt: HostRuntime) {
     let (mut none, mut fewer, mut all) = (0u32, 0u32, 0u32);
     for steps in 0..128usize {
-        match made_in(rt.alloc(), steps)? {
+        match made_in(&rt, rt.alloc(), steps) {
             None => none = none.wrapping_add(1),
             Some(3) => all = all.wrapping_add(1),
             Some(_) => fewer = fewer.wrapping_add(1),
         }
     }
-    let seen = (none > 1, fewer > 0, all > 0);
-    same(&seen, &(true, true, true), &"none, fewer, all")
+    let seen = none > 1 && fewer > 0 && all > 0;
+    assert!(rt; seen, "none: {none}, fewer: {fewer}, all: {all}");
 }

@@ -17,6 +17,8 @@ mod reports;
 #[cfg(test)]
 mod runs;
 #[cfg(test)]
+mod same;
+#[cfg(test)]
 mod scarce;
 #[cfg(test)]
 mod setup;

@@ -3,6 +3,7 @@
 ghost use Rattle.std.specs.Prelude.{◌≤◌};
 
 use crate::manuals::Manuals;
+use crate::same::same;
 use crate::scarce::{STEP, scarce};
 use crew::CrewWhy;
 use desk_core::{Refusal, Reply};
@@ -11,38 +12,36 @@ use script::{Mode, read_script};
 use server::{Capacity, ServeFault, Served, SetUpHall, hall_of, serve};
 use std::alloc::Global;
 use std::net::{Net, TcpListener, TcpStream};
+use std::process::Abort;
 use std::sync::Wait;
-use std::test::Fail;
 use std::thread::Threads;
-use test_support::same;
 
 /// What comes of a change.
 type Taken = Result<Reply, Refusal>;
 
 const DONE: Taken = Ok(Reply::Done);
 
-fn expect_done(results: &[Taken]) -> Result<(), Fail> {
+fn expect_done(rt: &impl Abort, results: &[Taken]) {
     for taken in results {
-        same(taken, &DONE, &"setup")?;
+        same(rt, taken, &DONE, &"setup");
     }
-    Ok(())
 }
 
 /// A hall that the script has set up, each line of which was answered `Done`.
-pub(super) fn set_up<R: Wait, P: Probe, M: Maker<P>>(
+pub(super) fn set_up<R: Abort + Wait, P: Probe, M: Maker<P>>(
     rt: &R,
     alloc: Global,
     script: &str,
     maker: &M,
     seats: u16,
-) -> Result<SetUpHall<P>, Fail>
+) -> SetUpHall<P>
     requires some { 1 ≤ seats }
     requires not_too_many { seats ≤ 1024 }
 {
-    let script = read_script(alloc, script.as_bytes(), Mode::Serve)?;
-    let made = hall_of(rt, alloc, script, maker, seats)?;
-    expect_done(made.results())?;
-    Ok(made)
+    let script = read_script(alloc, script.as_bytes(), Mode::Serve).expect(rt, "a script");
+    let made = hall_of(rt, alloc, script, maker, seats).expect(rt, "a hall");
+    expect_done(rt, made.results());
+    made
 }
 
 /// A hall that was set up, and a port that is listened to.
@@ -52,15 +51,15 @@ struct Opened {
     listener: TcpListener,
 }
 
-fn open<R>(rt: &R, alloc: Global, script: &str, seats: u16) -> Result<Opened, Fail>
+fn open<R>(rt: &R, alloc: Global, script: &str, seats: u16) -> Opened
 where
-    R: Wait + Net<Listener = TcpListener, Stream = TcpStream>,
+    R: Abort + Wait + Net<Listener = TcpListener, Stream = TcpStream>,
     requires some { 1 ≤ seats }
     requires not_too_many { seats ≤ 1024 }
 {
-    let listener = TcpListener::bind(rt, ("127.0.0.1", 0u16))?;
-    let made = set_up(rt, alloc, script, &Manuals, seats)?;
-    Ok(Opened { made, listener })
+    let listener = TcpListener::bind(rt, ("127.0.0.1", 0u16)).expect(rt, "a listener");
+    let made = set_up(rt, alloc, script, &Manuals, seats);
+    Opened { made, listener }
 }
 
 /// Makes the orders by so many workers, which serve no call.
@@ -101,20 +100,23 @@ const ORDERED: [Taken; 8] = [
     Err(Refusal::Full),
 ];
 
-fn expect_ordered(served: &Served<Manual>) -> Result<(), Fail> {
-    same(&served.calls.len(), &0, &"calls")?;
-    same(&served.orders.as_slice(), &ORDERED.as_slice(), &"orders")?;
-    same(&served.desk.journal().len(), &7, &"entries")
+fn expect_ordered(rt: &impl Abort, served: &Served<Manual>) {
+    same(rt, &served.calls.len(), &0, &"calls");
+    same(
+        rt,
+        &served.orders.as_slice(),
+        &ORDERED.as_slice(),
+        &"orders",
+    );
+    same(rt, &served.desk.journal().len(), &7, &"entries");
 }
 
 /// What came of each order, which no call needs: a server without orders would tell of none, and one without memory of refusals.
 #[test]
-fn makes_each_order_and_tells_what_came_of_it(rt: HostRuntime) -> Result<(), Fail> {
-    let opened = open(&rt, rt.alloc(), ORDERS, 2)?;
-    match serve_none(&rt, rt.alloc(), opened, 1) {
-        Ok(served) => expect_ordered(&served),
-        Err(fault) => same(&Some(fault), &None, &"the orders"),
-    }
+fn makes_each_order_and_tells_what_came_of_it(rt: HostRuntime) {
+    let opened = open(&rt, rt.alloc(), ORDERS, 2);
+    let served = serve_none(&rt, rt.alloc(), opened, 1).expect(&rt, "the orders");
+    expect_ordered(&rt, &served);
 }
 
 /// The bytes that a server without calls never needs.
@@ -130,14 +132,17 @@ up a
 
 /// How many of two orders got a reply, if there was room for a report. The others were refused out of memory, and the journal
 /// has the changes of those with a reply, and one of the setup.
-fn replies_of(served: Result<Served<Manual>, ServeFault>) -> Result<Option<usize>, Fail> {
-    let served = match served {
-        Ok(served) => served,
+fn replies_of(rt: &impl Abort, served: Result<Served<Manual>, ServeFault>) -> Option<usize> {
+    match served {
+        Ok(served) => Some(replies_in_all(rt, &served)),
         Err(fault) => {
-            same(&fault, &ServeFault::NoMemory, &"the fault")?;
-            return Ok(None);
+            same(rt, &fault, &ServeFault::NoMemory, &"the fault");
+            None
         }
-    };
+    }
+}
+
+fn replies_in_all(rt: &impl Abort, served: &Served<Manual>) -> usize {
     let replies = served.orders.iter().filter(|order| order.is_ok()).count();
     let refused = served
         .orders
@@ -146,36 +151,33 @@ fn replies_of(served: Result<Served<Manual>, ServeFault>) -> Result<Option<usize
         .count();
     let entries = served.desk.journal().len();
     let expected = (2usize.wrapping_sub(replies), replies.wrapping_add(1));
-    same(&(refused, entries), &expected, &"the orders")?;
-    Ok(Some(replies))
+    same(rt, &(refused, entries), &expected, &"the orders");
+    replies
 }
 
 /// The same of a server with so many bytes of memory left.
-fn replies_in<R>(rt: &R, alloc: Global, left: usize) -> Result<Option<usize>, Fail>
+fn replies_in<R>(rt: &R, alloc: Global, left: usize) -> Option<usize>
 where
-    R: Wait + Threads + Sync + Net<Listener = TcpListener, Stream = TcpStream>,
+    R: Abort + Wait + Threads + Sync + Net<Listener = TcpListener, Stream = TcpStream>,
 {
-    let opened = open(rt, alloc, SETTING, 2)?;
-    let (scarcity, filler) = scarce(alloc, ROOM, left)?;
+    let opened = open(rt, alloc, SETTING, 2);
+    let (scarcity, filler) = scarce(rt, alloc, ROOM, left);
     let served = serve_none(rt, alloc, opened, 1);
     drop(filler);
     drop(scarcity);
-    replies_of(served)
+    replies_of(rt, served)
 }
 
 /// With more and more memory left, up to where it suffices. It is tried with half the room first: once the C library has looked for a
 /// thread it takes single pages too where the heap is used up, and only then are those taken with the rest.
 #[test]
-fn tells_what_was_made_when_out_of_memory(rt: HostRuntime) -> Result<(), Fail> {
+fn tells_what_was_made_when_out_of_memory(rt: HostRuntime) {
     let alloc = rt.alloc();
-    same(
-        &replies_in(&rt, alloc, ROOM / 2)?,
-        &Some(2),
-        &"half the room",
-    )?;
+    let first = replies_in(&rt, alloc, ROOM / 2);
+    same(&rt, &first, &Some(2), &"half the room");
     let (mut untold, mut fewer, mut all) = (0u32, 0u32, 0u32);
     for steps in 0..ROOM / 32 {
-        match replies_in(&rt, alloc, steps * STEP)? {
+        match replies_in(&rt, alloc, steps * STEP) {
             None => untold = untold.wrapping_add(1),
             Some(2) => {
                 all = 1;
@@ -185,7 +187,6 @@ fn tells_what_was_made_when_out_of_memory(rt: HostRuntime) -> Result<(), Fail> {
         }
     }
     assert!(rt; untold > 1 && all == 1, "{untold} {fewer} {all}");
-    Ok(())
 }
 
 /// Workers and seats that make no crew, with the fault.
@@ -196,11 +197,10 @@ const REFUSED: [(u16, u16, CrewWhy); 3] = [
 ];
 
 #[test]
-fn refuses_what_makes_no_crew(rt: HostRuntime) -> Result<(), Fail> {
+fn refuses_what_makes_no_crew(rt: HostRuntime) {
     for (workers, seats, why) in REFUSED {
-        let opened = open(&rt, rt.alloc(), ORDERS, seats)?;
+        let opened = open(&rt, rt.alloc(), ORDERS, seats);
         let fault = serve_none(&rt, rt.alloc(), opened, workers).err();
-        same(&fault, &Some(ServeFault::Crew(why)), &workers)?;
+        same(&rt, &fault, &Some(ServeFault::Crew(why)), &workers);
     }
-    Ok(())
 }

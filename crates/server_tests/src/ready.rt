@@ -2,16 +2,15 @@
 
 use crate::manuals::Manuals;
 use desk_core::KeepMany;
-use live_run::{Counters, Ran, RunFault, SessionPlaces, run_live};
-use live_server::{Acceptor, EventServer, Limits, News, Places};
+use live_run::{Counters, LoopsFault, Ran, SessionPlaces, run_live};
+use live_server::{Acceptor, EventServer, News, Places, ServerLimits};
 use probe_core::Manual;
 use script::{Mode, read_script};
 use server::{SetUpHall, hall_of};
 use std::alloc::Global;
-use std::io;
 use std::net::{Net, SocketAddr, TcpListener, TcpStream};
+use std::process::Abort;
 use std::sync::{Arc, Wait};
-use std::test::Fail;
 use std::thread::Threads;
 use std::time::Clock;
 
@@ -23,7 +22,7 @@ down a
 up a
 ";
 
-const LIMITS: Limits = Limits {
+const LIMITS: ServerLimits = ServerLimits {
     connections: 10,
     watches: 10,
 };
@@ -38,58 +37,65 @@ pub(super) struct Loops {
 }
 
 impl Loops {
-    pub(super) fn new<R: Net<Listener = TcpListener, Stream = TcpStream> + Clock>(
-        rt: &R,
-        alloc: Global,
-    ) -> io::Result<Loops> {
-        let shared = Arc::new(alloc, Places::new(LIMITS))?;
-        let (first, here) = loop_with(rt, alloc, &shared)?;
-        let (second, there) = loop_with(rt, alloc, &shared)?;
-        let news = news_of(alloc, &first, &second)?;
-        Ok(Loops {
-            servers: Vec::from_array(alloc, [first, second])?,
+    pub(super) fn new<R>(rt: &R, alloc: Global) -> Loops
+    where
+        R: Abort + Clock + Net<Listener = TcpListener, Stream = TcpStream>,
+    {
+        let shared = Arc::new(alloc, Places::new(LIMITS)).expect(rt, "memory");
+        let (first, here) = loop_with(rt, alloc, &shared);
+        let (second, there) = loop_with(rt, alloc, &shared);
+        let news = news_of(rt, alloc, &first, &second);
+        let servers = Vec::from_array(alloc, [first, second]).expect(rt, "memory");
+        Loops {
+            servers,
             news,
             places: [here, there],
-        })
+        }
     }
 }
 
 /// A loop over a socket of 127.0.0.1, and where that is.
-fn loop_with<R: Net<Listener = TcpListener, Stream = TcpStream> + Clock>(
-    rt: &R,
-    alloc: Global,
-    places: &Arc<Places>,
-) -> io::Result<(EventServer, SocketAddr)> {
-    let places = places.clone()?;
-    let (acceptor, place) = bound(rt)?;
-    Ok((EventServer::new(rt, alloc, acceptor, places)?, place))
+fn loop_with<R>(rt: &R, alloc: Global, places: &Arc<Places>) -> (EventServer, SocketAddr)
+where
+    R: Abort + Clock + Net<Listener = TcpListener, Stream = TcpStream>,
+{
+    let places = places.clone().expect(rt, "memory");
+    let (acceptor, place) = bound(rt);
+    let server = EventServer::new(rt, alloc, acceptor, places).expect(rt, "a loop");
+    (server, place)
 }
 
-fn bound<R: Net<Listener = TcpListener, Stream = TcpStream>>(
-    rt: &R,
-) -> io::Result<(Acceptor, SocketAddr)> {
-    let listener = TcpListener::bind(rt, ("127.0.0.1", 0u16))?;
-    let place = place_of(&listener)?;
+fn bound<R>(rt: &R) -> (Acceptor, SocketAddr)
+where
+    R: Abort + Net<Listener = TcpListener, Stream = TcpStream>,
+{
+    let listener = TcpListener::bind(rt, ("127.0.0.1", 0u16)).expect(rt, "a listener");
+    let place = place_of(rt, &listener);
     let listener = mio::net::TcpListener::from_std(listener);
-    Ok((Acceptor::new(listener), place))
+    (Acceptor::new(listener), place)
 }
 
 /// Where the socket is, which does not wait from now on.
-fn place_of(listener: &TcpListener) -> io::Result<SocketAddr> {
-    listener.set_nonblocking(true)?;
-    listener.local_addr()
+fn place_of(rt: &impl Abort, listener: &TcpListener) -> SocketAddr {
+    listener
+        .set_nonblocking(true)
+        .expect(rt, "a socket that does not wait");
+    listener.local_addr().expect(rt, "its address")
 }
 
 /// What is told to both loops.
-fn news_of(alloc: Global, first: &EventServer, second: &EventServer) -> io::Result<News> {
-    let wakers = Vec::from_array(alloc, [first.waker()?, second.waker()?])?;
-    Ok(News::new(wakers))
+fn news_of(rt: &impl Abort, alloc: Global, first: &EventServer, second: &EventServer) -> News {
+    let wakers = [
+        first.waker().expect(rt, "a waker"),
+        second.waker().expect(rt, "a waker"),
+    ];
+    News::new(Vec::from_array(alloc, wakers).expect(rt, "memory"))
 }
 
 /// A hall that the script has set up, with a seat for that and one for each of two loops.
-pub(super) fn set_up<R: Wait>(rt: &R, alloc: Global) -> Result<SetUpHall<Manual, KeepMany>, Fail> {
-    let script = read_script(alloc, SCRIPT, Mode::Run)?;
-    Ok(hall_of(rt, alloc, script, &Manuals, 3)?)
+pub(super) fn set_up<R: Abort + Wait>(rt: &R, alloc: Global) -> SetUpHall<Manual, KeepMany> {
+    let script = read_script(alloc, SCRIPT, Mode::Run).expect(rt, "a script");
+    hall_of(rt, alloc, script, &Manuals, 3).expect(rt, "a hall")
 }
 
 /// A run that is set up, which a test sends to a thread.
@@ -103,7 +109,7 @@ pub(super) struct Ready<'a, R> {
 }
 
 impl<R: Wait + Threads + Clock + Sync> Ready<'_, R> {
-    pub(super) fn run(self) -> Result<Ran<Manual, KeepMany>, RunFault> {
+    pub(super) fn run(self) -> Result<Ran<Manual, KeepMany>, LoopsFault> {
         let Ready {
             rt,
             alloc,
@@ -123,7 +129,7 @@ impl<R: Wait + Threads + Clock + Sync> Ready<'_, R> {
             expectations: None,
         };
         let Ok(counters) = Arc::new(alloc, counters) else {
-            return Err(RunFault::NoMemory);
+            return Err(LoopsFault::NoMemory);
         };
         run_live(rt, alloc, made, servers, places, &Manuals, &counters, news)
     }

@@ -1,9 +1,8 @@
 ghost use Rattle.std.specs.Prelude.{◌≡◌, length};
 
+use crate::same::same;
 use desk_core::{Refusal, Reply};
 use live_run::{RefusedLine, first_refused};
-use std::test::Fail;
-use test_support::same;
 
 /// What came of a line.
 type Taken = Result<Reply, Refusal>;
@@ -44,11 +43,10 @@ const ROWS: [([Taken; 4], Option<(u32, Taken)>); 8] = [
 ];
 
 #[test]
-fn tells_the_first_line_that_was_not_made() -> Result<(), Fail> {
+fn tells_the_first_line_that_was_not_made(rt: HostRuntime) {
     for (results, expected) in &ROWS {
         let expected = expected.map(|(number, answer)| RefusedLine { number, answer });
         let found = first_refused(NUMBERS.as_slice(), results.as_slice());
-        same(&found, &expected, results)?;
+        same(&rt, &found, &expected, &results);
     }
-    Ok(())
 }

@@ -1,10 +1,9 @@
+use crate::same::same;
 use crew::CallEnd;
 use desk_core::Desk;
 use grpc_frame::Code;
 use probe_core::Manual;
 use server::Served;
-use std::test::Fail;
-use test_support::same;
 use web_call::{ExchangeFault, Outcome, Why};
 
 const ENDS: [CallEnd; 8] = [
@@ -39,17 +38,17 @@ journal 2
 ";
 
 #[test]
-fn tells_how_each_call_ended(rt: HostRuntime) -> Result<(), Fail> {
+fn tells_how_each_call_ended(rt: HostRuntime) {
     let alloc = rt.alloc();
     let mut desk: Desk<Manual> = Desk::new(alloc, 3);
-    desk.shutdown(0)?;
-    desk.resume(0)?;
+    desk.shutdown(0).expect(&rt, "a shutdown");
+    desk.resume(0).expect(&rt, "a resumption");
     let served = Served {
-        calls: Vec::from_slice(alloc, ENDS.as_slice())?,
+        calls: Vec::from_slice(alloc, ENDS.as_slice()).expect(&rt, "memory"),
         orders: Vec::new(alloc),
         desk,
     };
     let mut output = String::new(alloc);
-    served.put(&mut output)?;
-    same(&output.as_str(), &OUTPUT, &"the calls")
+    served.put(&mut output).expect(&rt, "memory");
+    same(&rt, &output.as_str(), &OUTPUT, &"the calls");
 }

@@ -1,19 +1,18 @@
 //! A Watch beside orders that wait for it.
 
 use crate::orders::set_up;
+use crate::same::same;
 use crew::CallEnd;
 use probe_core::{Event, Maker, Manual, Probe, Rule};
-use server::{Capacity, ServeFault, Served, serve};
+use server::{Capacity, Served, serve};
 use std::alloc::{AllocError, Global};
-use std::io;
 use std::io::{Read, Write};
 use std::net::{Net, TcpListener, TcpStream};
+use std::process::Abort;
 use std::sync::Wait;
-use std::test::Fail;
 use std::thread::Threads;
 use std::time::Duration;
 use test_support::requests::WATCH_OF_A;
-use test_support::same;
 use web_call::Outcome;
 
 /// How many orders a Watch is told of, but for those that are made before it is open. The last one sets `a` Down.
@@ -113,74 +112,67 @@ fn is_told_to_end(messages: &[u8]) -> bool {
 }
 
 /// The Watch was told most of the orders, up to the last, and its call has ended so.
-fn expect_told(told: &[u8], calls: &[CallEnd]) -> Result<(), Fail> {
+fn expect_told(rt: &impl Abort, told: &[u8], calls: &[CallEnd]) {
     let body = told
         .strip_prefix(HEAD)
         .and_then(|rest| rest.strip_suffix(END));
     let messages = body.unwrap_or(b"");
-    same(&is_told_to_end(messages), &true, &told)?;
+    assert!(rt; is_told_to_end(messages), "{told:?}");
     let count = messages.len() / 12;
-    same(&(count > ORDERS / 2), &true, &count)?;
-    let end = CallEnd::Done(Outcome::Watched {
-        messages: u32::try_from(count)?,
-    });
-    same(&calls, &[end].as_slice(), &"the call")
+    assert!(rt; count > ORDERS / 2, "{count} messages");
+    let messages = u32::try_from(count).expect(rt, "a count");
+    let end = CallEnd::Done(Outcome::Watched { messages });
+    same(rt, &calls, &[end].as_slice(), &"the call");
 }
 
 /// Serves the one call that waits at the listener while the orders are made.
-fn serve_one<'a, R: Wait + Threads + Sync>(
+fn serve_one<'a, R: Abort + Wait + Threads + Sync>(
     rt: &R,
     alloc: Global,
     script: &str,
     watch: &'a TcpStream,
     listener: &TcpListener,
-) -> Result<Result<Served<Paced<'a>>, ServeFault>, Fail> {
+) -> Served<Paced<'a>> {
     let capacity = Capacity {
         workers: 1,
         calls: 1,
     };
-    let made = set_up(rt, alloc, script, &PacedMaker { watch }, 2)?;
-    Ok(serve(rt, alloc, made, listener, capacity))
+    let made = set_up(rt, alloc, script, &PacedMaker { watch }, 2);
+    serve(rt, alloc, made, listener, capacity).expect(rt, "a server")
 }
 
-fn expect_watched<R: Wait + Threads + Sync>(
+fn expect_watched<R: Abort + Wait + Threads + Sync>(
     rt: &R,
     alloc: Global,
     watch: &TcpStream,
     listener: &TcpListener,
-) -> Result<(), Fail> {
+) {
     let mut stream = watch;
-    stream.write_all(WATCH_OF_A)?;
-    watch.set_read_timeout(Some(Duration::from_millis(PACE)))?;
-    let calls = match serve_one(rt, alloc, &flipping(alloc)?, watch, listener)? {
-        Ok(served) => served.calls,
-        Err(fault) => return same(&Some(fault), &None, &"the server"),
-    };
+    stream.write_all(WATCH_OF_A).expect(rt, "a request sent");
+    watch
+        .set_read_timeout(Some(Duration::from_millis(PACE)))
+        .expect(rt, "a time to wait");
+    let script = flipping(alloc).expect(rt, "memory");
+    let calls = serve_one(rt, alloc, &script, watch, listener).calls;
     let mut told = Vec::new(alloc);
-    stream.read_to_end(&mut told)?;
-    expect_told(&told, &calls)
+    stream.read_to_end(&mut told).expect(rt, "what is told");
+    expect_told(rt, &told, &calls);
 }
 
 /// A port that is listened to, and a client that is connected to it.
-fn connected<R>(rt: &R) -> Result<(TcpListener, TcpStream), Fail>
+fn connected<R>(rt: &R) -> (TcpListener, TcpStream)
 where
-    R: Net<Listener = TcpListener, Stream = TcpStream>,
+    R: Abort + Net<Listener = TcpListener, Stream = TcpStream>,
 {
-    let listener = TcpListener::bind(rt, ("127.0.0.1", 0u16))?;
-    let watch = client_of(rt, &listener)?;
-    Ok((listener, watch))
-}
-
-fn client_of<R>(rt: &R, listener: &TcpListener) -> io::Result<TcpStream>
-where
-    R: Net<Listener = TcpListener, Stream = TcpStream>,
-{
-    TcpStream::connect(rt, listener.local_addr()?)
+    let listener = TcpListener::bind(rt, ("127.0.0.1", 0u16)).expect(rt, "a listener");
+    let place = listener.local_addr().expect(rt, "its address");
+    let watch = TcpStream::connect(rt, place).expect(rt, "a connection");
+    (listener, watch)
 }
 
 // The orders wait for the Watch, so that it is told of most of them, whatever the schedule.
 #[test]
-fn a_watch_is_told_of_many_orders(rt: HostRuntime) -> Result<(), Fail> {
-    let (listener, watch) = connected(&rt)?;
-    expect_watched(&rt, rt.alloc(), &watch, &listener)
+fn a_watch_is_told_of_many_orders(rt: HostRuntime) {
+    let (listener, watch) = connected(&rt);
+    expect_watched(&rt, rt.alloc(), &watch, &listener);
 }

@@ -10,6 +10,3 @@ mod scarcity;
 pub use comparison::same;
 pub use faulty::{Fault, FaultyReader, FaultyWriter};
 pub use scarcity::Scarcity;
-
-#[cfg(test)]
-mod tests;

@@ -2,13 +2,17 @@
 #![tactic(auto)]
 
 #[cfg(test)]
+mod begun;
+#[cfg(test)]
 mod reading;
 #[cfg(test)]
 mod reporting;
 #[cfg(test)]
 mod rows;
 #[cfg(test)]
-mod stage;
+mod same;
+#[cfg(test)]
+mod scene;
 #[cfg(test)]
 mod telling;
 #[cfg(test)]

@@ -1,4 +1,5 @@
 use std::io;
+use std::process::Abort;
 use std::time::{Clock, Duration, Instant};
 
 /// A clock that stands still at so many milliseconds, or cannot be read.
@@ -18,6 +19,6 @@ impl Clock for At {
 }
 
 /// The reading of the clock at so many milliseconds.
-pub(crate) fn reading(millis: u64) -> io::Result<Instant> {
-    Instant::now(&At(Some(millis)))
+pub(crate) fn reading(rt: &impl Abort, millis: u64) -> Instant {
+    Instant::now(&At(Some(millis))).expect(rt, "a reading")
 }

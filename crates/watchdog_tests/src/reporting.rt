@@ -2,18 +2,19 @@
 
 ghost use Rattle.hall.specs.Seats.{IsOf};
 
+use crate::begun::{catalogue_of, watchdog_of};
 use crate::reading::At;
-use desk_core::{Catalogue, Finding, KeepMany};
+use crate::same::same;
+use desk_core::{Finding, KeepMany};
 use hall::{Hall, Seat};
 use probe_core::{Start, Threshold};
 use std::alloc::Global;
 use std::cell::RefCell;
 use std::io;
-use std::sync::{Arc, Wait};
-use std::test::Fail;
+use std::process::Abort;
+use std::sync::Wait;
 use std::time::{Clock, Duration};
-use test_support::same;
-use watchdog::{Expectations, Watchdog, Wish};
+use watchdog::{Watchdog, Wish};
 
 /// Whoever reports a pass of `a`, by a seat of its own.
 #[derive(Drop)]
@@ -53,33 +54,33 @@ impl<R: Wait> Clock for Reporting<'_, R> {
 }
 
 /// Has a round by this clock, and compares whether it changes a status.
-fn expect_round<R: Wait, C: Clock>(
+fn expect_round<R: Wait + Abort, C: Clock>(
     rt: &R,
     hall: &Hall<Threshold, KeepMany>,
     watchdog: &mut Watchdog,
     own: &mut Seat<Threshold, KeepMany>,
     clock: &C,
     shows: bool,
-) -> Result<(), Fail>
+)
     requires own { IsOf hall.now own.old }
     ensures own { IsOf hall.now own.new }
 {
-    let round = watchdog.round(rt, clock, hall, own)?;
-    same(&round.shows, &shows, &round.at)
+    let round = watchdog.round(rt, clock, hall, own).expect(rt, "a round");
+    same(rt, &round.shows, &shows, &round.at);
 }
 
 /// The report counts from the round behind it on.
-fn play_over<R: Wait>(
+fn play_over<R: Wait + Abort>(
     rt: &R,
     hall: &Hall<Threshold, KeepMany>,
     own: &mut Seat<Threshold, KeepMany>,
     others: Seat<Threshold, KeepMany>,
     watchdog: &mut Watchdog,
-) -> Result<(), Fail>
+)
     requires own { IsOf hall.now own.old }
     requires others { IsOf hall.now others }
 {
-    expect_round(rt, hall, watchdog, own, &At(Some(0)), false)?;
+    expect_round(rt, hall, watchdog, own, &At(Some(0)), false);
     let clock = Reporting {
         millis: 500,
         reporter: RefCell::new(Reporter {
@@ -88,11 +89,11 @@ fn play_over<R: Wait>(
             seat: others,
         }),
     };
-    expect_round(rt, hall, watchdog, own, &clock, false)?;
-    expect_round(rt, hall, watchdog, own, &At(Some(900)), false)?;
-    expect_round(rt, hall, watchdog, own, &At(Some(1_500)), false)?;
-    expect_round(rt, hall, watchdog, own, &At(Some(1_899)), false)?;
-    expect_round(rt, hall, watchdog, own, &At(Some(1_900)), true)
+    expect_round(rt, hall, watchdog, own, &clock, false);
+    expect_round(rt, hall, watchdog, own, &At(Some(900)), false);
+    expect_round(rt, hall, watchdog, own, &At(Some(1_500)), false);
+    expect_round(rt, hall, watchdog, own, &At(Some(1_899)), false);
+    expect_round(rt, hall, watchdog, own, &At(Some(1_900)), true);
 }
 
 /// Registers `a`.
@@ -103,36 +104,25 @@ fn register<R: Wait>(rt: &R, hall: &Hall<Threshold, KeepMany>, seat: &mut Seat<T
     let _ = hall.register(rt, seat, "a", Threshold::new(3, 1, Start::Up));
 }
 
-fn catalogue_of_a(alloc: Global) -> Result<Catalogue, Fail> {
-    let mut names = Vec::new(alloc);
-    for text in ["a", ""] {
-        names.push(String::from_str(alloc, text)?)?;
-    }
-    Ok(Catalogue::new(alloc, names)?)
-}
-
-/// Has `a` be expected every second, over a new hall. What may fail comes first, since each exit has to be proved to drop what there is by then.
-fn play<R: Wait>(rt: &R, alloc: Global) -> Result<(), Fail> {
-    let catalogue = catalogue_of_a(alloc)?;
-    let slot = catalogue.slot("a").ok_or("no slot")?;
-    let expectations = Arc::new(alloc, Expectations::new(alloc)?)?;
-    let mut watchdog = Watchdog::new(alloc, expectations.clone()?)?;
-    let (hall, mut seats) = Hall::<Threshold, KeepMany>::new(alloc, catalogue, 100, 2)?;
-    let (Some(mut others), Some(mut own)) = (seats.pop(), seats.pop()) else {
-        return Err(Fail::new(format_args!("no seats")));
-    };
+/// Has `a` be expected every second, over a new hall.
+fn play<R: Wait + Abort>(rt: &R, alloc: Global) {
+    let catalogue = catalogue_of(rt, alloc, &["a", ""]);
+    let slot = catalogue.slot("a").expect(rt, "a slot");
+    let (expectations, mut watchdog) = watchdog_of(rt, alloc);
+    let made = Hall::<Threshold, KeepMany>::new(alloc, catalogue, 100, 2);
+    let (hall, mut seats) = made.expect(rt, "a hall");
+    let mut others = seats.pop().expect(rt, "a seat");
+    let mut own = seats.pop().expect(rt, "a seat");
     let wish = Wish {
         seconds: 1,
         behind: 1,
     };
     expectations.expect(slot, wish);
     register(rt, &hall, &mut others);
-    play_over(rt, &hall, &mut own, others, &mut watchdog)
+    play_over(rt, &hall, &mut own, others, &mut watchdog);
 }
 
 #[test]
-fn a_report_while_the_clock_is_read_counts_from_the_next_round_on(
-    rt: HostRuntime,
-) -> Result<(), Fail> {
-    play(&rt, rt.alloc())
+fn a_report_while_the_clock_is_read_counts_from_the_next_round_on(rt: HostRuntime) {
+    play(&rt, rt.alloc());
 }

@@ -2,7 +2,7 @@ use health_wire::Serving;
 use probe_core::Start;
 
 /// What a test does with the service that is watched, or looks at.
-#[derive(Clone, Copy, Debug)]
+#[derive(Clone, Copy)]
 pub(crate) enum Step {
     /// From here on, the service of this name.
     Of(&'static str),

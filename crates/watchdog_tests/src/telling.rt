@@ -3,20 +3,22 @@
 ghost use Rattle.std.specs.Prelude.{IfOk};
 ghost use Rattle.hall.specs.Seats.{IsOf};
 
+use crate::begun::{catalogue_of, handle_of, watchdog_of};
+use crate::same::same;
 use chronicle::Who;
-use desk_core::{Catalogue, Entry, Finding, Keep, KeepMany, NotStored, Refusal, Reply};
+use desk_core::{Entry, Finding, Keep, KeepMany, NotStored, Refusal};
 use diary::{Diary, Held, Setup};
 use hall::{Hall, Seat};
 use log_lines::Outlet;
 use probe_core::{Start, Threshold};
 use std::alloc::Global;
 use std::io;
-use std::io::{PipeReader, PipeWriter, Read};
+use std::io::{PipeWriter, Read};
 use std::os::fd::AsRawFd;
+use std::process::Abort;
+use std::rt::Files;
 use std::sync::{Arc, Wait};
-use std::test::Fail;
 use std::time::{Clock, Duration};
-use test_support::same;
 use watchdog::{Expectations, Watchdog, Wish};
 
 /// A clock that stands still at so many milliseconds.
@@ -52,7 +54,7 @@ impl Keep for KeepSixteen {
 }
 
 /// What comes about, by the session 3 where it is a change.
-#[derive(Clone, Copy, Debug)]
+#[derive(Clone, Copy)]
 enum Step {
     Register(&'static str, u32),
     Retire(&'static str),
@@ -99,7 +101,7 @@ const NOTHING: Held = Held {
 
 /// Whoever makes changes, watches and tells.
 #[derive(Drop)]
-struct Stage<'a, R, K: Keep> {
+struct Scene<'a, R, K: Keep> {
     rt: &'a R,
     hall: &'a Hall<Threshold, K>,
     watchdog: &'a mut Watchdog,
@@ -112,49 +114,26 @@ struct Stage<'a, R, K: Keep> {
     ghost others_fit: { IsOf hall.now others.now },
 }
 
-impl<R: Wait, K: Keep> Stage<'_, R, K> {
-    fn take(&mut self, step: Step) -> Result<(), Fail> {
+impl<R: Wait + Abort, K: Keep> Scene<'_, R, K> {
+    fn take(&mut self, step: Step) {
         match step {
-            Expect(name, seconds) => {
-                let slot = self.hall.catalogue().slot(name).ok_or("no slot")?;
-                let behind = self.hall.extent(self.rt, self.others).entries;
-                self.expectations.expect(slot, Wish { seconds, behind });
-                Ok(())
-            }
-            Refused(refusal) => {
-                self.refuse(refusal);
-                Ok(())
-            }
+            Expect(name, seconds) => self.expect(name, seconds),
+            Refused(refusal) => self.refuse(refusal),
             ManyRefused(count) => {
                 for _ in 0..count {
                     self.refuse(Refusal::Full);
                 }
-                Ok(())
             }
-            Round(millis) => {
-                let clock = At(millis);
-                self.watchdog.round(self.rt, &clock, self.hall, self.own)?;
-                self.follow(&clock);
-                Ok(())
-            }
-            Follow(millis) => {
-                self.follow(&At(millis));
-                Ok(())
-            }
-            End(millis) => {
-                let (clock, held) = (At(millis), self.held);
-                self.diary.end(self.rt, &clock, self.hall, self.own, held);
-                Ok(())
-            }
+            Round(millis) => self.round(&At(millis)),
+            Follow(millis) => self.follow(&At(millis)),
+            End(millis) => self.end(&At(millis)),
             Forget => {
-                self.expectations
-                    .chronicle()
-                    .note_all(200_000, 0, Who::Setup);
-                Ok(())
+                let chronicle = self.expectations.chronicle();
+                chronicle.note_all(200_000, 0, Who::Setup);
             }
             IsKnown(place, is_known) => {
                 let noted = self.expectations.chronicle().noted(place);
-                same(&noted.is_some(), &is_known, &place)
+                same(self.rt, &noted.is_some(), &is_known, &place);
             }
             Hold(connections, watches, sessions) => {
                 self.held = Held {
@@ -162,7 +141,6 @@ impl<R: Wait, K: Keep> Stage<'_, R, K> {
                     watches,
                     sessions,
                 };
-                Ok(())
             }
             FailUnnoted(name) => self.report(name, Finding::Fail),
             OwnFail(name) => self.fail_by_own(name),
@@ -171,25 +149,40 @@ impl<R: Wait, K: Keep> Stage<'_, R, K> {
         }
     }
 
+    fn expect(&mut self, name: &str, seconds: u32) {
+        let slot = self.hall.catalogue().slot(name).expect(self.rt, "a slot");
+        let behind = self.hall.extent(self.rt, self.others).entries;
+        self.expectations.expect(slot, Wish { seconds, behind });
+    }
+
+    fn round(&mut self, clock: &At) {
+        let round = self.watchdog.round(self.rt, clock, self.hall, self.own);
+        round.expect(self.rt, "a round");
+        self.follow(clock);
+    }
+
     fn follow(&mut self, clock: &At) {
         let held = self.held;
         self.diary.follow(self.rt, clock, self.hall, self.own, held);
     }
 
-    fn fail_by_own(&mut self, name: &str) -> Result<(), Fail> {
+    fn end(&mut self, clock: &At) {
+        let held = self.held;
+        self.diary.end(self.rt, clock, self.hall, self.own, held);
+    }
+
+    fn fail_by_own(&mut self, name: &str) {
         let place = self.hall.extent(self.rt, self.others).entries;
         let _ = self.hall.observe(self.rt, self.own, name, Finding::Fail);
         let chronicle = self.expectations.chronicle();
         chronicle.note(place, 2_000, Who::Expiry);
-        Ok(())
     }
 
-    fn report_often(&mut self, name: &'static str, count: u32) -> Result<(), Fail> {
+    fn report_often(&mut self, name: &'static str, count: u32) {
         for _ in 0..count {
-            self.change(Fails(name))?;
-            self.change(Pass(name))?;
+            self.change(Fails(name));
+            self.change(Pass(name));
         }
-        Ok(())
     }
 
     /// A change of the session 3 is refused.
@@ -198,13 +191,12 @@ impl<R: Wait, K: Keep> Stage<'_, R, K> {
         chronicle.refuse(1_000, Who::Session(3), refusal as u8);
     }
 
-    fn report(&mut self, name: &str, finding: Finding) -> Result<(), Fail> {
+    fn report(&mut self, name: &str, finding: Finding) {
         let _ = self.hall.observe(self.rt, self.others, name, finding);
-        Ok(())
     }
 
     /// A change of the session 3.
-    fn change(&mut self, step: Step) -> Result<(), Fail> {
+    fn change(&mut self, step: Step) {
         let place = self.hall.extent(self.rt, self.others).entries;
         match step {
             Register(name, fall) => {
@@ -214,8 +206,8 @@ impl<R: Wait, K: Keep> Stage<'_, R, K> {
             Retire(name) => {
                 let _ = self.hall.retire(self.rt, self.others, name);
             }
-            Pass(name) => self.report(name, Finding::Pass)?,
-            Fails(name) => self.report(name, Finding::Fail)?,
+            Pass(name) => self.report(name, Finding::Pass),
+            Fails(name) => self.report(name, Finding::Fail),
             Shutdown => {
                 let _ = self.hall.shutdown(self.rt, self.others);
             }
@@ -225,12 +217,11 @@ impl<R: Wait, K: Keep> Stage<'_, R, K> {
         }
         let chronicle = self.expectations.chronicle();
         chronicle.note(place, 2_000, Who::Session(3));
-        Ok(())
     }
 }
 
 /// Plays the steps by the seat of the watchdog and another, over a hall that is set up.
-fn play_over<R: Wait, K: Keep>(
+fn play_over<R: Wait + Abort, K: Keep>(
     rt: &R,
     hall: &Hall<Threshold, K>,
     own: &mut Seat<Threshold, K>,
@@ -239,11 +230,11 @@ fn play_over<R: Wait, K: Keep>(
     diary: &mut Diary,
     expectations: &Arc<Expectations>,
     steps: &[Step],
-) -> Result<(), Fail>
+)
     requires own { IsOf hall.now own.old }
     requires others { IsOf hall.now others.old }
 {
-    let mut stage = Stage {
+    let mut scene = Scene {
         rt,
         hall,
         watchdog,
@@ -254,9 +245,8 @@ fn play_over<R: Wait, K: Keep>(
         held: NOTHING,
     };
     for step in steps {
-        stage.take(*step)?;
+        scene.take(*step);
     }
-    Ok(())
 }
 
 /// Registers `db` to fall by two fails and `api` by one, and tells how many entries there are.
@@ -269,25 +259,10 @@ fn set_up<R: Wait, K: Keep>(rt: &R, hall: &Hall<Threshold, K>, seat: &mut Seat<T
     hall.extent(rt, seat).entries
 }
 
-fn catalogue_of_three(alloc: Global) -> Result<Catalogue, Fail> {
-    let mut names = Vec::new(alloc);
-    for text in ["db", "api", ""] {
-        names.push(String::from_str(alloc, text)?)?;
-    }
-    Ok(Catalogue::new(alloc, names)?)
-}
-
-/// Plays the steps over a hall with room for so many entries, with `db` registered to fall by two fails and `api` by one, and tells
-/// what is written to an outlet. What may fail comes first, since each exit has to be proved to drop what there is by then.
-fn play<R: Wait, K: Keep>(
-    rt: &R,
-    alloc: Global,
-    outlet: Option<Outlet>,
-    most: u32,
-    steps: &[Step],
-) -> Result<(), Fail> {
-    let setup = Setup {
-        address: "127.0.0.1:8080".parse()?,
+/// What a diary is told of a server with three services, over a hall with room for so many entries.
+fn setup_of(rt: &impl Abort, most: u32) -> Setup {
+    Setup {
+        address: "127.0.0.1:8080".parse().expect(rt, "an address"),
         entries: 2,
         most,
         room: Held {
@@ -295,15 +270,26 @@ fn play<R: Wait, K: Keep>(
             watches: 9,
             sessions: 4,
         },
-    };
-    let expectations = Arc::new(alloc, Expectations::new(alloc)?)?;
-    let mut watchdog = Watchdog::new(alloc, expectations.clone()?)?;
-    let mut diary = Diary::new(alloc, outlet, expectations.clone()?, setup)?;
-    let catalogue = catalogue_of_three(alloc)?;
-    let (hall, mut seats) = Hall::<Threshold, K>::new(alloc, catalogue, most, 2)?;
-    let (Some(mut others), Some(mut own)) = (seats.pop(), seats.pop()) else {
-        return Err(Fail::new(format_args!("no seats")));
-    };
+    }
+}
+
+/// Plays the steps over a hall with room for so many entries, with `db` registered to fall by two fails and `api` by one, and tells
+/// what is written to an outlet.
+fn play<R: Wait + Abort, K: Keep>(
+    rt: &R,
+    alloc: Global,
+    outlet: Option<Outlet>,
+    most: u32,
+    steps: &[Step],
+) {
+    let (expectations, mut watchdog) = watchdog_of(rt, alloc);
+    let handle = handle_of(rt, &expectations);
+    let mut diary = Diary::new(alloc, outlet, handle, setup_of(rt, most)).expect(rt, "memory");
+    let catalogue = catalogue_of(rt, alloc, &["db", "api", ""]);
+    let made = Hall::<Threshold, K>::new(alloc, catalogue, most, 2);
+    let (hall, mut seats) = made.expect(rt, "a hall");
+    let mut others = seats.pop().expect(rt, "a seat");
+    let mut own = seats.pop().expect(rt, "a seat");
     let entries = set_up(rt, &hall, &mut own);
     expectations.chronicle().note_all(entries, 0, Who::Setup);
     play_over(
@@ -315,7 +301,7 @@ fn play<R: Wait, K: Keep>(
         &mut diary,
         &expectations,
         steps,
-    )
+    );
 }
 
 /// The end of a pipe that is written to.
@@ -326,11 +312,19 @@ fn shared(end: &PipeWriter) -> Option<Outlet> {
     })
 }
 
-/// All that a pipe has.
-fn read_all(alloc: Global, mut reader: &PipeReader) -> Result<String, Fail> {
+/// All that is told where the steps are played so.
+fn told<R: Wait + Files + Abort, K: Keep>(
+    rt: &R,
+    alloc: Global,
+    most: u32,
+    steps: &[Step],
+) -> String {
+    let (mut reader, end) = io::pipe(rt).expect(rt, "a pipe");
+    play::<R, K>(rt, alloc, shared(&end), most, steps);
+    drop(end);
     let mut text = String::new(alloc);
-    reader.read_to_string(&mut text)?;
-    Ok(text)
+    reader.read_to_string(&mut text).expect(rt, "what is told");
+    text
 }
 
 /// What is told first.
@@ -663,14 +657,15 @@ INFO  api: not_serving -> serving, entry 21 (session 3: pass api)
 ];
 
 /// What is told without the times, each of which is so long with the space behind it.
-fn without_times(alloc: Global, told: &str) -> Result<String, Fail> {
+fn without_times(rt: &impl Abort, alloc: Global, told: &str) -> String {
     const TIME: usize = 28;
     let mut text = String::new(alloc);
     for line in told.lines() {
-        text.push_str(line.get(TIME..).unwrap_or("no time"))?;
-        text.push('\n')?;
+        let behind = line.get(TIME..).unwrap_or("no time");
+        text.push_str(behind).expect(rt, "memory");
+        text.push('\n').expect(rt, "memory");
     }
-    Ok(text)
+    text
 }
 
 /// The last bytes of a text, so many of them.
@@ -698,13 +693,12 @@ const KEPT: &[Step] = &[
 ];
 
 #[test]
-fn keeps_when_the_newest_of_each_service_were_made(rt: HostRuntime) -> Result<(), Fail> {
+fn keeps_when_the_newest_of_each_service_were_made(rt: HostRuntime) {
     // whether anything is written or not
-    let (_reader, end) = io::pipe(&rt)?;
+    let (_reader, end) = io::pipe(&rt).expect(&rt, "a pipe");
     for outlet in [None, shared(&end)] {
-        play::<HostRuntime, KeepMany>(&rt, rt.alloc(), outlet, 100, KEPT)?;
+        play::<HostRuntime, KeepMany>(&rt, rt.alloc(), outlet, 100, KEPT);
     }
-    Ok(())
 }
 
 /// A change, a refusal and an end, each with its time.
@@ -716,49 +710,41 @@ const TIMES: &str = "\
 ";
 
 #[test]
-fn tells_what_comes_about(rt: HostRuntime) -> Result<(), Fail> {
+fn tells_what_comes_about(rt: HostRuntime) {
     let alloc: Global = rt.alloc();
     for (name, most, steps, expected) in ROWS.iter().copied() {
-        let (reader, end) = io::pipe(&rt)?;
-        play::<HostRuntime, KeepMany>(&rt, alloc, shared(&end), most, steps)?;
-        drop(end);
-        let told = without_times(alloc, &read_all(alloc, &reader)?)?;
-        let behind = told.strip_prefix(BEGINNING).unwrap_or("no beginning");
-        same(&behind, &expected, &name)?;
+        let told = told::<HostRuntime, KeepMany>(&rt, alloc, most, steps);
+        let text = without_times(&rt, alloc, &told);
+        let behind = text.strip_prefix(BEGINNING).unwrap_or("no beginning");
+        same(&rt, &behind, &expected, &name);
     }
-    Ok(())
+}
+
+/// What is told where the rows are played so has their ends, without the times.
+fn expect_ends<R: Wait + Files + Abort, K: Keep>(
+    rt: &R,
+    alloc: Global,
+    rows: &[(&str, u32, &[Step], &str)],
+) {
+    for (name, most, steps, expected) in rows {
+        let told = told::<R, K>(rt, alloc, *most, steps);
+        let text = without_times(rt, alloc, &told);
+        same(rt, &last_of(&text, expected.len()), expected, &name);
+    }
 }
 
 #[test]
-fn tells_at_the_end(rt: HostRuntime) -> Result<(), Fail> {
-    let alloc: Global = rt.alloc();
-    for (name, most, steps, expected) in ENDS.iter().copied() {
-        let (reader, end) = io::pipe(&rt)?;
-        play::<HostRuntime, KeepMany>(&rt, alloc, shared(&end), most, steps)?;
-        drop(end);
-        let told = without_times(alloc, &read_all(alloc, &reader)?)?;
-        same(&last_of(&told, expected.len()), &expected, &name)?;
-    }
-    Ok(())
+fn tells_at_the_end(rt: HostRuntime) {
+    expect_ends::<HostRuntime, KeepMany>(&rt, rt.alloc(), ENDS);
 }
 
 #[test]
-fn goes_on_behind_what_is_forgotten(rt: HostRuntime) -> Result<(), Fail> {
-    let alloc: Global = rt.alloc();
-    for (name, most, steps, expected) in FORGOTTEN.iter().copied() {
-        let (reader, end) = io::pipe(&rt)?;
-        play::<HostRuntime, KeepSixteen>(&rt, alloc, shared(&end), most, steps)?;
-        drop(end);
-        let told = without_times(alloc, &read_all(alloc, &reader)?)?;
-        same(&last_of(&told, expected.len()), &expected, &name)?;
-    }
-    Ok(())
+fn goes_on_behind_what_is_forgotten(rt: HostRuntime) {
+    expect_ends::<HostRuntime, KeepSixteen>(&rt, rt.alloc(), FORGOTTEN);
 }
 
 #[test]
-fn tells_times(rt: HostRuntime) -> Result<(), Fail> {
-    let alloc: Global = rt.alloc();
-    let (reader, end) = io::pipe(&rt)?;
+fn tells_times(rt: HostRuntime) {
     let steps = [
         Follow(1),
         Fails("api"),
@@ -767,8 +753,6 @@ fn tells_times(rt: HostRuntime) -> Result<(), Fail> {
         Refused(Refusal::Full),
         End(9),
     ];
-    play::<HostRuntime, KeepMany>(&rt, alloc, shared(&end), 100, &steps)?;
-    drop(end);
-    let told = read_all(alloc, &reader)?;
-    same(&told.as_str(), &TIMES, &"times")
+    let told = told::<HostRuntime, KeepMany>(&rt, rt.alloc(), 100, &steps);
+    same(&rt, &told.as_str(), &TIMES, &"the times");
 }

@@ -3,17 +3,17 @@
 ghost use Rattle.std.specs.Prelude.{◌≡◌};
 ghost use Rattle.hall.specs.Seats.{IsOf};
 
+use crate::begun::{catalogue_of, watchdog_of};
 use crate::rows::{
     FAR_BEHIND, FORGETTING, FORGETTING_ASLEEP, FULL, HEARING_AGAIN, MANY, ROWS, Step, TOLD, TWO,
 };
-use crate::stage::Stage;
-use desk_core::{Catalogue, Entry, Keep, KeepMany, NotStored};
+use crate::scene::Scene;
+use desk_core::{Entry, Keep, KeepMany, NotStored};
 use hall::{Hall, Seat};
 use probe_core::{Start, Threshold};
 use std::alloc::Global;
+use std::process::Abort;
 use std::sync::{Arc, Wait};
-use std::test::Fail;
-use test_support::same;
 use watchdog::{Expectations, Watchdog};
 
 /// The last sixteen.
@@ -40,28 +40,20 @@ const NAMES: [&str; 16] = [
 ];
 
 /// Plays the steps over a new hall with room for so many entries, of which this service is watched.
-fn play<R: Wait, K: Keep>(
+fn play<R: Wait + Abort, K: Keep>(
     rt: &R,
     alloc: Global,
     name: &str,
     row: usize,
     most: u32,
     steps: &[Step],
-) -> Result<(), Fail> {
-    let mut names = Vec::new(alloc);
-    for text in NAMES {
-        names.push(String::from_str(alloc, text)?)?;
-    }
-    let (hall, mut seats) = Hall::<Threshold, K>::new(
-        alloc,
-        Catalogue::new(alloc, names)?,
-        most,
-        2,
-    )?;
-    let mut others = seats.pop().ok_or("no seat")?;
-    let mut own = seats.pop().ok_or("no seat")?;
-    let expectations = Arc::new(alloc, Expectations::new(alloc)?)?;
-    let mut watchdog = Watchdog::new(alloc, expectations.clone()?)?;
+) {
+    let catalogue = catalogue_of(rt, alloc, &NAMES);
+    let (expectations, mut watchdog) = watchdog_of(rt, alloc);
+    let made = Hall::<Threshold, K>::new(alloc, catalogue, most, 2);
+    let (hall, mut seats) = made.expect(rt, "a hall");
+    let mut others = seats.pop().expect(rt, "a seat");
+    let mut own = seats.pop().expect(rt, "a seat");
     play_over(
         rt,
         &hall,
@@ -72,11 +64,11 @@ fn play<R: Wait, K: Keep>(
         name,
         row,
         steps,
-    )
+    );
 }
 
 /// Plays them by the watchdog's seat and another.
-fn play_over<R: Wait, K: Keep>(
+fn play_over<R: Wait + Abort, K: Keep>(
     rt: &R,
     hall: &Hall<Threshold, K>,
     own: &mut Seat<Threshold, K>,
@@ -86,11 +78,11 @@ fn play_over<R: Wait, K: Keep>(
     name: &str,
     row: usize,
     steps: &[Step],
-) -> Result<(), Fail>
+)
     requires own { IsOf hall.now own.old }
     requires others { IsOf hall.now others.old }
 {
-    let mut stage = Stage {
+    let mut scene = Scene {
         rt,
         hall,
         watchdog,
@@ -98,33 +90,32 @@ fn play_over<R: Wait, K: Keep>(
         others,
         expectations,
         name,
-        row,
+        at: (row, 0),
     };
-    for step in steps {
-        stage.take(*step)?;
+    for (number, step) in steps.iter().enumerate() {
+        scene.take_next(number, *step);
     }
-    Ok(())
 }
 
 /// Plays all rows with the service of this name.
-fn play_all<R: Wait>(rt: &R, alloc: Global, name: &str) -> Result<(), Fail> {
+fn play_all<R: Wait + Abort>(rt: &R, alloc: Global, name: &str) {
     for (number, (_, steps)) in ROWS.iter().enumerate() {
-        play::<R, KeepMany>(rt, alloc, name, number, 100, steps)?;
+        play::<R, KeepMany>(rt, alloc, name, number, 100, steps);
     }
-    play::<R, KeepMany>(rt, alloc, name, 101, 4, FULL)?;
-    play::<R, KeepSixteen>(rt, alloc, name, 102, 100, FORGETTING)?;
-    play::<R, KeepSixteen>(rt, alloc, name, 103, 100, FORGETTING_ASLEEP)?;
-    play::<R, KeepSixteen>(rt, alloc, name, 104, 100, HEARING_AGAIN)?;
-    play::<R, KeepMany>(rt, alloc, name, 105, 10_000, FAR_BEHIND)?;
-    play::<R, KeepMany>(rt, alloc, name, 106, 10_000, MANY)?;
-    play::<R, KeepMany>(rt, alloc, name, 108, 100, TOLD)
+    play::<R, KeepMany>(rt, alloc, name, 101, 4, FULL);
+    play::<R, KeepSixteen>(rt, alloc, name, 102, 100, FORGETTING);
+    play::<R, KeepSixteen>(rt, alloc, name, 103, 100, FORGETTING_ASLEEP);
+    play::<R, KeepSixteen>(rt, alloc, name, 104, 100, HEARING_AGAIN);
+    play::<R, KeepMany>(rt, alloc, name, 105, 10_000, FAR_BEHIND);
+    play::<R, KeepMany>(rt, alloc, name, 106, 10_000, MANY);
+    play::<R, KeepMany>(rt, alloc, name, 108, 100, TOLD);
 }
 
 #[test]
-fn brings_down_what_is_not_heard_from(rt: HostRuntime) -> Result<(), Fail> {
+fn brings_down_what_is_not_heard_from(rt: HostRuntime) {
     let alloc = rt.alloc();
     for name in ["", "a", "o"] {
-        play_all(&rt, alloc, name)?;
+        play_all(&rt, alloc, name);
     }
-    play::<HostRuntime, KeepMany>(&rt, alloc, "", 107, 100, TWO)
+    play::<HostRuntime, KeepMany>(&rt, alloc, "", 107, 100, TWO);
 }

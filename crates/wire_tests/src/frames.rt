@@ -1,12 +1,13 @@
 ghost use Rattle.grpc_frame.specs.Trailers.{IsStatusText};
 
+use crate::same::same;
 use grpc_frame::{
     Code, FrameFault, SplitFault, Splitter, TrailerFault, one_message, put_message, put_trailers,
     read_trailers,
 };
 use std::alloc::Global;
-use std::test::Fail;
-use test_support::{Scarcity, same};
+use std::process::Abort;
+use test_support::Scarcity;
 
 const BODIES: [(&[u8], Result<&[u8], FrameFault>); 17] = [
     (b"", Err(FrameFault::NoMessage)),
@@ -32,20 +33,19 @@ const BODIES: [(&[u8], Result<&[u8], FrameFault>); 17] = [
 ];
 
 #[test]
-fn reads_one_message_or_the_first_fault() -> Result<(), Fail> {
+fn reads_one_message_or_the_first_fault(rt: HostRuntime) {
     for (body, expected) in &BODIES {
-        same(&one_message(*body), expected, body)?;
+        same(&rt, &one_message(*body), expected, body);
     }
-    Ok(())
 }
 
 #[test]
-fn appends_a_message(rt: HostRuntime) -> Result<(), Fail> {
-    let mut out = [7].to_vec(rt.alloc())?;
-    put_message(&mut out, b"\x08\x01")?;
-    put_message(&mut out, b"")?;
+fn appends_a_message(rt: HostRuntime) {
+    let mut out = [7].to_vec(rt.alloc()).expect(&rt, "memory");
+    put_message(&mut out, b"\x08\x01").expect(&rt, "memory");
+    put_message(&mut out, b"").expect(&rt, "memory");
     let expected: &[u8] = b"\x07\0\0\0\0\x02\x08\x01\0\0\0\0\0";
-    same(&out.as_slice(), &expected, &"two messages")
+    same(&rt, &out.as_slice(), &expected, &"two messages");
 }
 
 const STATUSES: [(Code, &str, &[u8]); 7] = [
@@ -83,13 +83,12 @@ const STATUSES: [(Code, &str, &[u8]); 7] = [
 ];
 
 #[test]
-fn appends_the_trailers_of_each_status(rt: HostRuntime) -> Result<(), Fail> {
+fn appends_the_trailers_of_each_status(rt: HostRuntime) {
     for (code, text, expected) in STATUSES {
-        let mut out = [7].to_vec(rt.alloc())?;
-        put_trailers(&mut out, code, text)?;
-        same(&out.split_first(), &Some((&7, expected)), &text)?;
+        let mut out = [7].to_vec(rt.alloc()).expect(&rt, "memory");
+        put_trailers(&mut out, code, text).expect(&rt, "memory");
+        same(&rt, &out.split_first(), &Some((&7, expected)), &text);
     }
-    Ok(())
 }
 
 const RESPONSE: &[u8] = b"\0\0\0\0\x02\x08\x01\x80\0\0\0\x0fgrpc-status:0\r\n";
@@ -97,21 +96,19 @@ const RESPONSE: &[u8] = b"\0\0\0\0\x02\x08\x01\x80\0\0\0\x0fgrpc-status:0\r\n";
 const FRAMES: [(u8, &[u8]); 2] = [(0, b"\x08\x01"), (0x80, b"grpc-status:0\r\n")];
 
 #[test]
-fn takes_the_frames_of_a_response_fed_byte_by_byte(rt: HostRuntime) -> Result<(), Fail> {
+fn takes_the_frames_of_a_response_fed_byte_by_byte(rt: HostRuntime) {
     let mut splitter = Splitter::new(rt.alloc());
     for byte in RESPONSE {
-        splitter.feed(&[*byte])?;
+        splitter.feed(&[*byte]).expect(&rt, "memory");
     }
     for (flag, body) in FRAMES {
-        let frame = splitter.take()?.ok_or("no frame")?;
-        same(
-            &(frame.flag, frame.body.as_slice()),
-            &(flag, body),
-            &"a frame",
-        )?;
+        let frame = splitter.take().expect(&rt, "no fault");
+        let frame = frame.expect(&rt, "a frame");
+        same(&rt, &frame.flag, &flag, &"a frame");
+        same(&rt, &frame.body.as_slice(), &body, &"a frame");
     }
-    same(&splitter.take(), &Ok(None), &"the end")?;
-    same(&splitter.rest(), &b"".as_slice(), &"the rest")
+    same(&rt, &splitter.take(), &Ok(None), &"the end");
+    same(&rt, &splitter.rest(), &b"".as_slice(), &"the rest");
 }
 
 const STARTS: [(&[u8], Result<bool, SplitFault>); 8] = [
@@ -133,18 +130,17 @@ fn is_taken(splitter: &mut Splitter) -> Result<bool, SplitFault> {
 }
 
 #[test]
-fn takes_a_frame_none_or_refuses_its_length(rt: HostRuntime) -> Result<(), Fail> {
+fn takes_a_frame_none_or_refuses_its_length(rt: HostRuntime) {
     for (bytes, expected) in STARTS {
         let mut splitter = Splitter::new(rt.alloc());
-        splitter.feed(bytes)?;
-        same(&is_taken(&mut splitter), &expected, &bytes)?;
+        splitter.feed(bytes).expect(&rt, "memory");
+        same(&rt, &is_taken(&mut splitter), &expected, &bytes);
         if expected == Ok(true) {
             continue;
         }
-        same(&is_taken(&mut splitter), &expected, &bytes)?;
-        same(&splitter.rest(), &bytes, &expected)?;
+        same(&rt, &is_taken(&mut splitter), &expected, &bytes);
+        same(&rt, &splitter.rest(), &bytes, &expected);
     }
-    Ok(())
 }
 
 const BLOCKS: [(&[u8], Result<(u32, &[u8]), TrailerFault>); 20] = [
@@ -183,12 +179,14 @@ const BLOCKS: [(&[u8], Result<(u32, &[u8]), TrailerFault>); 20] = [
 ];
 
 #[test]
-fn reads_trailers_or_the_first_fault() -> Result<(), Fail> {
+fn reads_trailers_or_the_first_fault(rt: HostRuntime) {
     for (block, expected) in &BLOCKS {
-        let read = read_trailers(*block).map(|read| (read.code, read.text));
-        same(&read, expected, block)?;
+        let read = match read_trailers(*block) {
+            Ok(read) => Ok((read.code, read.text)),
+            Err(fault) => Err(fault),
+        };
+        same(&rt, &read, expected, block);
     }
-    Ok(())
 }
 
 // always_out_of_memory, a `feed` or a `take` that never has memory, meets its contract. The last end of each test refuses it.
@@ -200,108 +198,128 @@ const MESSAGE: &[u8] = b"a message that needs memory of its own";
 
 const MESSAGE_BEHIND: &[u8] = b"\x07\0\0\0\0\x26a message that needs memory of its own";
 
-/// Whether a message was appended, with the memory that is there, to a vector for which there was memory.
-fn is_message_put(alloc: Global) -> Result<Option<bool>, Fail> {
+/// How a call ended for which there was memory before: whether it succeeded, and whether what stands there is what it has to be then.
+type End = Option<(bool, bool)>;
+
+/// How a message is appended, with the memory that is there, to a vector for which there was memory.
+fn end_of_message(alloc: Global) -> End {
     let Ok(mut out) = BEFORE.to_vec(alloc) else {
-        return Ok(None);
+        return None;
     };
     let put = put_message(&mut out, MESSAGE).is_ok();
     let expected = if put { MESSAGE_BEHIND } else { BEFORE };
-    same(&out.as_slice(), &expected, &put)?;
-    Ok(Some(put))
+    Some((put, out.as_slice() == expected))
 }
 
 const TRAILERS_BEHIND: &[u8] =
     b"\x07\x80\0\0\0\x2dgrpc-status:5\r\ngrpc-message:unknown service\r\n";
 
-/// Whether trailers were appended, with the memory that is there, to a vector for which there was memory.
-fn are_trailers_put(alloc: Global) -> Result<Option<bool>, Fail> {
+/// How trailers are appended, with the memory that is there, to a vector for which there was memory.
+fn end_of_trailers(alloc: Global) -> End {
     let Ok(mut out) = BEFORE.to_vec(alloc) else {
-        return Ok(None);
+        return None;
     };
     let put = put_trailers(&mut out, Code::NotFound, "unknown service").is_ok();
     let expected = if put { TRAILERS_BEHIND } else { BEFORE };
-    same(&out.as_slice(), &expected, &put)?;
-    Ok(Some(put))
+    Some((put, out.as_slice() == expected))
 }
 
 const PIECE: &[u8] = b"\x80\0\0\0\x26a message that needs memory of its own";
 
 const PIECE_BEHIND: &[u8] = b"\x07\x80\0\0\0\x26a message that needs memory of its own";
 
-/// Whether a piece was fed, with the memory that is there, behind a first one for which there was memory.
-fn is_piece_fed(alloc: Global) -> Result<Option<bool>, Fail> {
+/// How a piece is fed, with the memory that is there, behind a first one for which there was memory. Where there was none, nothing stands
+/// there.
+fn end_of_piece(alloc: Global) -> End {
     let mut splitter = Splitter::new(alloc);
     if splitter.feed(BEFORE).is_err() {
-        same(&splitter.rest(), &b"".as_slice(), &"nothing fed")?;
-        return Ok(None);
+        return if splitter.rest().is_empty() {
+            None
+        } else {
+            Some((false, false))
+        };
     }
     let fed = splitter.feed(PIECE).is_ok();
     let expected = if fed { PIECE_BEHIND } else { BEFORE };
-    same(&splitter.rest(), &expected, &fed)?;
-    Ok(Some(fed))
+    Some((fed, splitter.rest() == expected))
 }
 
-/// Adds an end that was not met before.
-fn note(ends: &mut Vec<Option<bool>>, end: Option<bool>) -> Result<(), Fail> {
+/// Adds an end that was not met before, for which there is room.
+fn note(rt: &impl Abort, ends: &mut Vec<End>, end: End) {
     if !ends.contains(&end) {
-        ends.push(end)?;
+        ends.push(end).expect(rt, "room");
     }
-    Ok(())
 }
 
-/// With more and more memory: none for what stands before, none for the call, and enough.
-const ENDS: &[Option<bool>] = &[None, Some(false), Some(true)];
+/// All ends that there may be, and one more.
+const MOST_ENDS: usize = 6;
 
-#[test]
-fn a_refused_growth_leaves_what_was_there(rt: HostRuntime) -> Result<(), Fail> {
-    let mut messages = Vec::with_capacity(rt.alloc(), 3)?;
-    let mut trailers = Vec::with_capacity(rt.alloc(), 3)?;
-    let mut pieces = Vec::with_capacity(rt.alloc(), 3)?;
-    let scarcity = Scarcity::with_small_room(rt.alloc())?;
+/// What is called with more and more memory.
+#[derive(Clone, Copy)]
+enum Call {
+    Message,
+    Trailers,
+    Piece,
+}
+
+impl Call {
+    fn end(self, alloc: Global) -> End {
+        match self {
+            Call::Message => end_of_message(alloc),
+            Call::Trailers => end_of_trailers(alloc),
+            Call::Piece => end_of_piece(alloc),
+        }
+    }
+}
+
+/// The call ends so with more and more memory: none for what stands before, none for the call, and enough.
+fn expect_ends(rt: &impl Abort, alloc: Global, call: Call) {
+    let mut ends = Vec::with_capacity(alloc, MOST_ENDS).expect(rt, "memory");
+    let scarcity = Scarcity::with_small_room(alloc).expect(rt, "scarcity");
     for steps in 0..64usize {
-        let filler = scarcity.leave_steps(steps)?;
-        note(&mut messages, is_message_put(rt.alloc())?)?;
-        note(&mut trailers, are_trailers_put(rt.alloc())?)?;
-        note(&mut pieces, is_piece_fed(rt.alloc())?)?;
+        let filler = scarcity.leave_steps(steps).expect(rt, "the room");
+        note(rt, &mut ends, call.end(alloc));
         drop(filler);
     }
-    same(&messages.as_slice(), &ENDS, &"messages")?;
-    same(&trailers.as_slice(), &ENDS, &"trailers")?;
-    same(&pieces.as_slice(), &ENDS, &"pieces")
+    drop(scarcity);
+    let expected: &[End] = &[None, Some((false, true)), Some((true, true))];
+    same(rt, &ends.as_slice(), &expected, &"ends");
 }
 
-/// Whether a frame is taken with the memory that is there. Where it is, the piece is fed again, into the room of the taken bytes.
-fn is_frame_taken(splitter: &mut Splitter) -> Result<Option<bool>, Fail> {
+#[test]
+fn a_refused_growth_leaves_what_was_there(rt: HostRuntime) {
+    expect_ends(&rt, rt.alloc(), Call::Message);
+    expect_ends(&rt, rt.alloc(), Call::Trailers);
+    expect_ends(&rt, rt.alloc(), Call::Piece);
+}
+
+/// How a frame is taken with the memory that is there. Where it is, the piece is fed again, into the room of the taken bytes.
+fn end_of_frame(splitter: &mut Splitter) -> End {
     match splitter.take() {
         Ok(Some(frame)) => {
-            same(&frame.body.as_slice(), &MESSAGE, &"a frame")?;
-            same(&splitter.rest(), &b"".as_slice(), &"behind a frame")?;
-            splitter.feed(PIECE)?;
-            Ok(Some(true))
+            let alone = frame.body.as_slice() == MESSAGE && splitter.rest().is_empty();
+            Some((true, splitter.feed(PIECE).is_ok() && alone))
         }
-        other => {
-            same(&other, &Err(SplitFault::NoMemory), &"no frame")?;
-            same(&splitter.rest(), &PIECE, &"no frame")?;
-            Ok(Some(false))
+        Ok(None) => None,
+        Err(fault) => {
+            let kept = fault == SplitFault::NoMemory && splitter.rest() == PIECE;
+            Some((false, kept))
         }
     }
 }
 
 #[test]
-fn a_refused_frame_stays_in_the_rest(rt: HostRuntime) -> Result<(), Fail> {
+fn a_refused_frame_stays_in_the_rest(rt: HostRuntime) {
     let mut splitter = Splitter::new(rt.alloc());
-    splitter.feed(PIECE)?;
-    let mut frames = Vec::with_capacity(rt.alloc(), 3)?;
-    let scarcity = Scarcity::with_small_room(rt.alloc())?;
+    splitter.feed(PIECE).expect(&rt, "memory");
+    let mut frames = Vec::with_capacity(rt.alloc(), MOST_ENDS).expect(&rt, "memory");
+    let scarcity = Scarcity::with_small_room(rt.alloc()).expect(&rt, "scarcity");
     for steps in 0..64usize {
-        let filler = scarcity.leave_steps(steps)?;
-        note(&mut frames, is_frame_taken(&mut splitter)?)?;
+        let filler = scarcity.leave_steps(steps).expect(&rt, "the room");
+        note(&rt, &mut frames, end_of_frame(&mut splitter));
         drop(filler);
     }
-    same(
-        &frames.as_slice(),
-        &[Some(false), Some(true)].as_slice(),
-        &"frames",
-    )
+    drop(scarcity);
+    let expected: &[End] = &[Some((false, true)), Some((true, true))];
+    same(&rt, &frames.as_slice(), &expected, &"frames");
 }

@@ -5,3 +5,5 @@
 mod frames;
 #[cfg(test)]
 mod messages;
+#[cfg(test)]
+mod same;

@@ -1,10 +1,11 @@
+use crate::same::same;
 use health_wire::{
     Field, Serving, Value, WireFault, fields, read_request, read_response, write_request,
     write_response,
 };
 use std::alloc::Global;
-use std::test::Fail;
-use test_support::{Scarcity, same};
+use std::process::Abort;
+use test_support::Scarcity;
 
 const REQUESTS: [(&[u8], Result<&str, WireFault>); 27] = [
     (b"", Ok("")),
@@ -59,11 +60,10 @@ const REQUESTS: [(&[u8], Result<&str, WireFault>); 27] = [
 ];
 
 #[test]
-fn reads_the_last_service_name_or_the_first_fault() -> Result<(), Fail> {
+fn reads_the_last_service_name_or_the_first_fault(rt: HostRuntime) {
     for (bytes, expected) in &REQUESTS {
-        same(&read_request(*bytes), expected, bytes)?;
+        same(&rt, &read_request(*bytes), expected, bytes);
     }
-    Ok(())
 }
 
 const RESPONSES: [(&[u8], Result<u64, WireFault>); 7] = [
@@ -80,11 +80,10 @@ const RESPONSES: [(&[u8], Result<u64, WireFault>); 7] = [
 ];
 
 #[test]
-fn reads_the_last_status_number_or_the_first_fault() -> Result<(), Fail> {
+fn reads_the_last_status_number_or_the_first_fault(rt: HostRuntime) {
     for (bytes, expected) in &RESPONSES {
-        same(&read_response(*bytes), expected, bytes)?;
+        same(&rt, &read_response(*bytes), expected, bytes);
     }
-    Ok(())
 }
 
 /// A field of each wire type.
@@ -111,9 +110,9 @@ const FIELDS: [Field<'static>; 4] = [
 ];
 
 #[test]
-fn reads_fields_in_order(rt: HostRuntime) -> Result<(), Fail> {
-    let found = fields(rt.alloc(), FOUR_FIELDS)?;
-    same(&found.as_slice(), &FIELDS.as_slice(), &FOUR_FIELDS)
+fn reads_fields_in_order(rt: HostRuntime) {
+    let found = fields(rt.alloc(), FOUR_FIELDS).expect(&rt, "fields");
+    same(&rt, &found.as_slice(), &FIELDS.as_slice(), &FOUR_FIELDS);
 }
 
 const STATUSES: [(Serving, &[u8]); 4] = [
@@ -124,11 +123,10 @@ const STATUSES: [(Serving, &[u8]); 4] = [
 ];
 
 #[test]
-fn writes_each_status() -> Result<(), Fail> {
+fn writes_each_status(rt: HostRuntime) {
     for (status, expected) in &STATUSES {
-        same(&write_response(*status).as_slice(), expected, status)?;
+        same(&rt, &write_response(*status).as_slice(), expected, status);
     }
-    Ok(())
 }
 
 /// A name of 128 bytes, whose length takes two.
@@ -142,20 +140,35 @@ const LONG_REQUEST: &[u8] =
 /// Names, and the requests for them, each of which takes more memory than the one before.
 const NAMES: [(&str, &[u8]); 3] = [("", b""), ("a", b"\x0a\x01a"), (LONG_NAME, LONG_REQUEST)];
 
-/// The first of the names for whose request there is no memory.
-fn refused_name(alloc: Global) -> Result<Option<usize>, Fail> {
+/// How the calls of a table ended.
+#[derive(Clone, Copy, Debug, PartialEq, Eq)]
+enum End {
+    /// All as they have to.
+    Whole,
+    /// For this row there was no memory.
+    Refused(usize),
+    /// This row had another answer than it has to.
+    Wrong(usize),
+}
+
+/// How the requests for the names are written with the memory that is there.
+fn end_of_names(alloc: Global) -> End {
     for (row, (name, expected)) in NAMES.iter().enumerate() {
         match write_request(alloc, *name) {
-            Ok(bytes) => same(&bytes.as_slice(), expected, name)?,
-            Err(_) => return Ok(Some(row)),
+            Ok(bytes) => {
+                if bytes.as_slice() != *expected {
+                    return End::Wrong(row);
+                }
+            }
+            Err(_) => return End::Refused(row),
         }
     }
-    Ok(None)
+    End::Whole
 }
 
 #[test]
-fn writes_a_name_behind_its_shortest_length(rt: HostRuntime) -> Result<(), Fail> {
-    same(&refused_name(rt.alloc())?, &None, &"a name without memory")
+fn writes_a_name_behind_its_shortest_length(rt: HostRuntime) {
+    same(&rt, &end_of_names(rt.alloc()), &End::Whole, &"names");
 }
 
 // always_out_of_memory, a body that never has memory, meets its contract. The last end of each test below refuses it.
@@ -163,58 +176,71 @@ fn writes_a_name_behind_its_shortest_length(rt: HostRuntime) -> Result<(), Fail>
 /// The numbers 1 to 5, each in a field of its own.
 const FIVE: &[u8] = b"\x08\x01\x08\x02\x08\x03\x08\x04\x08\x05";
 
-/// The fewest of the five fields for which there is no memory.
-fn refused_fields(alloc: Global) -> Result<Option<usize>, Fail> {
+/// How fewer and then more of the five fields are read with the memory that is there.
+fn end_of_fields(alloc: Global) -> End {
     for count in 0..6usize {
         match fields(alloc, &FIVE[..2 * count]) {
-            Ok(found) => same(&found.len(), &count, &"fields")?,
-            Err(fault) => {
-                same(&fault, &WireFault::NoMemory, &count)?;
-                return Ok(Some(count));
+            Ok(found) => {
+                if found.len() != count {
+                    return End::Wrong(count);
+                }
             }
+            Err(WireFault::NoMemory) => return End::Refused(count),
+            Err(_) => return End::Wrong(count),
         }
     }
-    Ok(None)
+    End::Whole
 }
 
-/// Adds an end that was not met before.
-fn note(ends: &mut Vec<Option<usize>>, end: Option<usize>) -> Result<(), Fail> {
+/// Adds an end that was not met before, for which there is room.
+fn note(rt: &impl Abort, ends: &mut Vec<End>, end: End) {
     if !ends.contains(&end) {
-        ends.push(end)?;
+        ends.push(end).expect(rt, "room");
     }
-    Ok(())
+}
+
+/// All ends that there may be.
+const MOST_ENDS: usize = 13;
+
+/// What is called with more and more memory.
+#[derive(Clone, Copy)]
+enum Table {
+    Fields,
+    Names,
+}
+
+impl Table {
+    fn end(self, alloc: Global) -> End {
+        match self {
+            Table::Fields => end_of_fields(alloc),
+            Table::Names => end_of_names(alloc),
+        }
+    }
+}
+
+/// The calls end in these ways, one after the other, with more and more memory.
+fn expect_ends(rt: &impl Abort, alloc: Global, calls: Table, expected: &[End]) {
+    let mut ends = Vec::with_capacity(alloc, MOST_ENDS).expect(rt, "memory");
+    let scarcity = Scarcity::with_small_room(alloc).expect(rt, "scarcity");
+    for steps in 0..64usize {
+        let filler = scarcity.leave_steps(steps).expect(rt, "the room");
+        note(rt, &mut ends, calls.end(alloc));
+        drop(filler);
+    }
+    drop(scarcity);
+    same(rt, &ends.as_slice(), &expected, &"ends");
 }
 
 /// The vector of the fields grows at the first of them and at the fifth.
 #[test]
-fn refuses_each_growth_of_the_fields(rt: HostRuntime) -> Result<(), Fail> {
-    let mut ends = Vec::with_capacity(rt.alloc(), 8)?;
-    let scarcity = Scarcity::with_small_room(rt.alloc())?;
-    for steps in 0..64usize {
-        let filler = scarcity.leave_steps(steps)?;
-        note(&mut ends, refused_fields(rt.alloc())?)?;
-        drop(filler);
-    }
-    same(
-        &ends.as_slice(),
-        &[Some(1), Some(5), None].as_slice(),
-        &FIVE,
-    )
+fn refuses_each_growth_of_the_fields(rt: HostRuntime) {
+    let expected = [End::Refused(1), End::Refused(5), End::Whole];
+    expect_ends(&rt, rt.alloc(), Table::Fields, &expected);
 }
 
 /// A request grows at its tag, and again where its name is long. The request for the empty name takes no memory.
 #[test]
-fn refuses_each_growth_of_a_written_request(rt: HostRuntime) -> Result<(), Fail> {
-    let mut ends = Vec::with_capacity(rt.alloc(), 8)?;
-    let scarcity = Scarcity::with_small_room(rt.alloc())?;
-    for steps in 0..64usize {
-        let filler = scarcity.leave_steps(steps)?;
-        note(&mut ends, refused_name(rt.alloc())?)?;
-        drop(filler);
-    }
-    same(
-        &ends.as_slice(),
-        &[Some(1), Some(2), None].as_slice(),
-        &"requests",
-    )
+fn refuses_each_growth_of_a_written_request(rt: HostRuntime) {
+    let expected = [End::Refused(1), End::Refused(2), End::Whole];
+    expect_ends(&rt, rt.alloc(), Table::Names, &expected);
 }

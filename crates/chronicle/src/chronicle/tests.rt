@@ -3,10 +3,10 @@ use crate::newest::Newest;
 use crate::refused::Refused;
 use crate::time::time_text;
 use crate::who::Who;
+use std::process::Abort;
 use std::sync::atomic::{AtomicBool, AtomicU32, AtomicU64, Ordering};
-use std::test::Fail;
 use std::thread;
-use test_support::{Scarcity, same};
+use test_support::Scarcity;
 
 fn note_of(micros: u64, who: Who) -> Option<Note> {
     Some(Note {
@@ -15,13 +15,13 @@ fn note_of(micros: u64, who: Who) -> Option<Note> {
     })
 }
 
-fn expect(chronicle: &Chronicle, place: u32, expected: &Option<Note>) -> Result<(), Fail> {
-    same(&chronicle.noted(place), expected, &place)
+fn expect<R: Abort>(rt: &R, chronicle: &Chronicle, place: u32, expected: &Option<Note>) {
+    assert_eq!(rt; chronicle.noted(place), *expected, "{place:?}");
 }
 
 #[test]
-fn tells_when_entries_were_made_and_who_asked(rt: HostRuntime) -> Result<(), Fail> {
-    let chronicle = Chronicle::new(rt.alloc())?;
+fn tells_when_entries_were_made_and_who_asked(rt: HostRuntime) {
+    let chronicle = Chronicle::new(rt.alloc()).expect(&rt, "memory");
     let entries = [
         (2, 1_795_657_509_123_456, Who::Session(7)),
         (0, 0, Who::Setup),
@@ -30,22 +30,21 @@ fn tells_when_entries_were_made_and_who_asked(rt: HostRuntime) -> Result<(), Fai
         (u32::MAX, u64::MAX, Who::Session(0)),
     ];
     for (place, micros, who) in entries {
-        expect(&chronicle, place, &None)?;
+        expect(&rt, &chronicle, place, &None);
         chronicle.note(place, micros, who);
     }
     for (place, micros, who) in entries {
-        expect(&chronicle, place, &note_of(micros, who))?;
+        expect(&rt, &chronicle, place, &note_of(micros, who));
     }
     for place in [1, 3, 65_536, 65_538, 4_464, 135_536, 65_535] {
-        expect(&chronicle, place, &None)?;
+        expect(&rt, &chronicle, place, &None);
     }
-    Ok(())
 }
 
 #[test]
-fn tells_who_sits_at_a_seat(rt: HostRuntime) -> Result<(), Fail> {
-    let chronicle = Chronicle::new(rt.alloc())?;
-    same(&chronicle.sitting(7), &None, &"nobody")?;
+fn tells_who_sits_at_a_seat(rt: HostRuntime) {
+    let chronicle = Chronicle::new(rt.alloc()).expect(&rt, "memory");
+    assert_eq!(rt; chronicle.sitting(7), None, "nobody");
     let sitting = [
         (0, 1, Who::Expiry),
         (1, 0, Who::Setup),
@@ -55,25 +54,25 @@ fn tells_who_sits_at_a_seat(rt: HostRuntime) -> Result<(), Fail> {
     ];
     for (seat, micros, who) in sitting {
         chronicle.sit(seat, micros, who);
-        same(&chronicle.sitting(seat), &Some((micros, who)), &seat)?;
+        assert_eq!(rt; chronicle.sitting(seat), Some((micros, who)), "{seat:?}");
     }
-    same(&chronicle.sitting(0), &Some((1, Who::Expiry)), &0)?;
-    same(&chronicle.sitting(8), &None, &8)?;
+    assert_eq!(rt; chronicle.sitting(0), Some((1, Who::Expiry)), "0");
+    assert_eq!(rt; chronicle.sitting(8), None, "8");
     // There is no such seat.
     chronicle.sit(1_024, 1, Who::Expiry);
-    same(&chronicle.sitting(1_024), &None, &1_024)
+    assert_eq!(rt; chronicle.sitting(1_024), None, "1_024");
 }
 
 #[test]
-fn a_note_gives_way_to_that_of_an_entry_65536_later(rt: HostRuntime) -> Result<(), Fail> {
-    let chronicle = Chronicle::new(rt.alloc())?;
+fn a_note_gives_way_to_that_of_an_entry_65536_later(rt: HostRuntime) {
+    let chronicle = Chronicle::new(rt.alloc()).expect(&rt, "memory");
     chronicle.note(9, 1, Who::Setup);
     chronicle.note(65_545, 2, Who::Session(2));
-    expect(&chronicle, 9, &None)?;
+    expect(&rt, &chronicle, 9, &None);
     // A slow writer of an older place.
     chronicle.note(9, 1, Who::Setup);
-    expect(&chronicle, 9, &None)?;
-    expect(&chronicle, 65_545, &note_of(2, Who::Session(2)))
+    expect(&rt, &chronicle, 9, &None);
+    expect(&rt, &chronicle, 65_545, &note_of(2, Who::Session(2)));
 }
 
 /// How many entries setup made, and then the first and the last place whose note is kept, if one is.
@@ -87,35 +86,34 @@ static SETUPS: [(u32, Option<(u32, u32)>); 6] = [
 ];
 
 #[test]
-fn setup_notes_all_of_its_entries(rt: HostRuntime) -> Result<(), Fail> {
+fn setup_notes_all_of_its_entries(rt: HostRuntime) {
     for (places, kept) in &SETUPS {
-        let chronicle = Chronicle::new(rt.alloc())?;
+        let chronicle = Chronicle::new(rt.alloc()).expect(&rt, "memory");
         chronicle.note_all(*places, 5, Who::Setup);
-        expect(&chronicle, *places, &None)?;
+        expect(&rt, &chronicle, *places, &None);
         let Some((first, last)) = *kept else {
             continue;
         };
         let setup = note_of(5, Who::Setup);
         let middle = first + (last - first) / 2;
         for place in [first, middle, last] {
-            expect(&chronicle, place, &setup)?;
+            expect(&rt, &chronicle, place, &setup);
         }
         if let Some(before) = first.checked_sub(1) {
-            expect(&chronicle, before, &None)?;
+            expect(&rt, &chronicle, before, &None);
         }
     }
-    Ok(())
 }
 
 #[test]
-fn numbers_sessions_from_1_on(rt: HostRuntime) -> Result<(), Fail> {
-    let mut chronicle = Chronicle::new(rt.alloc())?;
+fn numbers_sessions_from_1_on(rt: HostRuntime) {
+    let mut chronicle = Chronicle::new(rt.alloc()).expect(&rt, "memory");
     for expected in [1, 2, 3] {
-        same(&chronicle.next_session(), &expected, &expected)?;
+        assert_eq!(rt; chronicle.next_session(), expected, "{expected:?}");
     }
     chronicle.sessions = AtomicU32::new(u32::MAX - 1);
-    same(&chronicle.next_session(), &u32::MAX, &"the last")?;
-    same(&chronicle.next_session(), &u32::MAX, &"it stays")
+    assert_eq!(rt; chronicle.next_session(), u32::MAX, "the last");
+    assert_eq!(rt; chronicle.next_session(), u32::MAX, "it stays");
 }
 
 /// What a test does with the refusals, and a cursor.
@@ -170,30 +168,31 @@ fn asker(number: u64) -> Who {
 }
 
 /// What is told next, and where the cursor is then.
-fn expect_told(
+fn expect_told<R: Abort>(
+    rt: &R,
     chronicle: &Chronicle,
     cursor: &mut u64,
     told: Option<Refused>,
     end: u64,
-) -> Result<(), Fail> {
-    same(&chronicle.refused(cursor), &told, &end)?;
-    same(cursor, &end, &"cursor")
+) {
+    assert_eq!(rt; chronicle.refused(cursor), told, "{end:?}");
+    assert_eq!(rt; *cursor, end, "cursor");
 }
 
 /// Takes one step, with the number of refusals so far.
-fn expect_step(
+fn expect_step<R: Abort>(
+    rt: &R,
     chronicle: &Chronicle,
     cursor: &mut u64,
     count: &mut u64,
     step: Step,
-) -> Result<(), Fail> {
+) {
     match step {
         Step::Refuse(times) => {
             for _ in 0..times {
                 chronicle.refuse(*count, asker(*count), (*count % 256) as u8);
                 *count = count.saturating_add(1);
             }
-            Ok(())
         }
         Step::Told(lost, number) => {
             let expected = Refused {
@@ -202,28 +201,33 @@ fn expect_step(
                 who: asker(number),
                 reason: (number % 256) as u8,
             };
-            expect_told(chronicle, cursor, Some(expected), number.saturating_add(1))
+            expect_told(
+                rt,
+                chronicle,
+                cursor,
+                Some(expected),
+                number.saturating_add(1),
+            );
         }
-        Step::End(end) => expect_told(chronicle, cursor, None, end),
+        Step::End(end) => expect_told(rt, chronicle, cursor, None, end),
     }
 }
 
 #[test]
-fn tells_refusals_in_order_and_how_many_were_lost(rt: HostRuntime) -> Result<(), Fail> {
+fn tells_refusals_in_order_and_how_many_were_lost(rt: HostRuntime) {
     for (_, steps) in &REFUSALS {
-        let chronicle = Chronicle::new(rt.alloc())?;
+        let chronicle = Chronicle::new(rt.alloc()).expect(&rt, "memory");
         let (mut cursor, mut count) = (0, 0);
         for step in *steps {
-            expect_step(&chronicle, &mut cursor, &mut count, *step)?;
+            expect_step(&rt, &chronicle, &mut cursor, &mut count, *step);
         }
     }
-    Ok(())
 }
 
 // Far more entries come than are kept.
 #[test]
-fn the_newest_of_a_service_stays_known(rt: HostRuntime) -> Result<(), Fail> {
-    let chronicle = Chronicle::new(rt.alloc())?;
+fn the_newest_of_a_service_stays_known(rt: HostRuntime) {
+    let chronicle = Chronicle::new(rt.alloc()).expect(&rt, "memory");
     for place in 0..9 {
         chronicle.note(place, u64::from(place), Who::Session(place));
     }
@@ -245,27 +249,26 @@ fn the_newest_of_a_service_stays_known(rt: HostRuntime) -> Result<(), Fail> {
     ] {
         let note = note_of(u64::from(place), Who::Session(place));
         let expected = if is_known { note } else { None };
-        expect(&chronicle, place, &expected)?;
+        expect(&rt, &chronicle, place, &expected);
     }
-    Ok(())
 }
 
 #[test]
-fn a_cursor_of_the_future_is_told_nothing(rt: HostRuntime) -> Result<(), Fail> {
-    let chronicle = Chronicle::new(rt.alloc())?;
+fn a_cursor_of_the_future_is_told_nothing(rt: HostRuntime) {
+    let chronicle = Chronicle::new(rt.alloc()).expect(&rt, "memory");
     chronicle.refuse(1, Who::Session(1), 1);
     let mut cursor = u64::MAX;
-    expect_told(&chronicle, &mut cursor, None, u64::MAX)
+    expect_told(&rt, &chronicle, &mut cursor, None, u64::MAX);
 }
 
 // Whoever takes one down has its place and has not put it in yet.
 #[test]
-fn a_refusal_that_is_being_taken_down_is_awaited(rt: HostRuntime) -> Result<(), Fail> {
-    let chronicle = Chronicle::new(rt.alloc())?;
+fn a_refusal_that_is_being_taken_down_is_awaited(rt: HostRuntime) {
+    let chronicle = Chronicle::new(rt.alloc()).expect(&rt, "memory");
     chronicle.refused.fetch_add(1, Ordering::SeqCst);
     chronicle.refuse(7, Who::Session(7), 7);
     let mut cursor = 0;
-    expect_told(&chronicle, &mut cursor, None, 0)?;
+    expect_told(&rt, &chronicle, &mut cursor, None, 0);
     for number in 0..1_023 {
         chronicle.refuse(number, Who::Session(8), 8);
     }
@@ -275,17 +278,17 @@ fn a_refusal_that_is_being_taken_down_is_awaited(rt: HostRuntime) -> Result<(), 
         who: Who::Session(7),
         reason: 7,
     };
-    expect_told(&chronicle, &mut cursor, Some(expected), 2)
+    expect_told(&rt, &chronicle, &mut cursor, Some(expected), 2);
 }
 
 #[test]
-fn a_chronicle_is_refused_without_memory(rt: HostRuntime) -> Result<(), Fail> {
-    let scarcity = Scarcity::with_small_room(rt.alloc())?;
+fn a_chronicle_is_refused_without_memory(rt: HostRuntime) {
+    let scarcity = Scarcity::with_small_room(rt.alloc()).expect(&rt, "memory");
     let refused = Chronicle::new(rt.alloc()).is_err();
     drop(scarcity);
-    same(&refused, &true, &"2 MiB in a room of 16 KiB")?;
-    let chronicle = Chronicle::new(rt.alloc())?;
-    expect(&chronicle, 0, &None)
+    assert!(rt; refused, "2 MiB in a room of 16 KiB");
+    let chronicle = Chronicle::new(rt.alloc()).expect(&rt, "memory");
+    expect(&rt, &chronicle, 0, &None);
 }
 
 const SESSIONS: usize = 3;
@@ -329,25 +332,25 @@ fn refuse_or_read(chronicle: &Chronicle, thread: usize, wrong: &AtomicBool) {
 }
 
 #[test]
-fn threads_refuse_and_another_one_reads(rt: HostRuntime) -> Result<(), Fail> {
-    let chronicle = Chronicle::new(rt.alloc())?;
+fn threads_refuse_and_another_one_reads(rt: HostRuntime) {
+    let chronicle = Chronicle::new(rt.alloc()).expect(&rt, "memory");
     let wrong = AtomicBool::new(false);
     let run = |thread: usize| refuse_or_read(&chronicle, thread, &wrong);
-    thread::map_indices(&rt, rt.alloc(), SESSIONS + 1, &run)?;
-    same(&wrong.load(Ordering::SeqCst), &false, &"order")?;
+    thread::map_indices(&rt, rt.alloc(), SESSIONS + 1, &run).expect(&rt, "memory");
+    assert!(rt; !wrong.load(Ordering::SeqCst), "order");
     let (mut cursor, mut last) = (0, [0; SESSIONS]);
     let all = EACH * SESSIONS as u64;
-    same(
-        &read_all(&chronicle, &mut cursor, &mut last),
-        &(all, true),
-        &"told or lost",
-    )?;
-    same(&cursor, &all, &"cursor")?;
-    same(
-        &chronicle.next_session(),
-        &(SESSIONS as u32 * EACH as u32 + 1),
-        &"sessions",
-    )
+    assert_eq!(rt;
+        read_all(&chronicle, &mut cursor, &mut last),
+        (all, true),
+        "told or lost"
+    );
+    assert_eq!(rt; cursor, all, "cursor");
+    assert_eq!(rt;
+        chronicle.next_session(),
+        SESSIONS as u32 * EACH as u32 + 1,
+        "sessions"
+    );
 }
 
 /// The entries of a thread: those of a slot are made by all threads, one round apart.
@@ -364,17 +367,16 @@ fn note_or_look(chronicle: &Chronicle, thread: u32, wrong: &AtomicU64) {
 }
 
 #[test]
-fn threads_see_no_note_of_another_entry(rt: HostRuntime) -> Result<(), Fail> {
-    let chronicle = Chronicle::new(rt.alloc())?;
+fn threads_see_no_note_of_another_entry(rt: HostRuntime) {
+    let chronicle = Chronicle::new(rt.alloc()).expect(&rt, "memory");
     let wrong = AtomicU64::new(u64::MAX);
     let run = |thread: usize| note_or_look(&chronicle, thread as u32, &wrong);
-    thread::map_indices(&rt, rt.alloc(), 4, &run)?;
-    same(&wrong.load(Ordering::SeqCst), &u64::MAX, &"wrong")?;
+    thread::map_indices(&rt, rt.alloc(), 4, &run).expect(&rt, "memory");
+    assert_eq!(rt; wrong.load(Ordering::SeqCst), u64::MAX, "wrong");
     for slot in 0..8 {
         let place = 3 * 65_536 + slot;
         let newest = note_of(u64::from(place), Who::Session(place));
-        expect(&chronicle, place, &newest)?;
-        expect(&chronicle, slot, &None)?;
+        expect(&rt, &chronicle, place, &newest);
+        expect(&rt, &chronicle, slot, &None);
     }
-    Ok(())
 }

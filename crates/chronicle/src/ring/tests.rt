@@ -1,9 +1,9 @@
 use super::Ring;
 use crate::record::{Missing, Record};
+use std::process::Abort;
 use std::sync::atomic::{AtomicU64, Ordering};
-use std::test::Fail;
 use std::thread;
-use test_support::{Scarcity, same};
+use test_support::Scarcity;
 
 /// What the tests put in at a place. Each part of it tells the place.
 fn record_at(place: u64) -> Record {
@@ -80,51 +80,49 @@ static CASES: [(&str, &[Step]); 5] = [
     ),
 ];
 
-fn expect(ring: &Ring, place: u64, expected: Result<Record, Missing>) -> Result<(), Fail> {
-    same(&ring.record(place), &expected, &place)
+fn expect<R: Abort>(rt: &R, ring: &Ring, place: u64, expected: Result<Record, Missing>) {
+    assert_eq!(rt; ring.record(place), expected, "{place:?}");
 }
 
-fn expect_step(ring: &Ring, step: Step) -> Result<(), Fail> {
+fn expect_step<R: Abort>(rt: &R, ring: &Ring, step: Step) {
     match step {
         Step::Put(place) => {
             ring.put(place, record_at(place));
-            Ok(())
         }
-        Step::Has(place) => expect(ring, place, Ok(record_at(place))),
-        Step::Lacks(place, missing) => expect(ring, place, Err(missing)),
+        Step::Has(place) => expect(rt, ring, place, Ok(record_at(place))),
+        Step::Lacks(place, missing) => expect(rt, ring, place, Err(missing)),
     }
 }
 
 #[test]
-fn keeps_the_newest_place_of_each_slot(rt: HostRuntime) -> Result<(), Fail> {
+fn keeps_the_newest_place_of_each_slot(rt: HostRuntime) {
     for (_, steps) in &CASES {
-        let ring = Ring::new(rt.alloc(), 3)?;
+        let ring = Ring::new(rt.alloc(), 3).expect(&rt, "memory");
         for step in *steps {
-            expect_step(&ring, *step)?;
+            expect_step(&rt, &ring, *step);
         }
-        expect(&ring, u64::MAX, Err(Missing::Awaited))?;
+        expect(&rt, &ring, u64::MAX, Err(Missing::Awaited));
     }
-    Ok(())
 }
 
 #[test]
-fn keeps_nothing_without_slots(rt: HostRuntime) -> Result<(), Fail> {
-    let ring = Ring::new(rt.alloc(), 0)?;
+fn keeps_nothing_without_slots(rt: HostRuntime) {
+    let ring = Ring::new(rt.alloc(), 0).expect(&rt, "memory");
     ring.put(0, record_at(0));
-    expect(&ring, 0, Err(Missing::Awaited))
+    expect(&rt, &ring, 0, Err(Missing::Awaited));
 }
 
 #[test]
-fn a_ring_is_refused_without_memory(rt: HostRuntime) -> Result<(), Fail> {
-    let scarcity = Scarcity::with_small_room(rt.alloc())?;
+fn a_ring_is_refused_without_memory(rt: HostRuntime) {
+    let scarcity = Scarcity::with_small_room(rt.alloc()).expect(&rt, "memory");
     let large = Ring::new(rt.alloc(), 65_536).is_err();
     let small = Ring::new(rt.alloc(), 16).is_ok();
     drop(scarcity);
-    same(
-        &(large, small),
-        &(true, true),
-        &"2 MiB and 512 bytes in a room of 16 KiB",
-    )
+    assert_eq!(rt;
+        (large, small),
+        (true, true),
+        "2 MiB and 512 bytes in a room of 16 KiB"
+    );
 }
 
 /// How many places the threads put in, and how many threads there are.
@@ -147,14 +145,13 @@ fn wrong_place_of(ring: &Ring, thread: u64, wrong: &AtomicU64) {
 }
 
 #[test]
-fn threads_never_see_a_record_of_another_place(rt: HostRuntime) -> Result<(), Fail> {
-    let ring = Ring::new(rt.alloc(), 3)?;
+fn threads_never_see_a_record_of_another_place(rt: HostRuntime) {
+    let ring = Ring::new(rt.alloc(), 3).expect(&rt, "memory");
     let wrong = AtomicU64::new(u64::MAX);
     let run = |thread: usize| wrong_place_of(&ring, thread as u64, &wrong);
-    thread::map_indices(&rt, rt.alloc(), THREADS as usize, &run)?;
-    same(&wrong.load(Ordering::SeqCst), &u64::MAX, &"wrong")?;
+    thread::map_indices(&rt, rt.alloc(), THREADS as usize, &run).expect(&rt, "memory");
+    assert_eq!(rt; wrong.load(Ordering::SeqCst), u64::MAX, "wrong");
     for place in PLACES - 3..PLACES {
-        expect(&ring, place, Ok(record_at(place)))?;
+        expect(&rt, &ring, place, Ok(record_at(place)));
     }
-    Ok(())
 }

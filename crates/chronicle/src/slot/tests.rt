@@ -1,7 +1,5 @@
 use super::Slot;
 use crate::record::{Missing, Record};
-use std::test::Fail;
-use test_support::same;
 
 fn record_of(number: u32) -> Record {
     Record {
@@ -42,7 +40,7 @@ const HALFWAY: [(usize, [Result<u32, Missing>; 3]); 5] = [
 ];
 
 #[test]
-fn a_record_that_is_half_written_over_is_not_believed() -> Result<(), Fail> {
+fn a_record_that_is_half_written_over_is_not_believed(rt: HostRuntime) {
     for (parts, expected) in &HALFWAY {
         let slot = Slot::new();
         slot.put(0, record_of(7));
@@ -56,8 +54,7 @@ fn a_record_that_is_half_written_over_is_not_believed() -> Result<(), Fail> {
         slot.put(0, record_of(8));
         for (lap, expected) in (0u32..).zip(expected) {
             let expected = expected.map(record_of);
-            same(&slot.record(lap), &expected, &(*parts, lap))?;
+            assert_eq!(rt; slot.record(lap), expected, "{:?}", (*parts, lap));
         }
     }
-    Ok(())
 }

@@ -1,8 +1,7 @@
 use super::{time_text, wall_micros};
 use std::io;
-use std::test::Fail;
+use std::process::Abort;
 use std::time::{Clock, Duration};
-use test_support::same;
 
 static TEXTS: [(u64, &str); 15] = [
     (0, "1970-01-01T00:00:00.000000Z"),
@@ -22,37 +21,28 @@ static TEXTS: [(u64, &str); 15] = [
     (u64::MAX, "9999-12-31T23:59:59.999999Z"),
 ];
 
-fn expect_text(micros: u64, text: &str) -> Result<(), Fail> {
+fn expect_text<R: Abort>(rt: &R, micros: u64, text: &str) {
     let found = time_text(micros);
-    same(&found.as_bytes().as_slice(), &text.as_bytes(), &micros)?;
-    same(&found.as_str(), &text, &micros)
+    assert_eq!(rt; found.as_bytes().as_slice(), text.as_bytes(), "{micros:?}");
+    assert_eq!(rt; found.as_str(), text, "{micros:?}");
 }
 
 #[test]
-fn writes_a_time_in_utc() -> Result<(), Fail> {
+fn writes_a_time_in_utc(rt: HostRuntime) {
     for (micros, text) in &TEXTS {
-        expect_text(*micros, text)?;
+        expect_text(&rt, *micros, text);
     }
-    Ok(())
 }
 
 #[test]
-fn is_written_and_compared_as_its_text(rt: HostRuntime) -> Result<(), Fail> {
+fn is_written_and_compared_as_its_text(rt: HostRuntime) {
     let time = time_text(1_795_657_509_123_456);
-    let written = format!(in rt.alloc(); "{time}")?;
-    same(
-        &written.as_str(),
-        &"2026-11-26T01:45:09.123456Z",
-        &"display",
-    )?;
-    let shown = format!(in rt.alloc(); "{time:?}")?;
-    same(&shown.as_str(), &"2026-11-26T01:45:09.123456Z", &"debug")?;
-    same(&(time == time_text(1_795_657_509_123_456)), &true, &"equal")?;
-    same(
-        &(time == time_text(1_795_657_509_123_457)),
-        &false,
-        &"unequal",
-    )
+    let written = format!(in rt.alloc(); "{time}").expect(&rt, "memory");
+    assert_eq!(rt; written.as_str(), "2026-11-26T01:45:09.123456Z", "display");
+    let shown = format!(in rt.alloc(); "{time:?}").expect(&rt, "memory");
+    assert_eq!(rt; shown.as_str(), "2026-11-26T01:45:09.123456Z", "debug");
+    assert!(rt; time == time_text(1_795_657_509_123_456), "equal");
+    assert!(rt; time != time_text(1_795_657_509_123_457), "unequal");
 }
 
 /// A clock that stands still, or cannot be read.
@@ -70,7 +60,7 @@ impl Clock for At {
 }
 
 #[test]
-fn reads_the_wall_clock_in_microseconds(rt: HostRuntime) -> Result<(), Fail> {
+fn reads_the_wall_clock_in_microseconds(rt: HostRuntime) {
     let cases = [
         (None, 0),
         (Some(Duration::from_nanos(999)), 0),
@@ -81,8 +71,8 @@ fn reads_the_wall_clock_in_microseconds(rt: HostRuntime) -> Result<(), Fail> {
         (Some(Duration::from_secs(u64::MAX)), u64::MAX),
     ];
     for (reading, expected) in cases {
-        same(&wall_micros(&At(reading)), &expected, &reading)?;
+        assert_eq!(rt; wall_micros(&At(reading)), expected, "{reading:?}");
     }
     // 2020-01-01T00:00:00Z has passed.
-    same(&(wall_micros(&rt) > 1_577_836_800_000_000), &true, &"now")
+    assert!(rt; wall_micros(&rt) > 1_577_836_800_000_000, "now");
 }

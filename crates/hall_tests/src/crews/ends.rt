@@ -2,17 +2,18 @@
 
 use crate::crews::letters::{CUT, GET};
 use crate::crews::plans::{manuals, plan_of, serve};
+use crate::same::same;
 use crew::{CallEnd, Job, Turnstile, Unopened};
 use grpc_frame::Code;
-use std::alloc::{AllocError, Global};
+use std::alloc::Global;
 use std::io;
 use std::io::{ErrorKind, Read, Write};
+use std::process::Abort;
 use std::sync::Wait;
 use std::sync::atomic::{AtomicU32, Ordering};
-use std::test::Fail;
 use std::thread::Threads;
 use test_support::requests::{CHECK_OF_EMPTY, CHECK_OF_ZZ, LIST, WATCH_OF_ZZ};
-use test_support::{Fault, FaultyReader, FaultyWriter, same};
+use test_support::{Fault, FaultyReader, FaultyWriter};
 use web_call::{ExchangeFault, Outcome, Why};
 
 /// What is seen of a call from outside, in the order in which it has to come.
@@ -42,17 +43,17 @@ struct Follower {
 }
 
 impl Follower {
-    fn new(alloc: Global, is_alone: bool) -> Result<Follower, AllocError> {
+    fn new(rt: &impl Abort, alloc: Global, is_alone: bool) -> Follower {
         let mut made = Vec::new(alloc);
         for _ in CALLS {
-            made.push(AtomicU32::new(0))?;
+            made.push(AtomicU32::new(0)).expect(rt, "memory");
         }
-        Ok(Follower {
+        Follower {
             made,
             all: AtomicU32::new(0),
             is_alone,
             wrong: AtomicU32::new(0),
-        })
+        }
     }
 
     fn is_next(&self, number: u32, step: Step) -> bool {
@@ -200,11 +201,11 @@ const NOTHING: Fault = Fault::Nothing;
 const CHECK: Option<&[u8]> = Some(CHECK_OF_EMPTY);
 
 /// A call's request, if it can be opened; the read and the write that fail, counted from 1; the fault; and its end.
-type Call = (Option<&'static [u8]>, usize, usize, Fault, CallEnd);
+type Row = (Option<&'static [u8]>, usize, usize, Fault, CallEnd);
 
 /// Calls of one crew. A Check here takes 108 reads: one for each byte of the head, and one for the body. Its response has 127 bytes, each
 /// with a write of its own, and its first frame ends at 107. The flush comes last.
-const CALLS: [Call; 21] = [
+const CALLS: [Row; 21] = [
     (CHECK, 0, 0, NOTHING, CHECKED),
     (None, 0, 0, NOTHING, CallEnd::Unopened),
     (Some(CHECK_OF_ZZ), 0, 0, NOTHING, NOT_FOUND),
@@ -234,44 +235,45 @@ const CALLS: [Call; 21] = [
     (CHECK, 0, 0, NOTHING, CHECKED),
 ];
 
-fn jobs_of(alloc: Global, follower: &Follower) -> Result<Vec<Followed<'_>>, AllocError> {
+fn jobs_of<'a>(rt: &impl Abort, alloc: Global, follower: &'a Follower) -> Vec<Followed<'a>> {
     let mut jobs = Vec::new(alloc);
     for (number, (request, read, write, fault, _)) in (0u32..1_000).zip(CALLS) {
         let ends = request.map(|text| {
             let reader = FaultyReader::new(text, read, fault);
             (reader, FaultyWriter::new(alloc, 1, write, fault))
         });
-        jobs.push(Followed {
+        let job = Followed {
             number,
             ends,
             follower,
-        })?;
+        };
+        jobs.push(job).expect(rt, "memory");
     }
-    Ok(jobs)
+    jobs
 }
 
-fn expect_calls<R: Wait + Threads + Sync>(
+fn expect_calls<R: Wait + Threads + Sync + Abort>(
     rt: &R,
     alloc: Global,
     workers: u16,
     follower: &Follower,
-) -> Result<(), Fail> {
+) {
     let plan = plan_of(workers);
-    let jobs = jobs_of(alloc, follower)?;
-    let orders = Vec::new(alloc);
-    let found = serve(rt, alloc, &plan, orders, manuals(alloc)?, jobs, follower)?;
+    let jobs = jobs_of(rt, alloc, follower);
+    let probes = manuals(rt, alloc);
+    let found = serve(rt, alloc, &plan, Vec::new(alloc), probes, jobs, follower);
+    let calls = found.calls.expect(rt, "a report");
     let ends = CALLS.map(|(_, _, _, _, end)| end);
-    same(&found.calls?.as_slice(), &ends.as_slice(), &workers)
+    same(rt, &calls.as_slice(), &ends.as_slice(), &workers);
 }
 
 // Each job is opened once, between its entering and its leaving, and both its ends are dropped before it leaves.
 #[test]
-fn each_call_ends_at_its_number_and_passes_its_steps_in_order(rt: HostRuntime) -> Result<(), Fail> {
+fn each_call_ends_at_its_number_and_passes_its_steps_in_order(rt: HostRuntime) {
     let alloc = rt.alloc();
     for workers in [1u16, 2, 3, 4] {
-        let follower = Follower::new(alloc, workers == 1)?;
-        expect_calls(&rt, alloc, workers, &follower)?;
-        same(&follower.steps(), &(ALL, 0), &workers)?;
+        let follower = Follower::new(&rt, alloc, workers == 1);
+        expect_calls(&rt, alloc, workers, &follower);
+        same(&rt, &follower.steps(), &(ALL, 0), &workers);
     }
-    Ok(())
 }

@@ -3,26 +3,22 @@
 use crate::crews::letters::Letter;
 use crate::crews::paced::{Heard, PAUSE, Paced};
 use crate::crews::plans::{Found, Wish, orders_of, plan_of, serve};
+use crate::same::same;
 use crew::{CallEnd, OpenTurnstile};
-use desk_core::Setting;
-use std::alloc::{AllocError, Global};
+use desk_core::{Order, Setting};
+use std::alloc::Global;
 use std::io::Write;
+use std::process::Abort;
 use std::sync::Wait;
 use std::sync::atomic::{AtomicU32, Ordering};
-use std::test::Fail;
 use std::thread::Threads;
 use std::time::{Clock, Duration};
 use std::{io, thread};
 use test_support::requests::WATCH_OF_A;
-use test_support::same;
 use web_call::Outcome;
 
 /// So many orders, which set the service Down and Up in turn.
-pub(crate) fn flips(
-    alloc: Global,
-    name: &'static str,
-    count: u32,
-) -> Result<Vec<Wish>, AllocError> {
+pub(crate) fn flips(rt: &impl Abort, alloc: Global, name: &'static str, count: u32) -> Vec<Wish> {
     let mut wishes = Vec::new(alloc);
     for number in 0..count {
         let setting = if number % 2 == 0 {
@@ -30,9 +26,9 @@ pub(crate) fn flips(
         } else {
             Setting::Up
         };
-        wishes.push(Wish::Set(name, setting))?;
+        wishes.push(Wish::Set(name, setting)).expect(rt, "memory");
     }
-    Ok(wishes)
+    wishes
 }
 
 /// How many Watches look beside the orders: so many that to wake them all takes longer than an order.
@@ -97,58 +93,64 @@ impl<C: Clock> Write for Page<'_, C> {
 
 type Watching<'a, C> = Letter<'a, &'static [u8], Page<'a, C>>;
 
-fn watches<'a, C>(
+fn watches<'a, R: Abort>(
+    rt: &'a R,
     alloc: Global,
-    clock: &'a C,
     scene: &'a Scene,
     opened: &'a AtomicU32,
     pages: &'a mut [Vec<u8>],
-) -> Result<Vec<Watching<'a, C>>, AllocError> {
+) -> Vec<Watching<'a, R>> {
     let mut jobs = Vec::new(alloc);
     for written in pages {
         let page = Page {
-            clock,
+            clock: rt,
             scene,
             written,
             is_open: false,
         };
-        jobs.push(Letter::new(Some((WATCH_OF_A, page)), opened))?;
+        let watch = Letter::new(Some((WATCH_OF_A, page)), opened);
+        jobs.push(watch).expect(rt, "memory");
     }
-    Ok(jobs)
+    jobs
 }
 
 /// Flips, before the last of which the Watches have the time to tell all others, and to wait.
-fn flips_with_rest(alloc: Global) -> Result<Vec<Wish>, AllocError> {
-    let mut wishes = flips(alloc, "a", FLIPS - 1)?;
-    wishes.push(Wish::SetLong)?;
-    wishes.push(Wish::Set("a", Setting::Down))?;
-    Ok(wishes)
+fn flips_with_rest(rt: &impl Abort, alloc: Global) -> Vec<Wish> {
+    let mut wishes = flips(rt, alloc, "a", FLIPS - 1);
+    wishes.push(Wish::SetLong).expect(rt, "memory");
+    wishes
+        .push(Wish::Set("a", Setting::Down))
+        .expect(rt, "memory");
+    wishes
 }
 
-/// Watches beside the flips, and beside two lists that are done at once, one before the flips and one behind them.
-fn serve_watches<R: Wait + Threads + Sync + Clock>(
+/// The flips, and two lists that are done at once, one before them and one behind them.
+fn lists_with_flips(rt: &impl Abort, alloc: Global) -> Vec<Vec<Order>> {
+    let flips = orders_of(rt, alloc, &flips_with_rest(rt, alloc));
+    let lists = [Vec::new(alloc), flips, Vec::new(alloc)];
+    Vec::from_array(alloc, lists).expect(rt, "memory")
+}
+
+/// Watches beside the flips, and beside two lists that are done at once.
+fn serve_watches<R: Wait + Threads + Sync + Clock + Abort>(
     rt: &R,
     alloc: Global,
     scene: &Scene,
     looks: u32,
     pages: &mut [Vec<u8>],
-) -> Result<Found, Fail> {
+) -> Found {
     let opened = AtomicU32::new(0);
-    let mut orders = Vec::new(alloc);
-    orders.push(Vec::new(alloc))?;
-    orders.push(orders_of(alloc, &flips_with_rest(alloc)?)?)?;
-    orders.push(Vec::new(alloc))?;
     let mut plan = plan_of(WATCHES);
     plan.most = 10_000;
     plan.seats = WATCHES + 3;
     plan.looks = looks;
-    let mut probes = Vec::with_capacity(alloc, 1)?;
     let awaited = u32::from(WATCHES);
     let open = &scene.open;
-    probes.push(Paced::new(rt, &scene.heard, open, open, awaited, PAUSE))?;
-    let jobs = watches(alloc, rt, scene, &opened, pages)?;
-    let found = serve(rt, alloc, &plan, orders, probes, jobs, &OpenTurnstile)?;
-    Ok(found)
+    let probe = Paced::new(rt, &scene.heard, open, open, awaited, PAUSE);
+    let probes = Vec::from_array(alloc, [probe]).expect(rt, "memory");
+    let jobs = watches(rt, alloc, scene, &opened, pages);
+    let orders = lists_with_flips(rt, alloc);
+    serve(rt, alloc, &plan, orders, probes, jobs, &OpenTurnstile)
 }
 
 const HEAD: &[u8] = b"HTTP/1.1 200 OK\r\n\
@@ -169,78 +171,71 @@ const END: &[u8] = b"2f\r\n\
     \r\n";
 
 /// What a Watch has written that told so many statuses, each other than the one before, and last of all that `a` is not serving.
-fn text_of(alloc: Global, messages: u32) -> Result<Vec<u8>, AllocError> {
-    let mut text = Vec::from_slice(alloc, HEAD)?;
+fn text_of(rt: &impl Abort, alloc: Global, messages: u32) -> Vec<u8> {
+    let mut text = Vec::from_slice(alloc, HEAD).expect(rt, "memory");
     for message in 0..messages {
         let is_down = messages.saturating_sub(message) % 2 == 1;
-        text.extend_from_slice(if is_down { DOWN } else { UP })?;
+        let told = if is_down { DOWN } else { UP };
+        text.extend_from_slice(told).expect(rt, "memory");
     }
-    text.extend_from_slice(END)?;
-    Ok(text)
+    text.extend_from_slice(END).expect(rt, "memory");
+    text
 }
 
-fn messages_of(end: &CallEnd) -> Result<u32, Fail> {
+fn messages_of(rt: &impl Abort, end: &CallEnd) -> u32 {
     match end {
-        CallEnd::Done(Outcome::Watched { messages }) => Ok(*messages),
-        _ => Err(Fail::new("no Watch")),
+        CallEnd::Done(Outcome::Watched { messages }) => *messages,
+        _ => panic!(rt; "no Watch"),
     }
 }
 
-fn empty_pages(alloc: Global) -> Result<Vec<Vec<u8>>, AllocError> {
+fn empty_pages(rt: &impl Abort, alloc: Global) -> Vec<Vec<u8>> {
     let mut pages = Vec::new(alloc);
     for _ in 0..WATCHES {
-        pages.push(Vec::new(alloc))?;
+        pages.push(Vec::new(alloc)).expect(rt, "memory");
     }
-    Ok(pages)
+    pages
 }
 
 /// How many orders were made when the last Watch was open, which are few: those who make them wait for it.
-fn made_before(scene: &Scene) -> Result<u32, Fail> {
+fn made_before(rt: &impl Abort, scene: &Scene) -> u32 {
     let made = scene.made.load(Ordering::SeqCst);
-    same(&(made < FLIPS / 2), &true, &made)?;
-    Ok(made)
+    assert!(rt; made < FLIPS / 2, "{made} orders");
+    made
 }
 
 /// Each Watch has told all changes but those that were made before it was open, up to the last.
-fn expect_told(alloc: Global, calls: &[CallEnd], pages: &[Vec<u8>], made: u32) -> Result<(), Fail> {
+fn expect_told<R: Abort>(rt: &R, alloc: Global, calls: &[CallEnd], pages: &[Vec<u8>], made: u32) {
     let later = FLIPS.saturating_sub(made);
     for (end, written) in calls.iter().zip(pages) {
-        let messages = messages_of(end)?;
+        let messages = messages_of(rt, end);
         let is_all = messages > later && messages <= FLIPS + 1;
-        same(&is_all, &true, &(messages, made))?;
-        same(&(*written == text_of(alloc, messages)?), &true, &messages)?;
+        assert!(rt; is_all, "{messages} messages behind {made} orders");
+        let is_text = *written == text_of(rt, alloc, messages);
+        assert!(rt; is_text, "the text of {messages} messages");
     }
-    Ok(())
 }
 
 /// With a Look more it would tell a later change: the orders wait for it.
-fn expect_few(calls: &[CallEnd], looks: u32) -> Result<(), Fail> {
+fn expect_few(rt: &impl Abort, calls: &[CallEnd], looks: u32) {
     for end in calls {
-        let messages = messages_of(end)?;
-        same(
-            &(messages <= looks.saturating_add(1)),
-            &true,
-            &(messages, looks),
-        )?;
+        let messages = messages_of(rt, end);
+        let is_few = messages <= looks.saturating_add(1);
+        assert!(rt; is_few, "{messages} messages of {looks} looks");
     }
-    Ok(())
 }
 
-fn expect_watches<R: Wait + Threads + Sync + Clock>(
-    rt: &R,
-    alloc: Global,
-    looks: u32,
-) -> Result<(), Fail> {
-    let mut pages = empty_pages(alloc)?;
+fn expect_watches<R: Wait + Threads + Sync + Clock + Abort>(rt: &R, alloc: Global, looks: u32) {
+    let mut pages = empty_pages(rt, alloc);
     let scene = Scene::new();
-    let found = serve_watches(rt, alloc, &scene, looks, &mut pages)?;
-    same(&found.entries, &Some(FLIPS as usize + 1), &looks)?;
-    let made = made_before(&scene)?;
-    let calls = found.calls?;
+    let found = serve_watches(rt, alloc, &scene, looks, &mut pages);
+    same(rt, &found.entries, &Some(FLIPS as usize + 1), &looks);
+    let made = made_before(rt, &scene);
+    let calls = found.calls.expect(rt, "a report");
     if looks == u32::MAX {
-        expect_told(alloc, &calls, &pages, made)
+        expect_told(rt, alloc, &calls, &pages, made);
     } else {
-        expect_few(&calls, looks)
+        expect_few(rt, &calls, looks);
     }
 }
 
@@ -248,17 +243,15 @@ fn expect_watches<R: Wait + Threads + Sync + Clock>(
 // for its first list alone, or that ends the Watches with the list that is done first; and `serve_all_always_lost`, a crew that tells that
 // all calls were lost, or that they were answered, and opens no job.
 #[test]
-fn a_watch_tells_each_change_up_to_the_last(rt: HostRuntime) -> Result<(), Fail> {
+fn a_watch_tells_each_change_up_to_the_last(rt: HostRuntime) {
     for _ in 0..3u32 {
-        expect_watches(&rt, rt.alloc(), u32::MAX)?;
+        expect_watches(&rt, rt.alloc(), u32::MAX);
     }
-    Ok(())
 }
 
 #[test]
-fn a_watch_takes_no_more_looks_than_its_limit(rt: HostRuntime) -> Result<(), Fail> {
+fn a_watch_takes_no_more_looks_than_its_limit(rt: HostRuntime) {
     for looks in [0u32, 3] {
-        expect_watches(&rt, rt.alloc(), looks)?;
+        expect_watches(&rt, rt.alloc(), looks);
     }
-    Ok(())
 }

@@ -1,10 +1,11 @@
 //! Gathering with little memory.
 
+use crate::same::same;
 use crew::{CallEnd, CrewWhy, gather};
 use std::alloc::{AllocError, Global};
 use std::mem::size_of;
-use std::test::Fail;
-use test_support::{Scarcity, same};
+use std::process::Abort;
+use test_support::Scarcity;
 
 const CALLS: u32 = 128;
 
@@ -27,58 +28,53 @@ fn reports_with(alloc: Global, last: Option<u32>) -> Result<Vec<(u32, CallEnd)>,
     Ok(found)
 }
 
-/// Gathers with so many bytes left, and tells whether they sufficed. Any other answer has to be this one.
-fn gathers(
+/// How many calls are gathered with so many bytes left, or why none are.
+fn gathered_with(
     alloc: Global,
     scarcity: &Scarcity,
     left: usize,
     last: Option<u32>,
-    refused: CrewWhy,
-) -> Result<bool, Fail> {
+) -> Result<Result<usize, CrewWhy>, AllocError> {
     let found = reports_with(alloc, last)?;
     let filler = scarcity.leave(left.saturating_add(REPORTS))?;
     let gathered = gather(alloc, CALLS, found);
     drop(filler);
-    match gathered {
-        Ok(ends) => {
-            same(&ends.len(), &(CALLS as usize), &left)?;
-            Ok(true)
-        }
-        Err(why) => {
-            same(&why, &refused, &left)?;
-            Ok(false)
-        }
-    }
+    Ok(gathered.map(|ends| ends.len()))
 }
 
-/// Gathers with more and more memory left, and counts the steps at which it sufficed.
-fn count_whole(alloc: Global, last: Option<u32>, refused: CrewWhy) -> Result<usize, Fail> {
-    let scarcity = Scarcity::with_small_room(alloc)?;
+/// Gathers with more and more memory left, and counts the steps at which it sufficed. Any other answer has to be this one.
+fn count_whole(rt: &impl Abort, alloc: Global, last: Option<u32>, refused: CrewWhy) -> usize {
+    let scarcity = Scarcity::with_small_room(alloc).expect(rt, "a room");
     let mut whole = 0usize;
     for step in 0..STEPS {
-        if gathers(alloc, &scarcity, step.saturating_mul(16), last, refused)? {
-            whole = whole.saturating_add(1);
+        let left = step.saturating_mul(16);
+        match gathered_with(alloc, &scarcity, left, last).expect(rt, "a room") {
+            Ok(ends) => {
+                same(rt, &ends, &(CALLS as usize), &left);
+                whole = whole.saturating_add(1);
+            }
+            Err(why) => same(rt, &why, &refused, &left),
         }
     }
-    Ok(whole)
+    whole
 }
 
 // `always_out_of_memory` never gathers here.
 #[test]
-fn refuses_each_growth_where_no_fault_stands(rt: HostRuntime) -> Result<(), Fail> {
-    let whole = count_whole(rt.alloc(), Some(127), CrewWhy::NoMemory)?;
+fn refuses_each_growth_where_no_fault_stands(rt: HostRuntime) {
+    let whole = count_whole(&rt, rt.alloc(), Some(127), CrewWhy::NoMemory);
     let most = STEPS.saturating_sub((PLACES + ENDS) / 16);
-    same(&(whole > 0 && whole <= most), &true, &(whole, most))
+    assert!(rt; whole > 0 && whole <= most, "{whole} of {most} steps");
 }
 
 #[test]
-fn running_out_of_memory_hides_no_fault(rt: HostRuntime) -> Result<(), Fail> {
+fn running_out_of_memory_hides_no_fault(rt: HostRuntime) {
     for (last, fault) in [
         (Some(128), CrewWhy::Stranger),
         (Some(0), CrewWhy::Doubled),
         (None, CrewWhy::Lost),
     ] {
-        same(&count_whole(rt.alloc(), last, fault)?, &0, &fault)?;
+        let whole = count_whole(&rt, rt.alloc(), last, fault);
+        same(&rt, &whole, &0, &fault);
     }
-    Ok(())
 }

@@ -1,9 +1,10 @@
 //! Jobs of tests.
 
 use crew::{Job, Unopened};
-use std::alloc::{AllocError, Global};
+use std::alloc::Global;
 use std::io;
 use std::io::{Read, Sink, Write};
+use std::process::Abort;
 use std::sync::atomic::{AtomicU32, Ordering};
 
 /// A request that waits for its answer, unless its two ends were lost. It counts its opening.
@@ -36,16 +37,17 @@ pub(crate) type Note<'a> = Letter<'a, &'static [u8], Sink>;
 
 /// Letters with these requests. One without a request can't be opened.
 pub(crate) fn notes<'a>(
+    rt: &impl Abort,
     alloc: Global,
     requests: &[Option<&'static [u8]>],
     opened: &'a AtomicU32,
-) -> Result<Vec<Note<'a>>, AllocError> {
+) -> Vec<Note<'a>> {
     let mut notes = Vec::new(alloc);
     for request in requests {
         let ends = request.map(|text| (text, io::sink()));
-        notes.push(Letter::new(ends, opened))?;
+        notes.push(Letter::new(ends, opened)).expect(rt, "memory");
     }
-    Ok(notes)
+    notes
 }
 
 /// A Check by another method of HTTP.

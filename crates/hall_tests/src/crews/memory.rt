@@ -1,17 +1,17 @@
 use crate::crews::plans::{Found, ROOM, Taken, Wish, plan_of, serve_notes};
+use crate::same::same;
 use crew::{CallEnd, CrewWhy, OpenTurnstile};
 use desk_core::{Refusal, Setting};
 use grpc_frame::Code;
 use std::alloc::Global;
+use std::process::Abort;
 use std::sync::Wait;
-use std::test::Fail;
 use std::thread::Threads;
 use test_support::requests::CHECK_OF_EMPTY;
-use test_support::same;
 use web_call::{ExchangeFault, Outcome, Why};
 
-/// How many bytes more are left at each step.
-const STEP: usize = 16;
+/// How many bytes more are left at each step: glibc gives out no fewer.
+const STEP: usize = 32;
 
 /// A crew that is tried with little memory: its workers, what its jobs ask, and its lists of orders.
 #[derive(Clone, Copy)]
@@ -57,10 +57,11 @@ fn have_ended(calls: &[CallEnd], requests: &[Option<&[u8]>], ends: &[CallEnd]) -
 
 /// How a crew fared that has opened so many of its jobs.
 fn fare_of(
+    rt: &impl Abort,
     calls: &Result<Vec<CallEnd>, CrewWhy>,
     requests: &[Option<&[u8]>],
     opened: usize,
-) -> Result<Fare, Fail> {
+) -> Fare {
     let has_opened_all = opened == requests.len();
     let (fare, fits) = match calls {
         Ok(calls) if have_ended(calls, requests, &[CHECKED]) => (Fare::Served, has_opened_all),
@@ -72,8 +73,8 @@ fn fare_of(
         Err(CrewWhy::Lost) => (Fare::Stopped, opened < requests.len()),
         Err(why) => (Fare::NoMemory, *why == CrewWhy::NoMemory && has_opened_all),
     };
-    same(&fits, &true, &(fare, opened))?;
-    Ok(fare)
+    assert!(rt; fits, "{fare:?} with {opened} opened");
+    fare
 }
 
 /// How many of these orders got a reply, if each other was refused out of memory.
@@ -107,15 +108,15 @@ fn made_by_all(made: &[Option<u64>], count: u16) -> Option<usize> {
 }
 
 /// The journal has the two registrations and the orders that were made: as many as a report tells, and none where nothing began.
-fn expect_entries(found: &Found, count: u16, has_begun: bool) -> Result<(), Fail> {
+fn expect_entries(rt: &impl Abort, found: &Found, count: u16, has_begun: bool) {
     let made = made_by_all(&found.made, count);
-    same(&made.is_some(), &true, &"all seats are in their places")?;
+    assert!(rt; made.is_some(), "all seats are in their places");
     if found.calls.is_ok() || !has_begun {
         let told = made_in_all(&found.orders);
         let all = told.map(|told| told.saturating_add(2));
-        same(&made, &all, &"orders")?;
+        same(rt, &made, &all, &"orders");
     }
-    same(&found.entries, &made, &"entries")
+    same(rt, &found.entries, &made, &"entries");
 }
 
 /// How many entries the journal has with the two registrations and all orders.
@@ -129,13 +130,13 @@ fn entries_with(lists: &[&[Wish]]) -> usize {
 
 /// Tries a crew with so many bytes left, and looks at what it has made. With none left it can't begin, and a crew without jobs wants
 /// memory only to begin with.
-fn fare_with<R: Wait + Threads + Sync>(
+fn fare_with<R: Wait + Threads + Sync + Abort>(
     rt: &R,
     alloc: Global,
     trial: &Trial,
     left: usize,
-) -> Result<Fare, Fail> {
-    let lists = u16::try_from(trial.lists.len())?;
+) -> Fare {
+    let lists = u16::try_from(trial.lists.len()).expect(rt, "few lists");
     let mut plan = plan_of(trial.workers);
     plan.seats = trial.workers.saturating_add(lists).saturating_add(1);
     plan.left = Some(left);
@@ -146,60 +147,56 @@ fn fare_with<R: Wait + Threads + Sync>(
         trial.lists,
         trial.requests,
         &OpenTurnstile,
-    )?;
-    let fare = fare_of(&found.calls, trial.requests, opened as usize)?;
+    );
+    let fare = fare_of(rt, &found.calls, trial.requests, opened as usize);
     let has_begun = left > 0 && !trial.requests.is_empty();
-    expect_entries(&found, plan.seats, has_begun)?;
+    expect_entries(rt, &found, plan.seats, has_begun);
     if found.calls.is_err() && opened > 0 {
         // The journal has room for them without new memory.
+        let entries = entries_with(trial.lists);
         same(
+            rt,
             &found.entries,
-            &Some(entries_with(trial.lists)),
+            &Some(entries),
             &"orders of a crew without report",
-        )?;
+        );
     }
-    Ok(fare)
+    fare
 }
 
 /// How a crew fares with more and more memory left, up to where it fares so for the first time.
 ///
 /// It is tried with ample memory first: once it has looked for a thread, the C library takes single pages too where the heap is
 /// used up, and only then are those taken with the rest.
-fn fares<R: Wait + Threads + Sync>(
+fn fares<R: Wait + Threads + Sync + Abort>(
     rt: &R,
     alloc: Global,
     trial: &Trial,
     last: Fare,
-) -> Result<Vec<Fare>, Fail> {
-    let ample = fare_with(rt, alloc, trial, ROOM / 2)?;
-    same(&ample, &Fare::Served, &"half the room")?;
+) -> Vec<Fare> {
+    let ample = fare_with(rt, alloc, trial, ROOM / 2);
+    same(rt, &ample, &Fare::Served, &"half the room");
     let mut fares = Vec::new(alloc);
     for step in 0..ROOM / STEP {
-        let fare = fare_with(rt, alloc, trial, STEP * step)?;
-        fares.push(fare)?;
+        let fare = fare_with(rt, alloc, trial, STEP * step);
+        fares.push(fare).expect(rt, "memory");
         if fare == last {
             break;
         }
     }
-    Ok(fares)
+    fares
 }
 
 /// A crew fares so at last, and before that in each of these ways and in no other.
-fn expect_fares(fares: &[Fare], scarce: &[Fare], last: Fare) -> Result<(), Fail> {
+fn expect_fares(rt: &impl Abort, fares: &[Fare], scarce: &[Fare], last: Fare) {
     let Some((at_last, before)) = fares.split_last() else {
-        return Err(Fail::new("nothing was tried"));
+        panic!(rt; "nothing was tried")
     };
-    same(at_last, &last, &"the last step")?;
-    same(
-        &scarce.iter().all(|fare| before.contains(fare)),
-        &true,
-        &scarce,
-    )?;
-    same(
-        &before.iter().all(|fare| scarce.contains(fare)),
-        &true,
-        &scarce,
-    )
+    same(rt, at_last, &last, &"the last step");
+    let has_each = scarce.iter().all(|fare| before.contains(fare));
+    assert!(rt; has_each, "each of {scarce:?}");
+    let has_no_other = before.iter().all(|fare| scarce.contains(fare));
+    assert!(rt; has_no_other, "none but {scarce:?}");
 }
 
 /// Two lists of orders, and no call.
@@ -217,19 +214,19 @@ const ORDERS: Trial = Trial {
 };
 
 /// A crew fares so with enough memory, and before that in each of these ways and in no other.
-fn expect_trial<R: Wait + Threads + Sync>(
+fn expect_trial<R: Wait + Threads + Sync + Abort>(
     rt: &R,
     alloc: Global,
     trial: &Trial,
     scarce: &[Fare],
     last: Fare,
-) -> Result<(), Fail> {
-    expect_fares(&fares(rt, alloc, trial, last)?, scarce, last)
+) {
+    expect_fares(rt, &fares(rt, alloc, trial, last), scarce, last);
 }
 
 #[test]
-fn no_order_is_made_where_there_is_no_memory_for_its_result(rt: HostRuntime) -> Result<(), Fail> {
-    expect_trial(&rt, rt.alloc(), &ORDERS, &[Fare::NoMemory], Fare::Served)
+fn no_order_is_made_where_there_is_no_memory_for_its_result(rt: HostRuntime) {
+    expect_trial(&rt, rt.alloc(), &ORDERS, &[Fare::NoMemory], Fare::Served);
 }
 
 /// A Check, and one order.
@@ -240,11 +237,9 @@ const CHECK: Trial = Trial {
 };
 
 #[test]
-fn a_call_is_lost_or_starved_or_not_reported_when_out_of_memory(
-    rt: HostRuntime,
-) -> Result<(), Fail> {
+fn a_call_is_lost_or_starved_or_not_reported_when_out_of_memory(rt: HostRuntime) {
     let scarce = [Fare::Lost, Fare::NoMemory, Fare::Starved];
-    expect_trial(&rt, rt.alloc(), &CHECK, &scarce, Fare::Served)
+    expect_trial(&rt, rt.alloc(), &CHECK, &scarce, Fare::Served);
 }
 
 const LOST: Option<&[u8]> = None;
@@ -273,18 +268,16 @@ const TOGETHER: Trial = Trial {
 };
 
 /// With as much memory as lets a crew of three tell of all calls a crew of one has stopped.
-fn expect_help<R: Wait + Threads + Sync>(rt: &R, alloc: Global) -> Result<(), Fail> {
-    let alone = fares(rt, alloc, &ALONE, Fare::Starved)?;
-    expect_fares(&alone, &[Fare::Lost, Fare::Stopped], Fare::Starved)?;
-    let together = fares(rt, alloc, &TOGETHER, Fare::Starved)?;
-    same(&together.last(), &Some(&Fare::Starved), &"together")?;
+fn expect_help<R: Wait + Threads + Sync + Abort>(rt: &R, alloc: Global) {
+    let alone = fares(rt, alloc, &ALONE, Fare::Starved);
+    expect_fares(rt, &alone, &[Fare::Lost, Fare::Stopped], Fare::Starved);
+    let together = fares(rt, alloc, &TOGETHER, Fare::Starved);
+    same(rt, &together.last(), &Some(&Fare::Starved), &"together");
     let enough = together.len().saturating_sub(1);
-    same(&alone.get(enough), &Some(&Fare::Stopped), &enough)
+    same(rt, &alone.get(enough), &Some(&Fare::Stopped), &enough);
 }
 
 #[test]
-fn a_worker_without_memory_for_a_report_leaves_the_jobs_to_the_others(
-    rt: HostRuntime,
-) -> Result<(), Fail> {
-    expect_help(&rt, rt.alloc())
+fn a_worker_without_memory_for_a_report_leaves_the_jobs_to_the_others(rt: HostRuntime) {
+    expect_help(&rt, rt.alloc());
 }

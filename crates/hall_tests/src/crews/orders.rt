@@ -1,13 +1,13 @@
 //! Crews that are refused.
 
 use crate::crews::plans::{Wish, plan_of, serve_notes};
+use crate::same::same;
 use crew::{CrewWhy, OpenTurnstile};
 use std::alloc::Global;
+use std::process::Abort;
 use std::sync::Wait;
-use std::test::Fail;
 use std::thread::Threads;
 use test_support::requests::CHECK_OF_EMPTY;
-use test_support::same;
 
 /// How many workers there are, the lists of orders, how many seats, and why they are no crew.
 const REFUSED: [(u16, &[&[Wish]], u16, CrewWhy); 6] = [
@@ -19,21 +19,20 @@ const REFUSED: [(u16, &[&[Wish]], u16, CrewWhy); 6] = [
     (u16::MAX, &[], 4, CrewWhy::NoSeats),
 ];
 
-fn expect_refusals<R: Wait + Threads + Sync>(rt: &R, alloc: Global) -> Result<(), Fail> {
+fn expect_refusals<R: Wait + Threads + Sync + Abort>(rt: &R, alloc: Global) {
     for (workers, lists, seats, why) in REFUSED {
         let mut plan = plan_of(workers);
         plan.seats = seats;
         let requests = [Some(CHECK_OF_EMPTY), None];
-        let (found, opened) = serve_notes(rt, alloc, &plan, lists, &requests, &OpenTurnstile)?;
-        same(&opened, &0, &why)?;
-        same(&found.calls, &Err(why), &seats)?;
-        same(&found.made.len(), &usize::from(seats), &why)?;
-        same(&found.entries, &Some(2), &why)?;
+        let (found, opened) = serve_notes(rt, alloc, &plan, lists, &requests, &OpenTurnstile);
+        same(rt, &opened, &0, &why);
+        same(rt, &found.calls, &Err(why), &seats);
+        same(rt, &found.made.len(), &usize::from(seats), &why);
+        same(rt, &found.entries, &Some(2), &why);
     }
-    Ok(())
 }
 
 #[test]
-fn a_crew_that_cannot_begin_opens_nothing_and_makes_no_change(rt: HostRuntime) -> Result<(), Fail> {
-    expect_refusals(&rt, rt.alloc())
+fn a_crew_that_cannot_begin_opens_nothing_and_makes_no_change(rt: HostRuntime) {
+    expect_refusals(&rt, rt.alloc());
 }

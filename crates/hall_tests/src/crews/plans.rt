@@ -1,18 +1,19 @@
 //! Crews as tests plan them, and what they leave.
 
-ghost use Rattle.std.specs.Prelude.{IfOk, MatchResult};
+ghost use Rattle.std.specs.Prelude.{MatchResult};
 ghost use Rattle.std.specs.List.{All};
 ghost use Rattle.hall.specs.Seats.{IsOf};
 
 use crate::crews::letters::notes;
+use crate::guest::catalogue;
 use crew::{CallEnd, CrewFault, CrewWhy, Job, Report, Turnstile, serve_all};
-use desk_core::{Catalogue, Name, Order, Refusal, Reply, Setting};
+use desk_core::{Name, Order, Refusal, Reply, Setting};
 use hall::{Hall, Seat};
 use probe_core::{Manual, Probe};
-use std::alloc::{AllocError, Global};
+use std::alloc::Global;
+use std::process::Abort;
 use std::sync::Wait;
 use std::sync::atomic::{AtomicU32, Ordering};
-use std::test::Fail;
 use std::thread::Threads;
 use test_support::Scarcity;
 use web_call::Limits;
@@ -69,26 +70,12 @@ pub(crate) struct Found {
     pub(crate) entries: Option<usize>,
 }
 
-fn catalogue(alloc: Global) -> Result<Catalogue, AllocError> {
-    let mut names = Vec::new(alloc);
-    for text in ["a", "", "b"] {
-        names.push(String::from_str(alloc, text)?)?;
-    }
-    match Catalogue::new(alloc, names) {
-        Ok(catalogue) => Ok(catalogue),
-        Err(_) => Err(AllocError),
-    }
-}
-
 #[tactic(auto, using(crew::proofs::NewSeats::seats_are_its_own))]
-fn new_hall<P: Probe>(alloc: Global, plan: &Plan) -> Result<(Hall<P>, Vec<Seat<P>>), AllocError>
-    ensures { IfOk result (λ made. All (IsOf made.0) made.1.items) }
+fn new_hall<R: Abort, P: Probe>(rt: &R, alloc: Global, plan: &Plan) -> (Hall<P>, Vec<Seat<P>>)
+    ensures { All (IsOf result.0) result.1.items }
 {
-    let names = catalogue(alloc)?;
-    match Hall::new(alloc, names, plan.most, plan.seats) {
-        Ok(made) => Ok(made),
-        Err(_) => Err(AllocError),
-    }
+    let names = catalogue(rt, alloc, &["a", "", "b"]);
+    Hall::new(alloc, names, plan.most, plan.seats).expect(rt, "a hall")
 }
 
 /// Registers a probe of this name, if there is one, by the last seat.
@@ -114,52 +101,54 @@ fn register<R: Wait, P: Probe>(
 }
 
 /// A name of 16 MiB.
-fn long_name(alloc: Global) -> Result<Name, AllocError> {
-    let mut text = String::from_str(alloc, "long")?;
+fn long_name(rt: &impl Abort, alloc: Global) -> Name {
+    let mut text = String::from_str(alloc, "long").expect(rt, "memory");
     for _ in 0..22u32 {
-        let half = text.clone()?;
-        text.push_str(&half)?;
+        let half = text.clone().expect(rt, "memory");
+        text.push_str(&half).expect(rt, "memory");
     }
-    Ok(Name::new(text))
+    Name::new(text)
 }
 
-fn order_of(alloc: Global, wish: &Wish) -> Result<Order, AllocError> {
-    let name = |text: &str| -> Result<Name, AllocError> {
-        Ok(Name::new(String::from_str(alloc, text)?))
-    };
+fn order_of(rt: &impl Abort, alloc: Global, wish: &Wish) -> Order {
     match *wish {
-        Wish::Set(text, setting) => Ok(Order::Set(name(text)?, setting)),
-        Wish::Shutdown => Ok(Order::Shutdown),
-        Wish::SetLong => Ok(Order::Set(long_name(alloc)?, Setting::Up)),
+        Wish::Set(text, setting) => {
+            let name = String::from_str(alloc, text).expect(rt, "memory");
+            Order::Set(Name::new(name), setting)
+        }
+        Wish::Shutdown => Order::Shutdown,
+        Wish::SetLong => Order::Set(long_name(rt, alloc), Setting::Up),
     }
 }
 
 /// A list of orders.
-pub(crate) fn orders_of(alloc: Global, wishes: &[Wish]) -> Result<Vec<Order>, AllocError> {
+pub(crate) fn orders_of(rt: &impl Abort, alloc: Global, wishes: &[Wish]) -> Vec<Order> {
     let mut orders = Vec::new(alloc);
     for wish in wishes {
-        orders.push(order_of(alloc, wish)?)?;
+        orders.push(order_of(rt, alloc, wish)).expect(rt, "memory");
     }
-    Ok(orders)
+    orders
 }
 
 /// Lists of orders.
-pub(crate) fn lists_of(alloc: Global, lists: &[&[Wish]]) -> Result<Vec<Vec<Order>>, AllocError> {
+pub(crate) fn lists_of(rt: &impl Abort, alloc: Global, lists: &[&[Wish]]) -> Vec<Vec<Order>> {
     let mut made = Vec::new(alloc);
     for wishes in lists {
-        made.push(orders_of(alloc, *wishes)?)?;
+        made.push(orders_of(rt, alloc, *wishes))
+            .expect(rt, "memory");
     }
-    Ok(made)
+    made
 }
 
 /// How many changes each of the seats has made.
-fn made_by<P: Probe>(alloc: Global, seats: &[Seat<P>]) -> Result<Vec<Option<u64>>, AllocError> {
+fn made_by<R: Abort, P: Probe>(rt: &R, alloc: Global, seats: &[Seat<P>]) -> Vec<Option<u64>> {
     let mut made = Vec::new(alloc);
     for (place, seat) in seats.iter().enumerate() {
         let is_here = usize::from(seat.number()) == place;
-        made.push(is_here.then_some(seat.made()))?;
+        made.push(is_here.then_some(seat.made()))
+            .expect(rt, "memory");
     }
-    Ok(made)
+    made
 }
 
 /// How many entries the journal has, if no seat is missing.
@@ -212,21 +201,21 @@ where
 }
 
 /// What is left of a crew, its hall and all.
-fn found_of<P: Probe>(alloc: Global, hall: Hall<P>, served: Served<P>) -> Result<Found, AllocError>
+fn found_of<R: Abort, P: Probe>(rt: &R, alloc: Global, hall: Hall<P>, served: Served<P>) -> Found
     requires { MatchResult served (λ report. All (IsOf hall) report.seats.items) (λ fault. All (IsOf hall) fault.seats.items) }
 {
     let (calls, orders, seats) = match served {
         Ok(report) => (Ok(report.calls), report.orders, report.seats),
         Err(fault) => (Err(fault.why), Vec::new(alloc), fault.seats),
     };
-    let made = made_by(alloc, &seats);
+    let made = made_by(rt, alloc, &seats);
     let entries = entries_in(hall, seats);
-    Ok(Found {
+    Found {
         calls,
         orders,
-        made: made?,
+        made,
         entries,
-    })
+    }
 }
 
 /// Takes all memory but that which the plan leaves, for as long as the result is held.
@@ -246,16 +235,16 @@ pub(crate) fn serve<R, P, J, T>(
     probes: Vec<P>,
     jobs: Vec<J>,
     turnstile: &T,
-) -> Result<Found, AllocError>
+) -> Found
 where
-    R: Wait + Threads + Sync,
+    R: Wait + Threads + Sync + Abort,
     P: Probe + Send,
     J: Job + Send,
     J::Input: Send,
     J::Output: Send,
     T: Turnstile,
 {
-    let (hall, seats) = new_hall(alloc, plan)?;
+    let (hall, seats) = new_hall(rt, alloc, plan);
     let mut probes = probes.into_iter();
     let seats = register(rt, &hall, seats, "a", probes.next());
     let seats = register(rt, &hall, seats, "", probes.next());
@@ -263,34 +252,35 @@ where
     let taken = squeeze(alloc, plan);
     let served = serve_planned(rt, alloc, plan, &hall, seats, jobs, orders, turnstile);
     drop(taken);
-    found_of(alloc, hall, served)
+    found_of(rt, alloc, hall, served)
 }
 
 /// Probes of `a` and of the empty name.
-pub(crate) fn pair<P: Probe>(alloc: Global, first: P, second: P) -> Result<Vec<P>, AllocError> {
-    let mut probes = Vec::with_capacity(alloc, 2)?;
-    probes.push(first)?;
-    probes.push(second)?;
-    Ok(probes)
+pub(crate) fn pair<R: Abort, P: Probe>(rt: &R, alloc: Global, first: P, second: P) -> Vec<P> {
+    let mut probes = Vec::with_capacity(alloc, 2).expect(rt, "memory");
+    probes.push(first).expect(rt, "memory");
+    probes.push(second).expect(rt, "memory");
+    probes
 }
 
 /// Probes that are set by hand, of `a` and of the empty name.
-pub(crate) fn manuals(alloc: Global) -> Result<Vec<Manual>, AllocError> {
-    pair(alloc, Manual::new(), Manual::new())
+pub(crate) fn manuals(rt: &impl Abort, alloc: Global) -> Vec<Manual> {
+    pair(rt, alloc, Manual::new(), Manual::new())
 }
 
 /// Lets a crew answer these requests, and tells how many jobs it has opened.
-pub(crate) fn serve_notes<R: Wait + Threads + Sync, T: Turnstile>(
+pub(crate) fn serve_notes<R: Wait + Threads + Sync + Abort, T: Turnstile>(
     rt: &R,
     alloc: Global,
     plan: &Plan,
     lists: &[&[Wish]],
     requests: &[Option<&'static [u8]>],
     turnstile: &T,
-) -> Result<(Found, u32), Fail> {
+) -> (Found, u32) {
     let opened = AtomicU32::new(0);
-    let jobs = notes(alloc, requests, &opened)?;
-    let orders = lists_of(alloc, lists)?;
-    let found = serve(rt, alloc, plan, orders, manuals(alloc)?, jobs, turnstile)?;
-    Ok((found, opened.load(Ordering::SeqCst)))
+    let jobs = notes(rt, alloc, requests, &opened);
+    let orders = lists_of(rt, alloc, lists);
+    let probes = manuals(rt, alloc);
+    let found = serve(rt, alloc, plan, orders, probes, jobs, turnstile);
+    (found, opened.load(Ordering::SeqCst))
 }

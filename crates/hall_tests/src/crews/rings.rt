@@ -1,36 +1,35 @@
+use crate::same::same;
 use crew::Ring;
+use std::process::Abort;
 use std::sync::Wait;
-use std::test::Fail;
 use std::thread;
 use std::thread::Threads;
-use test_support::same;
 use web_call::{Bell, Turn};
 
 /// Waits so often as there are turns expected.
-fn expect_turns<B: Bell>(bell: &mut B, expected: &[Turn]) -> Result<(), Fail> {
+fn expect_turns<R: Abort, B: Bell>(rt: &R, bell: &mut B, expected: &[Turn]) {
     for turn in expected {
-        same(&bell.wait(), turn, &expected)?;
+        same(rt, &bell.wait(), turn, &expected);
     }
-    Ok(())
 }
 
 /// Each bell gives its own Looks, one for each ring since it was made, and none for one behind the end.
-fn expect_own_looks<R: Wait>(rt: &R) -> Result<(), Fail> {
+fn expect_own_looks<R: Wait + Abort>(rt: &R) {
     let ring = Ring::new();
     ring.ring(rt);
     let mut first = ring.bell(rt);
     ring.ring(rt);
     let mut second = ring.bell(rt);
     ring.ring(rt);
-    expect_turns(&mut first, &[Turn::Look, Turn::Look])?;
+    expect_turns(rt, &mut first, &[Turn::Look, Turn::Look]);
     ring.ring(rt);
     ring.end(rt);
     ring.ring(rt);
     ring.end(rt);
     let two = [Turn::Look, Turn::Look, Turn::End, Turn::End];
-    expect_turns(&mut second, &two)?;
-    expect_turns(&mut first, &[Turn::Look, Turn::End, Turn::End])?;
-    expect_turns(&mut ring.bell(rt), &[Turn::End, Turn::End])
+    expect_turns(rt, &mut second, &two);
+    expect_turns(rt, &mut first, &[Turn::Look, Turn::End, Turn::End]);
+    expect_turns(rt, &mut ring.bell(rt), &[Turn::End, Turn::End]);
 }
 
 /// Counts the Looks of a bell up to its End, or up to the most.
@@ -62,17 +61,14 @@ fn looks_beside<R: Wait + Threads + Sync>(rt: &R, rings: u32) -> u32 {
     .0
 }
 
-fn expect_looks<R: Wait + Threads + Sync>(rt: &R) -> Result<(), Fail> {
-    expect_own_looks(rt)?;
+fn expect_looks<R: Wait + Threads + Sync + Abort>(rt: &R) {
+    expect_own_looks(rt);
     for rings in [0, 1, 1_000] {
-        same(&looks_beside(rt, rings), &rings, &rings)?;
+        same(rt, &looks_beside(rt, rings), &rings, &"looks");
     }
-    Ok(())
 }
 
 #[test]
-fn gives_a_look_for_each_ring_from_then_on_in_another_thread_too(
-    rt: HostRuntime,
-) -> Result<(), Fail> {
-    expect_looks(&rt)
+fn gives_a_look_for_each_ring_from_then_on_in_another_thread_too(rt: HostRuntime) {
+    expect_looks(&rt);
 }

@@ -5,48 +5,60 @@ use crate::crews::gates::Gate;
 use crate::crews::letters::Note;
 use crate::crews::paced::{Heard, PAUSE, Paced};
 use crate::crews::plans::{Found, orders_of, plan_of, serve, serve_notes};
+use crate::same::same;
 use crew::{CallEnd, OpenTurnstile};
+use desk_core::Order;
 use grpc_frame::Code;
 use std::alloc::Global;
+use std::process::Abort;
 use std::sync::Wait;
-use std::test::Fail;
 use std::thread::Threads;
 use std::time::Clock;
 use test_support::requests::CHECK_OF_EMPTY;
-use test_support::same;
 use web_call::Outcome;
 
 const CHECKED: CallEnd = CallEnd::Done(Outcome::Status(Code::Ok));
 
-fn expect_two<R: Wait + Threads + Sync + Clock>(rt: &R, alloc: Global) -> Result<(), Fail> {
+fn expect_two<R: Wait + Threads + Sync + Clock + Abort>(rt: &R, alloc: Global) {
     let requests = [Some(CHECK_OF_EMPTY), Some(CHECK_OF_EMPTY)];
     let gate = Gate::new(rt, 2);
-    let (found, _) = serve_notes(rt, alloc, &plan_of(2), &[], &requests, &gate)?;
-    same(&gate.given_up(), &0, &"the gate")?;
-    let calls = found.calls?;
-    same(&calls.as_slice(), &[CHECKED, CHECKED].as_slice(), &"calls")
+    let (found, _) = serve_notes(rt, alloc, &plan_of(2), &[], &requests, &gate);
+    same(rt, &gate.given_up(), &0, &"the gate");
+    let calls = found.calls.expect(rt, "a report");
+    same(
+        rt,
+        &calls.as_slice(),
+        &[CHECKED, CHECKED].as_slice(),
+        &"calls",
+    );
 }
 
 // `one_thread_serves_all`, a crew that serves all calls on one thread, gives up at the gate.
 #[test]
-fn two_workers_serve_their_calls_at_the_same_time(rt: HostRuntime) -> Result<(), Fail> {
-    expect_two(&rt, rt.alloc())
+fn two_workers_serve_their_calls_at_the_same_time(rt: HostRuntime) {
+    expect_two(&rt, rt.alloc());
 }
 
 /// How many orders a list has, which is more than are made before the other lists begin.
 const ORDERS: u32 = 200;
 
+/// A list for each of the names.
+fn three_lists(rt: &impl Abort, alloc: Global) -> Vec<Vec<Order>> {
+    let mut lists = Vec::new(alloc);
+    for name in ["a", "", "b"] {
+        let orders = orders_of(rt, alloc, &flips(rt, alloc, name, ORDERS));
+        lists.push(orders).expect(rt, "memory");
+    }
+    lists
+}
+
 /// Three lists, each of which hears its orders slowly until the two others have begun.
-fn serve_three_lists<'a, R: Wait + Threads + Sync + Clock>(
+fn serve_three_lists<'a, R: Wait + Threads + Sync + Clock + Abort>(
     rt: &'a R,
     alloc: Global,
     heard: &'a [Heard; 3],
-) -> Result<Found, Fail> {
+) -> Found {
     let [of_a, of_all, of_b] = heard;
-    let mut orders = Vec::new(alloc);
-    for name in ["a", "", "b"] {
-        orders.push(orders_of(alloc, &flips(alloc, name, ORDERS)?)?)?;
-    }
     let mut plan = plan_of(1);
     plan.most = 10_000;
     plan.seats = 4;
@@ -55,22 +67,22 @@ fn serve_three_lists<'a, R: Wait + Threads + Sync + Clock>(
         Paced::new(rt, of_all, &of_a.events, &of_b.events, 1, PAUSE),
         Paced::new(rt, of_b, &of_a.events, &of_all.events, 1, PAUSE),
     ];
-    let probes = Vec::from_array(alloc, probes)?;
+    let probes = Vec::from_array(alloc, probes).expect(rt, "memory");
+    let orders = three_lists(rt, alloc);
     let jobs: Vec<Note<'_>> = Vec::new(alloc);
-    Ok(serve(rt, alloc, &plan, orders, probes, jobs, &OpenTurnstile)?)
+    serve(rt, alloc, &plan, orders, probes, jobs, &OpenTurnstile)
 }
 
 // A crew that makes one list behind another, or two side by side and then the third, makes all orders of some of them before the others
 // begin.
 #[test]
-fn three_lists_are_made_at_the_same_time(rt: HostRuntime) -> Result<(), Fail> {
+fn three_lists_are_made_at_the_same_time(rt: HostRuntime) {
     let heard = [Heard::new(), Heard::new(), Heard::new()];
-    let found = serve_three_lists(&rt, rt.alloc(), &heard)?;
-    same(&found.entries, &Some(603), &"entries")?;
+    let found = serve_three_lists(&rt, rt.alloc(), &heard);
+    same(&rt, &found.entries, &Some(603), &"entries");
     for (list, heard) in heard.iter().enumerate() {
-        same(&heard.events(), &ORDERS, &list)?;
+        same(&rt, &heard.events(), &ORDERS, &list);
         let alone = heard.alone();
-        same(&(alone < ORDERS), &true, &(list, alone))?;
+        assert!(rt; alone < ORDERS, "list {list}: {alone} alone");
     }
-    Ok(())
 }

@@ -1,18 +1,17 @@
-use super::Line;
-use crate::event::Event;
-use crate::limit::Limit;
-use crate::status::Status;
-use crate::who::Who;
+use crate::same::same;
+use log_lines::{Event, Limit, Line, Status, Who};
 use std::alloc::Global;
 use std::net::{IpAddr, Ipv4Addr, Ipv6Addr, SocketAddr};
-use std::test::Fail;
-use test_support::{Scarcity, same};
+use std::process::Abort;
+use test_support::Scarcity;
 
 const TIME: &str = "2026-11-26T01:45:09.123456Z";
 
-fn expect(alloc: Global, event: Event<'_>, expected: &str) -> Result<(), Fail> {
-    let found = Line { time: TIME, event }.to_string(alloc)?;
-    same(&found.as_str(), &expected, &"line")
+fn expect(rt: &impl Abort, alloc: Global, event: Event<'_>, expected: &str) {
+    let found = Line { time: TIME, event }
+        .to_string(alloc)
+        .expect(rt, "memory");
+    same(rt, &found.as_str(), &expected, &"line");
 }
 
 static CHANGES: [(&str, Status, Status, Who, &str, &str); 7] = [
@@ -75,7 +74,7 @@ static CHANGES: [(&str, Status, Status, Who, &str, &str); 7] = [
 ];
 
 #[test]
-fn tells_a_change_on_one_line(rt: HostRuntime) -> Result<(), Fail> {
+fn tells_a_change_on_one_line(rt: HostRuntime) {
     for &(name, old, new, who, call, expected) in &CHANGES {
         let event = Event::Changed {
             name,
@@ -85,9 +84,8 @@ fn tells_a_change_on_one_line(rt: HostRuntime) -> Result<(), Fail> {
             who,
             call,
         };
-        expect(rt.alloc(), event, expected)?;
+        expect(&rt, rt.alloc(), event, expected);
     }
-    Ok(())
 }
 
 static EXPIRIES: [(&str, Option<u32>, u32, &str); 3] = [
@@ -112,7 +110,7 @@ static EXPIRIES: [(&str, Option<u32>, u32, &str); 3] = [
 ];
 
 #[test]
-fn tells_that_a_service_was_not_heard_from(rt: HostRuntime) -> Result<(), Fail> {
+fn tells_that_a_service_was_not_heard_from(rt: HostRuntime) {
     for &(name, seconds, fails, expected) in &EXPIRIES {
         let event = Event::Expired {
             name,
@@ -120,9 +118,8 @@ fn tells_that_a_service_was_not_heard_from(rt: HostRuntime) -> Result<(), Fail> 
             fails,
             place: 12,
         };
-        expect(rt.alloc(), event, expected)?;
+        expect(&rt, rt.alloc(), event, expected);
     }
-    Ok(())
 }
 
 static OTHERS: [(Event<'static>, &str); 16] = [
@@ -199,40 +196,42 @@ static OTHERS: [(Event<'static>, &str); 16] = [
 ];
 
 #[test]
-fn tells_ends_refusals_limits_and_what_is_missing(rt: HostRuntime) -> Result<(), Fail> {
+fn tells_ends_refusals_limits_and_what_is_missing(rt: HostRuntime) {
     for &(event, expected) in &OTHERS {
-        expect(rt.alloc(), event, expected)?;
+        expect(&rt, rt.alloc(), event, expected);
     }
-    Ok(())
 }
 
 fn expect_serving(
+    rt: &impl Abort,
     alloc: Global,
     address: SocketAddr,
     services: u32,
     entries: u32,
     expected: &str,
-) -> Result<(), Fail> {
+) {
     let event = Event::Serving {
         address,
         services,
         entries,
     };
-    expect(alloc, event, expected)
+    expect(rt, alloc, event, expected)
 }
 
 #[test]
-fn tells_where_the_server_serves(rt: HostRuntime) -> Result<(), Fail> {
+fn tells_where_the_server_serves(rt: HostRuntime) {
     let v4 = SocketAddr::new(IpAddr::V4(Ipv4Addr::new(127, 0, 0, 1)), 8080);
     expect_serving(
+        &rt,
         rt.alloc(),
         v4,
         3,
         12,
         "2026-11-26T01:45:09.123456Z INFO  serving on 127.0.0.1:8080, 3 services, 12 entries\n",
-    )?;
+    );
     let v6 = SocketAddr::new(IpAddr::V6(Ipv6Addr::LOCALHOST), 1);
     expect_serving(
+        &rt,
         rt.alloc(),
         v6,
         1,
@@ -242,13 +241,13 @@ fn tells_where_the_server_serves(rt: HostRuntime) -> Result<(), Fail> {
 }
 
 #[test]
-fn says_when_memory_is_refused(rt: HostRuntime) -> Result<(), Fail> {
-    let scarcity = Scarcity::new(rt.alloc(), 0)?;
+fn says_when_memory_is_refused(rt: HostRuntime) {
+    let scarcity = Scarcity::new(rt.alloc(), 0).expect(&rt, "memory");
     let line = Line {
         time: TIME,
         event: Event::LeftOut(3),
     };
     let refused = line.to_string(rt.alloc()).is_err();
     drop(scarcity);
-    same(&refused, &true, &"no memory")
+    assert!(rt; refused, "no memory");
 }

@@ -9,12 +9,13 @@ ghost use Rattle.desk_core.specs.Past.{past};
 ghost use Rattle.digest.specs.Alike.{AreAlike};
 ghost use Rattle.probe_core.specs.Made.{IsAsked};
 
-use crate::digest::Digest;
+use crate::same::same;
 use desk_core::{Call, Desk, Entry, Finding, Made, Refusal, Reply, Setting, Slot};
+use digest::Digest;
 use probe_core::{Depends, FnMaker, Maker, Manual, Probe, ProbeFn, Rule, Start, Threshold};
 use std::alloc::{AllocError, Global};
-use std::test::Fail;
-use test_support::{Scarcity, same};
+use std::process::Abort;
+use test_support::Scarcity;
 
 type Answer = Result<Reply, Refusal>;
 
@@ -65,18 +66,23 @@ fn call_for(numbers: &mut Numbers) -> Option<Call> {
     })
 }
 
-fn probe_for<P: Probe, M: Maker<P>>(maker: &M, call: &Call) -> Result<Option<P>, AllocError>
-    ensures { IfOk result (λ probe. option_map P.rule probe ≡ rule_of call.now) }
+fn probe_for<P: Probe, M: Maker<P>>(rt: &impl Abort, maker: &M, call: &Call) -> Option<P>
+    ensures { option_map P.rule result ≡ rule_of call.now }
 {
     match call {
-        Call::Register(_, rule) => Ok(Some(maker.make(*rule)?)),
-        _ => Ok(None),
+        Call::Register(_, rule) => Some(maker.make(*rule).expect(rt, "memory")),
+        _ => None,
     }
 }
 
-fn ask<P: Probe, M: Maker<P>>(desk: &mut Desk<P>, maker: &M, call: Call) -> Result<Answer, Fail> {
-    let probe = probe_for(maker, &call)?;
-    let answer = match desk.change(0, call, probe) {
+fn ask<P: Probe, M: Maker<P>>(
+    rt: &impl Abort,
+    desk: &mut Desk<P>,
+    maker: &M,
+    call: &Call,
+) -> Answer {
+    let probe = probe_for(rt, maker, call);
+    match desk.change(0, *call, probe) {
         Ok(
             Made {
                 reply,
@@ -85,8 +91,7 @@ fn ask<P: Probe, M: Maker<P>>(desk: &mut Desk<P>, maker: &M, call: Call) -> Resu
             },
         ) => Ok(reply),
         Err((refusal, _probe)) => Err(refusal),
-    };
-    Ok(answer)
+    }
 }
 
 /// A journal that comes to the same as this one, and is no longer.
@@ -105,41 +110,36 @@ fn statuses<P: Probe>(desk: &Desk<P>) -> u64 {
 }
 
 /// Makes random changes of a desk, replays its short history on another, and goes on with random changes of both.
-fn expect_script<P: Probe, M: Maker<P>>(alloc: Global, maker: &M, seed: u64) -> Result<(), Fail> {
+fn expect_script<P: Probe, M: Maker<P>>(rt: &impl Abort, alloc: Global, maker: &M, seed: u64) {
     let mut numbers = Numbers { state: seed };
     let mut long = Desk::<P>::new(alloc, 1_000);
     for _ in 0..numbers.below(80) {
-        let call = call_for(&mut numbers).ok_or("no slot")?;
-        let _ = ask(&mut long, maker, call)?;
+        let call = call_for(&mut numbers).expect(rt, "a slot");
+        let _ = ask(rt, &mut long, maker, &call);
     }
     let mut short = Desk::<P>::new(alloc, 1_000);
-    for entry in &shortened(alloc, long.journal())? {
-        same(
-            &ask(&mut short, maker, entry.call)?,
-            &Ok(entry.reply),
-            &(seed, entry),
-        )?;
+    for entry in &shortened(alloc, long.journal()).expect(rt, "memory") {
+        let answer = ask(rt, &mut short, maker, &entry.call);
+        same(rt, &answer, &Ok(entry.reply), &(seed, entry));
     }
-    same(&statuses(&short), &statuses(&long), &seed)?;
-    expect_alike(&mut long, &mut short, maker, &mut numbers)
+    same(rt, &statuses(&short), &statuses(&long), &seed);
+    expect_alike(rt, &mut long, &mut short, maker, &mut numbers);
 }
 
 fn expect_alike<P: Probe, M: Maker<P>>(
+    rt: &impl Abort,
     long: &mut Desk<P>,
     short: &mut Desk<P>,
     maker: &M,
     numbers: &mut Numbers,
-) -> Result<(), Fail> {
+) {
     for step in 0..40u32 {
-        let call = call_for(numbers).ok_or("no slot")?;
-        same(
-            &ask(short, maker, call)?,
-            &ask(long, maker, call)?,
-            &(step, call),
-        )?;
-        same(&statuses(short), &statuses(long), &(step, call))?;
+        let call = call_for(numbers).expect(rt, "a slot");
+        let answer = ask(rt, short, maker, &call);
+        let expected = ask(rt, long, maker, &call);
+        same(rt, &answer, &expected, &step);
+        same(rt, &statuses(short), &statuses(long), &step);
     }
-    Ok(())
 }
 
 /// What is asked of slot 1.
@@ -225,36 +225,44 @@ static ROWS: [Row; 16] = [
 ];
 
 /// The changes of the short history, and those that are expected.
-fn expect_row<P: Probe, M: Maker<P>>(alloc: Global, maker: &M, row: &Row) -> Result<(), Fail> {
+fn expect_row<P: Probe, M: Maker<P>>(rt: &impl Abort, alloc: Global, maker: &M, row: &Row) {
     let (rule, asked, left) = row;
-    let slot = Slot::new(1).ok_or("no slot")?;
+    let slot = Slot::new(1).expect(rt, "a slot");
     let mut desk = Desk::<P>::new(alloc, 100);
-    let _ = ask(&mut desk, maker, Call::Register(slot, *rule))?;
+    let _ = ask(rt, &mut desk, maker, &Call::Register(slot, *rule));
     for asked in *asked {
-        let _ = ask(&mut desk, maker, call_of(slot, *asked))?;
+        let _ = ask(rt, &mut desk, maker, &call_of(slot, *asked));
     }
     let taken = 1 + asked.len() as u64;
-    same(&Digest::of(desk.journal()).len(), &taken, &(*rule, *asked))?;
-    let short = shortened(alloc, desk.journal())?;
+    same(
+        rt,
+        &Digest::of(desk.journal()).len(),
+        &taken,
+        &(rule, asked),
+    );
+    let short = shortened(alloc, desk.journal()).expect(rt, "memory");
     let expected = match left {
         None => Vec::new(alloc),
-        Some(left) => expected_of(alloc, slot, *rule, left)?,
+        Some(left) => expected_of(rt, alloc, slot, *rule, left),
     };
-    same(&short, &expected, &(*rule, *asked))
+    same(rt, &short, &expected, &(rule, asked));
 }
 
 fn expected_of(
+    rt: &impl Abort,
     alloc: Global,
     slot: Slot,
     rule: Rule,
     left: &[Asked],
-) -> Result<Vec<Entry>, AllocError> {
+) -> Vec<Entry> {
     let mut entries = Vec::new(alloc);
-    entries.push(entry(Call::Register(slot, rule)))?;
+    let first = entry(Call::Register(slot, rule));
+    entries.push(first).expect(rt, "memory");
     for asked in left {
-        entries.push(entry(call_of(slot, *asked)))?;
+        let next = entry(call_of(slot, *asked));
+        entries.push(next).expect(rt, "memory");
     }
-    Ok(entries)
+    entries
 }
 
 fn entry(call: Call) -> Entry {
@@ -265,21 +273,20 @@ fn entry(call: Call) -> Entry {
     }
 }
 
-fn expect_all<P: Probe, F: ProbeFn<Made = P> + Drop>(alloc: Global, make: F) -> Result<(), Fail>
+fn expect_all<P: Probe, F: ProbeFn<Made = P> + Drop>(rt: &impl Abort, alloc: Global, make: F)
     requires { F.makes_asked make }
 {
     let maker = FnMaker::new(make);
     for row in &ROWS {
-        expect_row(alloc, &maker, row)?;
+        expect_row(rt, alloc, &maker, row);
     }
     for seed in 1..2_000u64 {
-        expect_script(alloc, &maker, seed)?;
+        expect_script(rt, alloc, &maker, seed);
     }
-    Ok(())
 }
 
 #[test]
-fn a_short_history_makes_the_same_registry(rt: HostRuntime) -> Result<(), Fail> {
+fn a_short_history_makes_the_same_registry(rt: HostRuntime) {
     let alloc = rt.alloc();
     let make = |rule: Rule| -> Result<Box<dyn Probe + Send>, AllocError>
         ensures { IsAsked (λ probe. (Probe-box probe).rule probe.value)
@@ -295,39 +302,42 @@ fn a_short_history_makes_the_same_registry(rt: HostRuntime) -> Result<(), Fail> 
         };
         Ok(probe)
     };
-    expect_all(alloc, make)
+    expect_all(&rt, alloc, make);
 }
 
 /// A digest of one service that failed so often.
-fn failed(times: u32) -> Result<Digest, Fail> {
-    let slot = Slot::new(1).ok_or("no slot")?;
+fn failed(rt: &impl Abort, times: u32) -> Digest {
+    let slot = Slot::new(1).expect(rt, "a slot");
     let mut digest = Digest::new();
     digest.note(&entry(Call::Register(slot, Rule::Threshold(1_000, 1, Start::Up))));
     for _ in 0..times {
         digest.note(&entry(Call::Observe(slot, Finding::Fail)));
     }
-    Ok(digest)
+    digest
 }
 
 /// Where memory runs out there are no entries, and the digest is as good as before.
 #[test]
-fn out_of_memory_is_an_error(rt: HostRuntime) -> Result<(), Fail> {
+fn out_of_memory_is_an_error(rt: HostRuntime) {
     let alloc = rt.alloc();
-    let digest = failed(999)?;
-    let scarcity = Scarcity::with_small_room(alloc)?;
-    let filler = scarcity.leave_steps(0)?;
+    let digest = failed(&rt, 999);
+    let scarcity = Scarcity::with_small_room(alloc).expect(&rt, "memory");
+    let filler = scarcity.leave_steps(0);
     let refused = digest.entries(alloc).is_err();
+    let is_filled = filler.is_ok();
     drop(filler);
     drop(scarcity);
-    same(&refused, &true, &"no memory")?;
-    same(&digest.entries(alloc)?.len(), &1_000, &"memory")
+    assert!(rt; is_filled, "a filler");
+    assert!(rt; refused, "no memory");
+    let entries = digest.entries(alloc).expect(&rt, "memory");
+    same(&rt, &entries.len(), &1_000, &"memory");
 }
 
 /// An entry has the reply that the history before it gives, and its rule may be registered there.
 #[test]
-fn only_a_legal_entry_is_taken_in(rt: HostRuntime) -> Result<(), Fail> {
-    let slot = Slot::new(1).ok_or("no slot")?;
-    let mut digest = failed(1)?;
+fn only_a_legal_entry_is_taken_in(rt: HostRuntime) {
+    let slot = Slot::new(1).expect(&rt, "a slot");
+    let mut digest = failed(&rt, 1);
     for (call, reply, expected) in [
         (Call::Observe(slot, Finding::Pass), Reply::Done, true),
         (Call::Observe(slot, Finding::Pass), Reply::Ignored, false),
@@ -355,12 +365,8 @@ fn only_a_legal_entry_is_taken_in(rt: HostRuntime) -> Result<(), Fail> {
             call,
             reply,
         });
-        same(&taken, &expected, &(call, reply))?;
-        same(
-            &digest.len(),
-            &before.saturating_add(u64::from(expected)),
-            &call,
-        )?;
+        same(&rt, &taken, &expected, &(call, reply));
+        let len = before.saturating_add(u64::from(expected));
+        same(&rt, &digest.len(), &len, &call);
     }
-    Ok(())
 }

@@ -1,8 +1,8 @@
-use super::Timer;
+use crate::same::same;
+use overdue::Timer;
 use std::io;
-use std::test::Fail;
+use std::process::Abort;
 use std::time::{Clock, Duration, Instant};
-use test_support::same;
 
 const SECOND: u64 = 1_000_000_000;
 
@@ -133,47 +133,50 @@ const CASES: [(&str, &[Step]); 9] = [
     ),
 ];
 
-fn reading(nanos: u64) -> io::Result<Instant> {
-    Instant::now(&At(nanos))
+fn reading(rt: &impl Abort, nanos: u64) -> Instant {
+    Instant::now(&At(nanos)).expect(rt, "a reading")
 }
 
-/// Takes a step with the timer. It fails where the timer tells otherwise.
-fn take(timer: &mut Timer, step: Step, case: &str) -> Result<(), Fail> {
+/// Takes a step with the timer. Says whether the timer tells what is expected.
+fn take(rt: &impl Abort, timer: &mut Timer, step: Step) -> bool {
     match step {
-        Step::Expect(nanos, seconds) => timer.expect(reading(nanos)?, seconds),
-        Step::Hear(nanos) => timer.hear(reading(nanos)?),
+        Step::Expect(nanos, seconds) => timer.expect(reading(rt, nanos), seconds),
+        Step::Hear(nanos) => timer.hear(reading(rt, nanos)),
         Step::End => timer.end(),
-        Step::Look(nanos, told) => same(&timer.look(reading(nanos)?), &told, &(case, step))?,
-        Step::Refuse(nanos) => timer.refuse(reading(nanos)?),
-        Step::Due(None) => same(&timer.due(), &None, &(case, step))?,
-        Step::Due(Some(nanos)) => same(&timer.due(), &Some(reading(nanos)?), &(case, step))?,
+        Step::Refuse(nanos) => timer.refuse(reading(rt, nanos)),
+        Step::Look(nanos, told) => return timer.look(reading(rt, nanos)) == told,
+        Step::Due(None) => return timer.due().is_none(),
+        Step::Due(Some(nanos)) => return timer.due() == Some(reading(rt, nanos)),
     }
-    Ok(())
+    true
 }
 
 #[test]
-fn tells_once_and_when_due() -> Result<(), Fail> {
+fn tells_once_and_when_due(rt: HostRuntime) {
     for (case, steps) in CASES {
         let mut timer = Timer::new();
         for step in steps {
-            take(&mut timer, *step, case)?;
+            assert!(rt; take(&rt, &mut timer, *step), "{case}: {step:?}");
         }
     }
-    Ok(())
 }
 
 /// At so many seconds each clock ends.
 const END: u64 = 1 << 63;
 
+/// A moment of ten seconds before that.
+fn last_but_ten(rt: &impl Abort) -> Instant {
+    let last = reading(rt, 0).checked_add(Duration::from_secs(END - 10));
+    last.expect(rt, "a clock that goes so far")
+}
+
 #[test]
-fn a_moment_past_the_end_of_the_clock_is_never_due() -> Result<(), Fail> {
-    let Some(last) = reading(0)?.checked_add(Duration::from_secs(END - 10)) else {
-        return Err(Fail::new("the clock does not go so far"));
-    };
+fn a_moment_past_the_end_of_the_clock_is_never_due(rt: HostRuntime) {
+    let last = last_but_ten(&rt);
     let mut timer = Timer::new();
     timer.expect(last, 9);
-    same(&timer.due().is_some(), &true, &9)?;
+    assert!(rt; timer.due().is_some(), "a period of 9");
     timer.expect(last, 10);
-    same(&timer.due(), &None, &10)?;
-    same(&timer.look(last), &false, &10)
+    same(&rt, &timer.due(), &None, &"a period of 10");
+    assert!(rt; !timer.look(last), "a period of 10");
 }

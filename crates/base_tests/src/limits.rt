@@ -1,6 +1,5 @@
-use super::*;
-use std::test::Fail;
-use test_support::same;
+use crate::same::same;
+use open_files::{OpenFiles, open_files, open_files_in};
 
 /// As Linux wrote it.
 const WHOLE: &[u8] = b"\
@@ -50,22 +49,20 @@ const CASES: [(&[u8], Option<OpenFiles>); 16] = [
 ];
 
 #[test]
-fn reads_the_soft_limit() -> Result<(), Fail> {
+fn reads_the_soft_limit(rt: HostRuntime) {
     for (at, (text, expected)) in CASES.iter().enumerate() {
-        same(&open_files_in(text), expected, &at)?;
+        same(&rt, &open_files_in(text), expected, &at);
     }
-    Ok(())
 }
 
 #[test]
-fn no_limit_is_the_largest_number() -> Result<(), Fail> {
-    same(&OpenFiles::AtMost(7).count(), &7, &"a limit")?;
-    same(&OpenFiles::Unlimited.count(), &u64::MAX, &"none")
+fn no_limit_is_the_largest_number(rt: HostRuntime) {
+    same(&rt, &OpenFiles::AtMost(7).count(), &7, &"a limit");
+    same(&rt, &OpenFiles::Unlimited.count(), &u64::MAX, &"none");
 }
 
 #[test]
-fn this_process_has_a_limit(rt: HostRuntime) -> Result<(), Fail> {
-    let limit = open_files(&rt, rt.alloc())?;
+fn this_process_has_a_limit(rt: HostRuntime) {
+    let limit = open_files(&rt, rt.alloc()).expect(&rt, "the limits");
     assert!(rt; limit.count() > 3, "{limit:?}");
-    Ok(())
 }

@@ -2,7 +2,7 @@ use Rattle.std.proofs.Common.{◌≤◌, ℕ, IfOk, vec_len, subst}
 use Rattle.std.proofs.lemmas.List.{length-reverse}
 use Rattle.desk_core.specs.Past.{past}
 use Rattle.digest.proofs.AlikeLemmas.{alike_itself}
-use Rattle.digest.proofs.tests.shortened.Goals as goal
+use Rattle.journal_tests.proofs.digests.shortened.Goals as goal
 
 pub returns-clause-no_longer : goal.returns-clause-no_longer
 returns-clause-no_longer c =

@@ -1,9 +1,9 @@
-use super::*;
-use crate::laws::read_gives_back;
-use desk_core::{Call, Finding, Reply, Setting, Slot};
+use crate::same::same;
+use chronicle::Who;
+use desk_core::{Call, Entry, Finding, Reply, Setting, Slot};
+use entry_record::{Stored, read_gives_back};
 use probe_core::{Rule, Start};
-use std::test::Fail;
-use test_support::same;
+use std::process::Abort;
 
 /// A call, its slot as a number.
 #[derive(Clone, Copy)]
@@ -136,65 +136,62 @@ static ROWS: [Row; 12] = [
     },
 ];
 
-fn slot(number: u8) -> Result<Slot, Fail> {
-    Ok(Slot::new(number).ok_or("a slot is out of range")?)
+fn slot(rt: &impl Abort, number: u8) -> Slot {
+    Slot::new(number).expect(rt, "a slot")
 }
 
-fn call(asked: Asked) -> Result<Call, Fail> {
-    Ok(match asked {
-        Asked::Register(number, rule) => Call::Register(slot(number)?, rule),
-        Asked::Retire(number) => Call::Retire(slot(number)?),
-        Asked::Observe(number, finding) => Call::Observe(slot(number)?, finding),
-        Asked::Set(number, setting) => Call::Set(slot(number)?, setting),
+fn call(rt: &impl Abort, asked: Asked) -> Call {
+    match asked {
+        Asked::Register(number, rule) => Call::Register(slot(rt, number), rule),
+        Asked::Retire(number) => Call::Retire(slot(rt, number)),
+        Asked::Observe(number, finding) => Call::Observe(slot(rt, number), finding),
+        Asked::Set(number, setting) => Call::Set(slot(rt, number), setting),
         Asked::Shutdown => Call::Shutdown,
         Asked::Resume => Call::Resume,
-    })
+    }
 }
 
-fn stored(row: &Row) -> Result<Stored, Fail> {
+fn stored(rt: &impl Abort, row: &Row) -> Stored {
     let entry = Entry {
         seat: row.seat,
-        call: call(row.asked)?,
+        call: call(rt, row.asked),
         reply: row.reply,
     };
-    Ok(Stored {
+    Stored {
         entry,
         micros: row.micros,
         who: row.who,
-    })
+    }
 }
 
-fn expect(found: &Option<Stored>, expected: &Option<Stored>, bytes: &[u8]) -> Result<(), Fail> {
-    same(found, expected, &bytes)
+fn expect(rt: &impl Abort, found: &Option<Stored>, expected: &Option<Stored>, bytes: &[u8]) {
+    same(rt, found, expected, &bytes);
 }
 
 #[test]
-fn writes_and_reads_each_row() -> Result<(), Fail> {
+fn writes_and_reads_each_row(rt: HostRuntime) {
     for row in &ROWS {
-        let stored = stored(row)?;
-        same(&stored.write().as_bytes(), &row.bytes, &"written")?;
+        let stored = stored(&rt, row);
+        same(&rt, &stored.write().as_bytes(), &row.bytes, &"written");
         let back = read_gives_back(&stored);
         let expected = Some(stored);
-        expect(&Stored::read(row.bytes), &expected, row.bytes)?;
-        expect(&back, &expected, row.bytes)?;
+        expect(&rt, &Stored::read(row.bytes), &expected, row.bytes);
+        expect(&rt, &back, &expected, row.bytes);
     }
-    Ok(())
 }
 
-fn refuses_fronts_of(bytes: &[u8]) -> Result<(), Fail> {
+fn refuses_fronts_of(rt: &impl Abort, bytes: &[u8]) {
     for count in 0..bytes.len() {
         let is_refused = Stored::read(&bytes[..count]).is_none();
-        same(&is_refused, &true, &(bytes, count))?;
+        assert!(rt; is_refused, "{count} of {bytes:?}");
     }
-    Ok(())
 }
 
 #[test]
-fn refuses_too_few_bytes() -> Result<(), Fail> {
+fn refuses_too_few_bytes(rt: HostRuntime) {
     for row in &ROWS {
-        refuses_fronts_of(row.bytes)?;
+        refuses_fronts_of(&rt, row.bytes);
     }
-    Ok(())
 }
 
 static REFUSED: [(&str, &[u8]); 11] = [
@@ -234,10 +231,9 @@ static REFUSED: [(&str, &[u8]); 11] = [
 ];
 
 #[test]
-fn refuses_what_no_entry_has() -> Result<(), Fail> {
+fn refuses_what_no_entry_has(rt: HostRuntime) {
     for (case, bytes) in &REFUSED {
         let is_refused = Stored::read(bytes).is_none();
-        same(&is_refused, &true, case)?;
+        assert!(rt; is_refused, "{case}");
     }
-    Ok(())
 }

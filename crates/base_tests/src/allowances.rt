@@ -1,6 +1,6 @@
-use super::Allowance;
-use std::test::Fail;
-use test_support::same;
+use crate::same::same;
+use log_lines::Allowance;
+use std::process::Abort;
 
 /// What a test does with an allowance, each at a reading in milliseconds.
 #[derive(Clone, Copy)]
@@ -84,7 +84,7 @@ static CASES: [(&str, &[Step]); 7] = [
 ];
 
 /// Takes a step with the allowance. It fails where the allowance tells otherwise.
-fn follow(allowance: &mut Allowance, step: Step, case: &str) -> Result<(), Fail> {
+fn follow(rt: &impl Abort, allowance: &mut Allowance, step: Step, case: &str) {
     match step {
         Step::Take(now, asked, expected) => {
             let mut taken: u32 = 0;
@@ -93,19 +93,20 @@ fn follow(allowance: &mut Allowance, step: Step, case: &str) -> Result<(), Fail>
                     taken = taken.saturating_add(1);
                 }
             }
-            same(&taken, &expected, &(case, now))
+            same(rt, &taken, &expected, &(case, now));
         }
-        Step::LeftOut(now, expected) => same(&allowance.left_out(now), &expected, &(case, now)),
+        Step::LeftOut(now, expected) => {
+            same(rt, &allowance.left_out(now), &expected, &(case, now));
+        }
     }
 }
 
 #[test]
-fn writes_a_hundred_lines_a_second_and_counts_the_rest() -> Result<(), Fail> {
+fn writes_a_hundred_lines_a_second_and_counts_the_rest(rt: HostRuntime) {
     for (case, steps) in &CASES {
         let mut allowance = Allowance::new();
         for step in *steps {
-            follow(&mut allowance, *step, case)?;
+            follow(&rt, &mut allowance, *step, case);
         }
     }
-    Ok(())
 }

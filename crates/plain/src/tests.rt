@@ -1,4 +1,0 @@
-mod answers;
-mod memory;
-mod refusals;
-mod staged;

@@ -1,0 +1,32 @@
+//! What each scene begins with.
+
+use desk_core::Catalogue;
+use std::alloc::Global;
+use std::process::Abort;
+use std::sync::Arc;
+use watchdog::{Expectations, Watchdog};
+
+/// A catalogue of these names.
+pub(crate) fn catalogue_of(rt: &impl Abort, alloc: Global, texts: &[&str]) -> Catalogue {
+    let mut names = Vec::new(alloc);
+    for text in texts {
+        let name = String::from_str(alloc, text).expect(rt, "memory");
+        names.push(name).expect(rt, "memory");
+    }
+    Catalogue::new(alloc, names).expect(rt, "a catalogue")
+}
+
+/// What is expected, and the watchdog that sees to it.
+pub(crate) fn watchdog_of(rt: &impl Abort, alloc: Global) -> (Arc<Expectations>, Watchdog) {
+    let expectations = Expectations::new(alloc).expect(rt, "memory");
+    let shared: Result<_, _> = Arc::new(alloc, expectations);
+    let shared = shared.expect(rt, "memory");
+    let watchdog = Watchdog::new(alloc, handle_of(rt, &shared)).expect(rt, "memory");
+    (shared, watchdog)
+}
+
+/// One more handle of what is expected.
+pub(crate) fn handle_of(rt: &impl Abort, shared: &Arc<Expectations>) -> Arc<Expectations> {
+    let handle: Result<_, _> = shared.clone();
+    handle.expect(rt, "a handle")
+}
