@@ -42,6 +42,8 @@ where
     R: Files + Net<Listener = TcpListener, Stream = TcpStream>,
     // nothing is bound before
     requires set_up { (calls : List (Option Call)) × IsWhollySetUp calls made.now }
+    ensures plain { IfOk result (λ listening. IsSome options.entry.plain
+        → IsSome listening.plain) }
     ensures controlled { IfOk result (λ listening. IsSome listening.control ↔ IsSome
         options.entry.control) }
     ensures reported { IfOk result (λ listening. IsSome listening.report ↔ IsSome
@@ -97,6 +99,7 @@ where
     R: Net<Listener = TcpListener, Stream = TcpStream>,
     // nothing is bound before
     requires set_up { (calls : List (Option Call)) × IsWhollySetUp calls made.now }
+    ensures there { IfOk result (λ listener. IsSome addr → IsSome listener) }
 {
     match (sockets.take(), addr) {
         (Some(Ok(listener)), _) => Ok(Some(listener)),

@@ -1,6 +1,7 @@
-use crate::command::{HOST, MAX_WORKERS, port_in};
+use crate::command::port_in;
 use crate::fault::Fault;
 use crate::input::read;
+use crate::options::{HOST, MAX_WORKERS};
 use clap::ArgMatches;
 use probe_core::{Maker, Probe};
 use script::{Mode, read_script};
