@@ -19,10 +19,11 @@ STATUSES = [
 
 
 class Option:
-    """An option or an argument: its name, the name of its value, what is said of it, and the values that it may have."""
+    """An option or an argument: its name, the name of its value, what is said of it, the values that it may have, and whether it may be
+    without one."""
 
-    def __init__(self, short, name, value, text):
-        self.short, self.name, self.value, self.text = short, name, value, text
+    def __init__(self, short, name, value, text, may_lack=False):
+        self.short, self.name, self.value, self.text, self.may_lack = short, name, value, text, may_lack
 
     @property
     def values(self):
@@ -64,8 +65,8 @@ class Page:
                     found = re.fullmatch(r"([<[](\w+)[]>](?:\.\.\.)?) ?(.*)", row)
                     self.arguments.append(Option("", found[1], found[2], found[3]))
                 else:
-                    found = re.fullmatch(r"(?:(-\w), )?(--[\w-]+)(?: <(\w+)>)? ?(.*)", row)
-                    self.options.append(Option(found[1] or "", found[2], found[3] or "", found[4]))
+                    found = re.fullmatch(r"(?:(-\w), )?(--[\w-]+)(?: (\[?)<(\w+)>\]?)? ?(.*)", row)
+                    self.options.append(Option(found[1] or "", found[2], found[4] or "", found[5], bool(found[3])))
 
 
 def said_by(program, *words):
@@ -103,7 +104,8 @@ def man_page(version, page, commands):
             if it.name == "--help":
                 continue
             flags = ", ".join(f"\\fB{roff(flag)}\\fR" for flag in (it.short, it.name) if flag)
-            out += [".TP", flags + (f" \\fI{roff(it.value)}\\fR" if it.value and it.name.startswith("-") else ""), roff(it.text)]
+            value = f"\\fI{roff(it.value)}\\fR" if it.value and it.name.startswith("-") else ""
+            out += [".TP", f"{flags} [{value}]" if it.may_lack else f"{flags} {value}".rstrip(), roff(it.text)]
         out += man_text(command.after) if command.after else []
     out += [".SH EXIT STATUS"]
     for number, text in STATUSES:
@@ -123,7 +125,7 @@ def bash(page, commands):
                 out += [f'    "{name} {it.name}") mapfile -t COMPREPLY < <(compgen -W "{" ".join(it.values)}" -- "$word") && return ;;']
             elif it.takes_file:
                 files.append(f'"{name} {it.name}"')
-            elif it.value:
+            elif it.value and not it.may_lack:
                 plain.append(f'"{name} {it.name}"')
     out += [f"    {' | '.join(files)}) compopt -o filenames 2>/dev/null; mapfile -t COMPREPLY < <(compgen -f -- \"$word\") && return ;;"]
     out += [f"    {' | '.join(plain)}) return ;;", "  esac", "  case $command in"]
@@ -143,7 +145,7 @@ def quoted(text):
 
 def zsh(page, commands):
     def words(it):
-        value = f":{it.value}:" if it.value else ""
+        value = f"{':' * (1 + it.may_lack)}{it.value}:" if it.value else ""
         value += f"({' '.join(it.values)})" if it.values else "_files" if it.takes_file else ""
         brief = quoted(it.brief).replace("[", "\\[").replace("]", "\\]").replace(":", "\\:")
         return f"'{it.name}[{brief}]{value}'"
@@ -165,7 +167,7 @@ def fish(page, commands):
         for it in command.options:
             row = f"complete -c healthd -n '__fish_seen_subcommand_from {name}' -l {it.name[2:]}"
             row += f" -s {it.short[1:]}" if it.short else ""
-            row += f" -x -a '{' '.join(it.values)}'" if it.values else " -r -F" if it.takes_file else " -x" if it.value else ""
+            row += f" -x -a '{' '.join(it.values)}'" if it.values else " -r -F" if it.takes_file else " -x" if it.value and not it.may_lack else ""
             out += [f"{row} -d '{quoted(it.brief)}'"]
         if any(it.takes_file for it in command.arguments):
             out += [f"complete -c healthd -n '__fish_seen_subcommand_from {name}' -F"]

@@ -9,7 +9,7 @@ _healthd() {
   case "$command $last" in
     "ask --expect") mapfile -t COMPREPLY < <(compgen -W "UNKNOWN SERVING NOT_SERVING SERVICE_UNKNOWN" -- "$word") && return ;;
     "run --control" | "run --report" | "run --script" | "run --journal" | "tell --control" | "status --control" | "history --control" | "observe --control") compopt -o filenames 2>/dev/null; mapfile -t COMPREPLY < <(compgen -f -- "$word") && return ;;
-    "serve --port" | "serve --workers" | "serve --calls" | "run --listen" | "run --plain" | "run --threads" | "run --connections" | "run --watches" | "ask --port" | "ask --host" | "ask --name" | "ask --watch" | "ask --timeout" | "tell --timeout" | "status --timeout" | "history --timeout" | "history --last" | "observe --every" | "observe --timeout") return ;;
+    "serve --port" | "serve --workers" | "serve --calls" | "run --listen" | "run --plain" | "run --threads" | "run --connections" | "run --watches" | "ask --port" | "ask --host" | "ask --name" | "ask --timeout" | "tell --timeout" | "status --timeout" | "history --timeout" | "history --last" | "observe --every" | "observe --timeout") return ;;
   esac
   case $command in
     body) mapfile -t COMPREPLY < <(compgen -W "--help" -- "$word") ;;

@@ -25,7 +25,7 @@ complete -c healthd -n __fish_use_subcommand -a ask -d 'Ask for the status of a 
 complete -c healthd -n '__fish_seen_subcommand_from ask' -l port -x -d 'The port of the server'
 complete -c healthd -n '__fish_seen_subcommand_from ask' -l host -x -d 'The IP address of the server'
 complete -c healthd -n '__fish_seen_subcommand_from ask' -l name -x -d 'The service to ask for'
-complete -c healthd -n '__fish_seen_subcommand_from ask' -l watch -x -d 'Watch the service for at most so many statuses'
+complete -c healthd -n '__fish_seen_subcommand_from ask' -l watch -d 'Watch the service and print each status as it comes'
 complete -c healthd -n '__fish_seen_subcommand_from ask' -l timeout -x -d 'How many seconds the whole call may take'
 complete -c healthd -n '__fish_seen_subcommand_from ask' -l expect -x -a 'UNKNOWN SERVING NOT_SERVING SERVICE_UNKNOWN' -d 'End with exit status 3 unless the last status is this one'
 complete -c healthd -n '__fish_seen_subcommand_from ask' -l help -s h -d 'Print help'

@@ -1,16 +1,17 @@
 //! Calls of `client::ask` over worked requests and responses.
 
+use crate::same::same;
 use client::{AskFault, Told, ask};
-use std::alloc::{AllocError, Global};
+use std::alloc::Global;
 use std::io;
 use std::io::Read;
-use std::test::Fail;
-use test_support::same;
+use std::process::Abort;
 use web_call::Method;
 
 mod bodies;
 mod chunks;
 mod faults;
+mod following;
 mod heads;
 mod memory;
 mod requests;
@@ -55,7 +56,7 @@ impl Read for SlowReader<'_> {
 const SHORT_LEN: usize = 10_000;
 
 /// Asks for the empty name over this input, as it is and in pieces.
-fn expect(alloc: Global, input: &[u8], case: &Case<'_>) -> Result<(), Fail> {
+fn expect(rt: &impl Abort, alloc: Global, input: &[u8], case: &Case<'_>) {
     let (method, most, told, unread) = *case;
     let mut written = Vec::new(alloc);
     let mut whole = input;
@@ -68,26 +69,27 @@ fn expect(alloc: Global, input: &[u8], case: &Case<'_>) -> Result<(), Fail> {
     let second = ask(alloc, &mut pieces, &mut written, method, "", most.max(1));
     let found = (seen(&first), whole.len(), seen(&second), pieces.rest.len());
     same(
+        rt,
         &found,
         &(told, unread, told, unread),
         &(input.len(), method, most),
-    )
+    );
 }
 
 /// The same over these parts, one behind the other.
-fn expect_over(alloc: Global, parts: &[&[u8]], case: &Case<'_>) -> Result<(), Fail> {
-    let input = bytes_of(alloc, parts)?;
-    expect(alloc, &input, case)
+fn expect_over(rt: &impl Abort, alloc: Global, parts: &[&[u8]], case: &Case<'_>) {
+    let input = bytes_of(rt, alloc, parts);
+    expect(rt, alloc, &input, case);
 }
 
 /// The same over a response with this body, whose length its head tells.
-fn expect_of_body(alloc: Global, body: &[u8], case: &Case<'_>) -> Result<(), Fail> {
-    let input = of_length(alloc, body)?;
-    expect(alloc, &input, case)
+fn expect_of_body(rt: &impl Abort, alloc: Global, body: &[u8], case: &Case<'_>) {
+    let input = of_length(rt, alloc, body);
+    expect(rt, alloc, &input, case);
 }
 
 /// A call that needs so many bytes of the input answers `Read` over fewer, and leaves those behind.
-fn expect_at_each_cut(alloc: Global, input: &[u8], case: &Case<'_>) -> Result<(), Fail> {
+fn expect_at_each_cut(rt: &impl Abort, alloc: Global, input: &[u8], case: &Case<'_>) {
     let (method, most, told, unread) = *case;
     let needed = input.len().saturating_sub(unread);
     for len in 0..=input.len() {
@@ -96,9 +98,8 @@ fn expect_at_each_cut(alloc: Global, input: &[u8], case: &Case<'_>) -> Result<()
         } else {
             (method, most, told, len - needed)
         };
-        expect(alloc, &input[..len], &cut)?;
+        expect(rt, alloc, &input[..len], &cut);
     }
-    Ok(())
 }
 
 /// Responses, and what calls tell over each front of them.
@@ -143,11 +144,10 @@ const ANSWERS: [(&[u8], Case<'static>); 6] = [
 ];
 
 #[test]
-fn tells_what_the_response_says_over_each_front_of_it(rt: HostRuntime) -> Result<(), Fail> {
+fn tells_what_the_response_says_over_each_front_of_it(rt: HostRuntime) {
     for (input, case) in &ANSWERS {
-        expect_at_each_cut(rt.alloc(), *input, case)?;
+        expect_at_each_cut(&rt, rt.alloc(), *input, case);
     }
-    Ok(())
 }
 
 /// Each fault, and its text on standard error behind the program's name.
@@ -160,10 +160,9 @@ const FAULTS: [(AskFault, &str); 5] = [
 ];
 
 #[test]
-fn tells_each_fault_in_words(rt: HostRuntime) -> Result<(), Fail> {
+fn tells_each_fault_in_words(rt: HostRuntime) {
     for (fault, expected) in &FAULTS {
-        let text = fault.to_string(rt.alloc())?;
-        same(&text.as_str(), expected, fault)?;
+        let text = fault.to_string(rt.alloc()).expect(&rt, "memory");
+        same(&rt, &text.as_str(), expected, fault);
     }
-    Ok(())
 }

@@ -5,7 +5,7 @@ use health_wire::Serving;
 use plain::Inquiry;
 use probe_core::Manual;
 use std::alloc::{AllocError, Global};
-use std::test::Fail;
+use std::process::Abort;
 use web_call::Door;
 
 /// It keeps the last sixteen changes.
@@ -27,11 +27,13 @@ impl Keep for KeepSixteen {
 }
 
 /// A catalogue of `a` and the empty name.
-pub(crate) fn catalogue(alloc: Global) -> Result<Catalogue, Fail> {
-    let mut names = Vec::with_capacity(alloc, 2)?;
-    names.push(String::from_str(alloc, "a")?)?;
-    names.push(String::new(alloc))?;
-    Ok(Catalogue::new(alloc, names)?)
+pub(crate) fn catalogue(rt: &impl Abort, alloc: Global) -> Catalogue {
+    let mut names = Vec::with_capacity(alloc, 2).expect(rt, "memory");
+    names
+        .push(String::from_str(alloc, "a").expect(rt, "memory"))
+        .expect(rt, "memory");
+    names.push(String::new(alloc)).expect(rt, "memory");
+    Catalogue::new(alloc, names).expect(rt, "memory")
 }
 
 /// A door over its own desk, on which the empty name alone is registered. The name is serving, and set down and up in turn before each

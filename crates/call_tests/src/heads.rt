@@ -1,7 +1,7 @@
+use crate::same::same;
 use grpc_frame::Code;
-use std::alloc::{AllocError, Global};
-use std::test::Fail;
-use test_support::same;
+use std::alloc::Global;
+use std::process::Abort;
 use web_call::{Headed, Method, head_of};
 
 const CHECK: &str = "POST /grpc.health.v1.Health/Check HTTP/1.1";
@@ -38,13 +38,17 @@ const TOO_LARGE: Headed = Headed::Status(Code::ResourceExhausted, "request too l
 const UNKNOWN: Headed = Headed::Status(Code::Unimplemented, "unknown method");
 
 /// Appends a head of this start line and these header lines.
-fn push_head(bytes: &mut Vec<u8>, start: &str, lines: &[&str]) -> Result<(), AllocError> {
-    bytes.extend_from_slice(start.as_bytes())?;
+fn push_head(rt: &impl Abort, bytes: &mut Vec<u8>, start: &str, lines: &[&str]) {
+    bytes
+        .extend_from_slice(start.as_bytes())
+        .expect(rt, "memory");
     for line in lines {
-        bytes.extend_from_slice(b"\r\n")?;
-        bytes.extend_from_slice(line.as_bytes())?;
+        bytes.extend_from_slice(b"\r\n").expect(rt, "memory");
+        bytes
+            .extend_from_slice(line.as_bytes())
+            .expect(rt, "memory");
     }
-    bytes.extend_from_slice(b"\r\n\r\n")
+    bytes.extend_from_slice(b"\r\n\r\n").expect(rt, "memory");
 }
 
 /// Start lines and header lines, from the last fault that is looked for to the first.
@@ -166,13 +170,12 @@ const HEADS: [(&str, &[&str], Headed); 31] = [
 ];
 
 #[test]
-fn looks_for_the_faults_of_a_head_in_their_order(rt: HostRuntime) -> Result<(), Fail> {
+fn looks_for_the_faults_of_a_head_in_their_order(rt: HostRuntime) {
     for &(start, lines, expected) in &HEADS {
         let mut head = Vec::new(rt.alloc());
-        push_head(&mut head, start, lines)?;
-        same(&head_of(&head), &expected, &(start, lines))?;
+        push_head(&rt, &mut head, start, lines);
+        same(&rt, &head_of(&head), &expected, &(start, lines));
     }
-    Ok(())
 }
 
 /// Bytes that are no head, or not a head alone.
@@ -185,11 +188,10 @@ const ENDS: [(&[u8], Headed); 5] = [
 ];
 
 #[test]
-fn takes_a_head_that_is_all_of_the_bytes(_rt: HostRuntime) -> Result<(), Fail> {
+fn takes_a_head_that_is_all_of_the_bytes(rt: HostRuntime) {
     for &(head, expected) in &ENDS {
-        same(&head_of(head), &expected, &head)?;
+        same(&rt, &head_of(head), &expected, &head);
     }
-    Ok(())
 }
 
 const FRONT: &[u8] = b"POST /grpc.health.v1.Health/Check HTTP/1.1\r\n\
@@ -205,14 +207,14 @@ const SIZES: [(usize, &[u8], Headed); 5] = [
 ];
 
 #[test]
-fn takes_heads_up_to_8192_bytes(rt: HostRuntime) -> Result<(), Fail> {
+fn takes_heads_up_to_8192_bytes(rt: HostRuntime) {
     for &(size, end, expected) in &SIZES {
-        let mut head = FRONT.to_vec(rt.alloc())?;
-        head.resize(size.saturating_sub(end.len()), b'a')?;
-        head.extend_from_slice(end)?;
-        same(&(head.len(), head_of(&head)), &(size, expected), &end)?;
+        let mut head = FRONT.to_vec(rt.alloc()).expect(&rt, "memory");
+        head.resize(size.saturating_sub(end.len()), b'a')
+            .expect(&rt, "memory");
+        head.extend_from_slice(end).expect(&rt, "memory");
+        same(&rt, &(head.len(), head_of(&head)), &(size, expected), &end);
     }
-    Ok(())
 }
 
 /// How many header lines there are beside the first. An empty line before the start line counts as one more.
@@ -231,20 +233,19 @@ const LINES: [(&str, usize, Headed); 4] = [
     ),
 ];
 
-fn lines(alloc: Global, more: usize) -> Result<Vec<&'static str>, AllocError> {
+fn lines(rt: &impl Abort, alloc: Global, more: usize) -> Vec<&'static str> {
     let mut lines = Vec::new(alloc);
-    lines.resize(more, "x: y")?;
-    lines.push(TYPE)?;
-    Ok(lines)
+    lines.resize(more, "x: y").expect(rt, "memory");
+    lines.push(TYPE).expect(rt, "memory");
+    lines
 }
 
 #[test]
-fn takes_up_to_32_header_lines(rt: HostRuntime) -> Result<(), Fail> {
+fn takes_up_to_32_header_lines(rt: HostRuntime) {
     for &(start, more, expected) in &LINES {
-        let lines = lines(rt.alloc(), more)?;
+        let lines = lines(&rt, rt.alloc(), more);
         let mut head = Vec::new(rt.alloc());
-        push_head(&mut head, start, &lines)?;
-        same(&head_of(&head), &expected, &(start, more))?;
+        push_head(&rt, &mut head, start, &lines);
+        same(&rt, &head_of(&head), &expected, &(start, more));
     }
-    Ok(())
 }

@@ -1,4 +1,4 @@
-//! Tests of the crates that make a call, `web_call` and `client`. They see public calls alone.
+//! Tests of the crates that answer a request, `web_call` and `plain`, and of `client`. They see public calls alone.
 #![tactic(auto)]
 
 #[cfg(test)]
@@ -16,6 +16,8 @@ mod faults;
 #[cfg(test)]
 mod heads;
 #[cfg(test)]
+mod inquiries;
+#[cfg(test)]
 mod memory;
 #[cfg(test)]
 mod pieces;
@@ -23,6 +25,8 @@ mod pieces;
 mod rows;
 #[cfg(test)]
 mod runs;
+#[cfg(test)]
+mod same;
 #[cfg(test)]
 mod texts;
 #[cfg(test)]

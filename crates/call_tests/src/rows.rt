@@ -6,7 +6,7 @@ use crate::runs::{Asked, Run, exchange_over};
 use grpc_frame::Code;
 use std::alloc::Global;
 use std::io::Write;
-use std::test::Fail;
+use std::process::Abort;
 use test_support::requests::{
     CHECK_OF_EMPTY, CHECK_OF_ZZ, CHECK_WITHOUT_TYPE, LIST, WATCH_OF_EMPTY, WATCH_OF_ZZ,
 };
@@ -35,12 +35,12 @@ fn at(flushed: usize, asked: &[Asked]) -> Asked {
 }
 
 impl Row {
-    pub(crate) fn answer<W: Write>(&self, alloc: Global, writer: &mut W) -> Result<Run, Fail> {
-        let catalogue = catalogue(alloc)?;
+    pub(crate) fn answer<W: Write>(&self, rt: &impl Abort, alloc: Global, writer: &mut W) -> Run {
+        let catalogue = catalogue(rt, alloc);
         let mut door = Flipping::new(alloc, &catalogue, self.flips);
         let mut rest = self.input;
         let turns = self.turns;
-        Ok(exchange_over(alloc, &mut rest, writer, &mut door, turns, LOOKS))
+        exchange_over(alloc, &mut rest, writer, &mut door, turns, LOOKS)
     }
 
     /// How many writes and flushes there are.

@@ -1,9 +1,10 @@
 use crate::answers::*;
+use crate::same::same;
 use grpc_frame::Code;
 use health_wire::Serving;
 use std::alloc::{AllocError, Global};
-use std::test::Fail;
-use test_support::{Scarcity, same};
+use std::process::Abort;
+use test_support::Scarcity;
 use web_call::{
     Ask, Method, ask_of, check_body, check_text, refuse_text, status_body, status_text, watch_head,
 };
@@ -50,12 +51,12 @@ const NOT_FOUND_BODY: &[u8] = b"\x80\0\0\0\x2dgrpc-status:5\r\ngrpc-message:unkn
 const SERVING_BODY: &[u8] = b"\0\0\0\0\x02\x08\x01\x80\0\0\0\x0fgrpc-status:0\r\n";
 
 #[test]
-fn makes_each_text(rt: HostRuntime) -> Result<(), Fail> {
+fn makes_each_text(rt: HostRuntime) {
     for &(text, expected) in &TEXTS {
-        let made = text.make(rt.alloc())?;
-        same(&made.as_slice(), &expected, &text)?;
+        let made = text.make(rt.alloc()).expect(&rt, "memory");
+        same(&rt, &made.as_slice(), &expected, &text);
     }
-    same(&watch_head(), &WATCH_HEAD, &"the head of a Watch")
+    same(&rt, &watch_head(), &WATCH_HEAD, &"the head of a Watch");
 }
 
 /// In how many steps the memory that is left grows: enough for each text.
@@ -63,53 +64,62 @@ const STEPS: usize = 128;
 
 /// Makes a text that grows so often at least, with more and more memory left: it is whole, or refused. A process makes one of them,
 /// since the C library keeps small blocks that were freed.
-fn expect_refused(alloc: Global, text: Text, growths: usize, expected: &[u8]) -> Result<(), Fail> {
-    let scarcity = Scarcity::with_small_room(alloc)?;
+fn expect_refused(rt: &impl Abort, alloc: Global, text: Text, growths: usize, expected: &[u8]) {
+    let scarcity = Scarcity::with_small_room(alloc).expect(rt, "scarcity");
     let mut refused = 0usize;
+    let mut wrong = None;
     for step in 0..STEPS {
-        let filler = scarcity.leave_steps(step)?;
-        let made = text.make(alloc);
-        drop(filler);
-        match made {
-            Ok(made) => same(&made.as_slice(), &expected, &(text, step))?,
+        let filler = scarcity.leave_steps(step).expect(rt, "the room");
+        match text.make(alloc) {
+            Ok(made) if made.as_slice() == expected => {}
+            Ok(_) => wrong = Some(step),
             Err(_) => refused = refused.saturating_add(1),
         }
+        drop(filler);
     }
-    same(
-        &(growths <= refused && refused < STEPS),
-        &true,
-        &(text, refused),
-    )
+    drop(scarcity);
+    same(rt, &wrong, &None, &text);
+    assert!(rt;
+        growths <= refused && refused < STEPS,
+        "{text:?} {refused:?}"
+    );
 }
 
 #[test]
-fn refuses_the_growth_of_a_refusal(rt: HostRuntime) -> Result<(), Fail> {
-    expect_refused(rt.alloc(), Text::NotAllowed, 1, METHOD_NOT_ALLOWED)
+fn refuses_the_growth_of_a_refusal(rt: HostRuntime) {
+    expect_refused(&rt, rt.alloc(), Text::NotAllowed, 1, METHOD_NOT_ALLOWED);
 }
 
 #[test]
-fn refuses_each_growth_of_a_status(rt: HostRuntime) -> Result<(), Fail> {
-    expect_refused(rt.alloc(), Text::NotFound, 4, UNKNOWN_SERVICE)
+fn refuses_each_growth_of_a_status(rt: HostRuntime) {
+    expect_refused(&rt, rt.alloc(), Text::NotFound, 4, UNKNOWN_SERVICE);
 }
 
 #[test]
-fn refuses_the_growth_of_a_statuss_body(rt: HostRuntime) -> Result<(), Fail> {
-    expect_refused(rt.alloc(), Text::NotFoundBody, 1, NOT_FOUND_BODY)
+fn refuses_the_growth_of_a_statuss_body(rt: HostRuntime) {
+    expect_refused(&rt, rt.alloc(), Text::NotFoundBody, 1, NOT_FOUND_BODY);
 }
 
 #[test]
-fn refuses_each_growth_of_a_check(rt: HostRuntime) -> Result<(), Fail> {
-    expect_refused(rt.alloc(), Text::Check(Some(Serving::Serving)), 5, SERVING)
-}
-
-#[test]
-fn refuses_each_growth_of_a_checks_body(rt: HostRuntime) -> Result<(), Fail> {
+fn refuses_each_growth_of_a_check(rt: HostRuntime) {
     expect_refused(
+        &rt,
+        rt.alloc(),
+        Text::Check(Some(Serving::Serving)),
+        5,
+        SERVING,
+    );
+}
+
+#[test]
+fn refuses_each_growth_of_a_checks_body(rt: HostRuntime) {
+    expect_refused(
+        &rt,
         rt.alloc(),
         Text::CheckBody(Some(Serving::Serving)),
         2,
         SERVING_BODY,
-    )
+    );
 }
 
 /// A method and a body, and what they ask.
@@ -129,9 +139,8 @@ const ASKS: [(Method, &[u8], Ask<'static>); 4] = [
 ];
 
 #[test]
-fn asks_by_the_method(_rt: HostRuntime) -> Result<(), Fail> {
+fn asks_by_the_method(rt: HostRuntime) {
     for &(method, body, expected) in &ASKS {
-        same(&ask_of(method, body), &expected, &body)?;
+        same(&rt, &ask_of(method, body), &expected, &body);
     }
-    Ok(())
 }

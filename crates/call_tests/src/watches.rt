@@ -3,10 +3,10 @@
 use crate::answers::{WATCH_OF_CHANGES, WATCH_OF_SERVING, WATCH_OF_UNKNOWN};
 use crate::doors::{Flipping, catalogue};
 use crate::runs::{Run, exchange_over};
+use crate::same::same;
 use std::alloc::Global;
-use std::test::Fail;
+use std::process::Abort;
 use test_support::requests::{WATCH_OF_A, WATCH_OF_EMPTY, WATCH_OF_ZZ};
-use test_support::same;
 use web_call::{Outcome, Turn};
 
 const LOOK: Turn = Turn::Look;
@@ -185,9 +185,9 @@ static ROWS: [Row; 14] = [
     ),
 ];
 
-fn expect(alloc: Global, row: &Row) -> Result<(), Fail> {
+fn expect(rt: &impl Abort, alloc: Global, row: &Row) {
     let (input, flips, turns, most, outcome, response, waits, looks) = *row;
-    let catalogue = catalogue(alloc)?;
+    let catalogue = catalogue(rt, alloc);
     let mut door = Flipping::new(alloc, &catalogue, flips);
     let mut rest = input;
     let mut written = Vec::new(alloc);
@@ -195,16 +195,16 @@ fn expect(alloc: Global, row: &Row) -> Result<(), Fail> {
     let asked = (looks.saturating_add(1), waits, u64::from(looks));
     let expected = Run::whole(outcome, asked);
     same(
+        rt,
         &(run, written.as_slice()),
         &(expected, response),
         &(flips, turns),
-    )
+    );
 }
 
 #[test]
-fn a_watch_ends_with_its_bell_at_its_limit_or_behind(rt: HostRuntime) -> Result<(), Fail> {
+fn a_watch_ends_with_its_bell_at_its_limit_or_behind(rt: HostRuntime) {
     for row in &ROWS {
-        expect(rt.alloc(), row)?;
+        expect(&rt, rt.alloc(), row);
     }
-    Ok(())
 }

@@ -13,14 +13,14 @@ use Rattle.client.specs.declared.told.Told.{Told as Answered}
 use Rattle.client.specs.Ask.{HasReadCause, IsAnswerTo, IsFaultAt, IsReadFor, IsWithin, Says}
 use Rattle.web_call.specs.declared.method.Method.{Method}
 use Rattle.web_call.specs.declared.method.Method.TheVariants.{Check, Watch}
-use Rattle.client.specs.declared.reply.Stage.{Stage}
-use Rattle.client.specs.declared.reply.Stage.TheVariants.{Head, Body, Told}
+use Rattle.client.specs.declared.reply.ReplyStage.{ReplyStage}
+use Rattle.client.specs.declared.reply.ReplyStage.TheVariants.{Head, Body, Told}
 use Rattle.client.specs.Reply.{IsBad, IsOfResponse, IsOpen, IsRefused, IsTold, WasOpen, InHead, InBody, ByTrailers, ByCount, ByEnd}
 use Rattle.client.specs.Stages.{Holds, StandsAt, method_of, most_of, wanted_at}
 use Rattle.web_call.specs.InputHead.{IsHead}
 
 -- a response that wants bytes is open
-pub open_at : (method : Method) (most : ℕ) (bytes head : List ℕ) (stage : Stage) → 0 < wanted_at stage → StandsAt method most bytes head stage
+pub open_at : (method : Method) (most : ℕ) (bytes head : List ℕ) (stage : ReplyStage) → 0 < wanted_at stage → StandsAt method most bytes head stage
     → IsOpen method most bytes
 open_at method most bytes head Head wants stands = InHead stands.1
 open_at method most bytes head (Body reading) wants stands =
@@ -72,7 +72,7 @@ given_cause (Err (Http status)) failed failed_after faults kept = kept
 given_cause (Err NoMemory) failed failed_after faults kept = kept
 
 -- a Watch's bytes tell as many statuses as it asks for, at most
-few_told : (method : Method) (most : ℕ) (bytes told : List ℕ) (end : Option Ended) → method ≡ Watch → 1 ≤ most → IsTold method most bytes told end → length told ≤ most
+pub few_told : (method : Method) (most : ℕ) (bytes told : List ℕ) (end : Option Ended) → method ≡ Watch → 1 ≤ most → IsTold method most bytes told end → length told ≤ most
 few_told Watch most bytes told end is some (ByTrailers next more block ended ends fits unfinished none trailers same) = grind (arith, nat_tests)
 few_told Watch most bytes told end is some (ByCount next more statuses message status ends fits unfinished response push enough none) =
     let len : length told ≡ length statuses + 1 = ap length push ∙ length-append statuses (status ∷ []) in grind (arith, nat_tests, len)

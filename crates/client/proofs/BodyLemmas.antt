@@ -18,7 +18,7 @@ use Rattle.client.specs.declared.http_framing.Framing.TheVariants.{Chunked, Leng
 use Rattle.client.specs.declared.response_body.Next.{Next}
 use Rattle.client.specs.declared.response_body.Next.TheVariants.{Line, Data, End, Last}
 use Rattle.client.specs.Chunks.{Chunk, IsChunk, chunk_text, AreChunks}
-use Rattle.client.specs.HttpFraming.{max_body_len}
+use Rattle.client.specs.HttpFraming.{max_chunked_len}
 use Rattle.client.specs.ResponseBody.{IsInChunk, Stands, NoLine, LongLine, TooMuch, NoEnd, IsBadBody, max_line_len}
 
 -- more bytes behind chunks
@@ -72,7 +72,7 @@ may_come =
     (print_chunk_line line, line, (is_line, sym (append-nil (print_chunk_line line))))
 
 -- before the first chunk
-pub begun_chunks : Stands Chunked [] [] (Line []) max_body_len
+pub begun_chunks : Stands Chunked [] [] (Line []) max_chunked_len
 begun_chunks = record {
   comes = record {
     chunks = record { chunks = []; each = All-nil IsChunk; parts = refl; content_is = refl };

@@ -9,3 +9,4 @@ pub mod OneHeadLemmas
 pub mod OpenLemmas
 pub mod ReplyLemmas
 pub mod TransferLemmas
+pub mod WatchingLemmas

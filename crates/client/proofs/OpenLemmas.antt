@@ -1,19 +1,23 @@
 -- Before the last byte of a piece came, more of the response had to be read.
-use Rattle.std.proofs.Common.{ℕ, ◌≡◌, ◌+◌, ◌-◌, ◌<◌, ◌≤◌, List, [], ◌∷◌, ◌++◌, length, take, drop, sym, ap, ◌∙◌, subst, arith, append_assoc, length-append, inl, inr}
+use Rattle.std.proofs.Common.{ℕ, ◌≡◌, ◌+◌, ◌-◌, ◌<◌, ◌≤◌, false, Option, List, [], ◌∷◌, ◌++◌, length, take, drop, sym, ap, ◌∙◌, subst, arith, append_assoc, length-append, inl, inr}
 use Rattle.std.proofs.lemmas.List.{append-nil, nil_from_length}
+use Rattle.std.specs.Prelude.{IfOk, Result, Ok, Err}
 use Rattle.std.specs.Int.{w32, to_be_bytes, from_be_bytes}
+use Rattle.std.specs.Io.KnownBytes.{Consumes}
 use Rattle.grpc_frame.specs.Frame.{frame}
 use Rattle.grpc_frame.specs.Split.{BeginsTooLong, BeginsWithFrame, BeginsWithNoFrame}
 use Rattle.web_call.specs.declared.method.Method.{Method}
+use Rattle.client.specs.declared.ask_fault.AskFault.{AskFault}
 use Rattle.client.specs.declared.reply.Reply.{Reply}
-use Rattle.client.specs.declared.reply.Stage.{Stage}
-use Rattle.client.specs.declared.reply.Stage.TheVariants.{Head, Body, Told}
+use Rattle.client.specs.declared.reply.ReplyStage.{ReplyStage}
+use Rattle.client.specs.declared.reply.ReplyStage.TheVariants.{Head, Body, Told}
 use Rattle.client.specs.declared.response_body.Next.{Next}
 use Rattle.client.specs.declared.response_body.Next.TheVariants.{Line, Data, End, Last}
 use Rattle.client.specs.GrpcFrames.{IsSoundFront, missing_in}
-use Rattle.client.specs.Reply.{IsGoingOn, IsOpen, IsReply, InBody, InHead, WasOpen}
+use Rattle.client.specs.Growth.{Grows}
+use Rattle.client.specs.Reply.{IsGoingOn, IsOpen, IsReply, InBody, InHead, WasOpen, is_enough}
 use Rattle.client.specs.ResponseBody.{wanted_by}
-use Rattle.client.specs.Stages.{Holds, StandsAt, method_of, most_of, wanted_at, wanted_of, wanted_with}
+use Rattle.client.specs.Stages.{GoesTo, Holds, StandsAt, method_of, most_of, statuses_at, statuses_of, wanted_at, wanted_of, wanted_with}
 use Rattle.client.proofs.BodyLemmas.{at_most, front_of, data_more, end_more, last_more}
 use Rattle.client.proofs.GivingLemmas.{last_of, reply_goes}
 use Rattle.client.proofs.GrpcFrameLemmas.{len_is, length-frame}
@@ -132,21 +136,64 @@ body_open method most bytes piece (Last left) more statuses rest comes fewer goi
     (content_yet method most bytes piece (Last left) (Last (left - length piece)) more statuses rest (omega arith) (omega arith) reply going) (omega arith)
 
 -- the same at any stage
-stage_open : (method : Method) (most : ℕ) (bytes head piece : List ℕ) (stage : Stage) → length piece < wanted_at stage → StandsAt method most bytes head stage
+stage_open : (method : Method) (most : ℕ) (bytes head piece : List ℕ) (stage : ReplyStage) → length piece < wanted_at stage → StandsAt method most bytes head stage
     → IsOpen method most (bytes ++ piece)
 stage_open method most bytes head piece Head fewer stands = no_more (IsOpen method most) bytes piece (omega arith) (InHead stands.1)
 stage_open method most bytes head piece (Body reading) fewer stands =
     body_open method most bytes piece reading.body.next reading.body.more reading.heard.statuses.items reading.heard.splitter reading.comes fewer stands
 stage_open method most bytes head piece (Told told) fewer stands = absurd (omega arith)
 
--- bytes that a response wants come while it is open, to the last one
-pub was_open : (reply : Reply) (bytes piece : List ℕ) → 0 < length piece → length piece ≤ wanted_of reply → Holds bytes reply
-    → WasOpen (method_of reply) (most_of reply) (bytes ++ piece)
-was_open reply bytes piece some within holds =
+-- the same to the last one of the bytes that are taken at once
+was_open_at : (method : Method) (most : ℕ) (bytes head piece : List ℕ) (stage : ReplyStage) → 0 < length piece → length piece ≤ wanted_at stage
+    → StandsAt method most bytes head stage → WasOpen method most (bytes ++ piece)
+was_open_at method most bytes head piece stage some within stands =
     let last = last_of piece some in record {
       front = bytes ++ last.front;
       byte = last.byte;
       bytes_are = ap (λ (all : List ℕ). bytes ++ all) last.is ∙ sym (append_assoc bytes last.front (last.byte ∷ []));
-      was_open = stage_open (method_of reply) (most_of reply) bytes reply.head.items last.front reply.stage
-          (let fewer : length last.front < wanted_of reply = omega (arith, last.shorter) in fewer) holds;
+      was_open = stage_open method most bytes head last.front stage
+          (let fewer : length last.front < wanted_at stage = omega (arith, last.shorter) in fewer) stands;
     }
+
+-- bytes that a response wants come while it is open, to the last one
+pub was_open : (reply : Reply) (bytes piece : List ℕ) → 0 < length piece → length piece ≤ wanted_of reply → Holds bytes reply
+    → WasOpen (method_of reply) (most_of reply) (bytes ++ piece)
+was_open reply bytes piece some within holds =
+    was_open_at (method_of reply) (most_of reply) bytes reply.head.items piece reply.stage some within holds
+
+-- a response stands so also where another number of statuses is asked for that it has not reached
+stands_for : (method : Method) (most other : ℕ) (bytes head : List ℕ) (stage : ReplyStage) → 0 < wanted_at stage
+    → is_enough method other (length (statuses_at stage)) ≡ false → StandsAt method most bytes head stage → StandsAt method other bytes head stage
+stands_for method most other bytes head Head wants unfinished stands = stands
+stands_for method most other bytes head (Body reading) wants unfinished stands = record {
+  reply = stands.reply;
+  unfinished = unfinished;
+  none = stands.none;
+  sound = stands.sound;
+}
+stands_for method most other bytes head (Told told) wants unfinished stands = absurd (omega arith)
+
+-- so it was open for that number too
+pub was_open_for : (reply : Reply) (bytes piece : List ℕ) (other : ℕ) → 0 < length piece → length piece ≤ wanted_of reply
+    → is_enough (method_of reply) other (length (statuses_of reply)) ≡ false → Holds bytes reply → WasOpen (method_of reply) other (bytes ++ piece)
+was_open_for reply bytes piece other some within unfinished holds =
+    let wants : 0 < wanted_at reply.stage = omega (arith, some, within) in
+    was_open_at (method_of reply) other bytes reply.head.items piece reply.stage some within
+    (stands_for (method_of reply) (most_of reply) other bytes reply.head.items reply.stage wants unfinished holds)
+
+-- what a response that took a piece says of it
+pub goes_on : (reply : Reply) (piece : List ℕ) (old new : Option (List ℕ)) → 0 < length piece → length piece ≤ wanted_of reply → Consumes old new piece
+    → (result : Result Reply AskFault) → IfOk result (λ after. (bytes : List ℕ) → Holds bytes reply → Holds (bytes ++ piece) after)
+    → IfOk result (λ after. (bytes : List ℕ) → Holds bytes reply → Grows (bytes ++ piece) (statuses_of reply) (statuses_of after))
+    → IfOk result (λ after. (bytes : List ℕ) × Consumes old new bytes × ((front : List ℕ) → Holds front reply → GoesTo (front ++ bytes) reply after))
+goes_on reply piece old new some within read (Ok after) gives grows = (
+  piece,
+  read,
+  λ front holds. record {
+    holds = gives front holds;
+    was_open = was_open reply front piece some within holds;
+    was_open_for = λ other unfinished. was_open_for reply front piece other some within unfinished holds;
+    grows = grows front holds;
+  },
+)
+goes_on reply piece old new some within read (Err fault) gives grows = tt

@@ -16,7 +16,8 @@ use Rattle.client.specs.declared.response_body.Next.{Next}
 use Rattle.client.specs.declared.response_body.Next.TheVariants.{Line, Data, End, Last}
 use Rattle.client.specs.declared.told.Ended.{Ended}
 use Rattle.client.specs.GrpcFrames.{IsSoundFront}
-use Rattle.client.specs.Reply.{IsReply, IsGoingOn, IsTold, ByTrailers, ByCount, ByEnd, IsBad, ByContent, NotSound, BadMessage, BadTrailers, Behind, CutFrame, NoTrailers, is_enough}
+use Rattle.client.specs.Growth.{EndsInStatus}
+use Rattle.client.specs.Reply.{EndsWith, IsReply, IsGoingOn, IsTold, ByTrailers, ByCount, ByEnd, IsBad, ByContent, NotSound, BadMessage, BadTrailers, Behind, CutFrame, NoTrailers, is_enough}
 use Rattle.client.specs.ResponseBody.{left_of, spare_in, wanted_by}
 use Rattle.client.specs.Stages.{IsEnding}
 use Rattle.client.proofs.GrpcFrameLemmas.{Tells-push}
@@ -88,6 +89,20 @@ pub message_told : (method : Method) (most : ℕ) (bytes : List ℕ) (next : Nex
     → IsEnding method most bytes next more statuses (frame 0 message) → IsTold method most bytes told None
 message_told method most bytes next more statuses message told status fits has is enough ending =
     ByCount next more statuses message status ending.ends fits ending.unfinished has is enough refl
+
+-- one status more, whatever was asked for
+pub message_grows : (bytes : List ℕ) (next : Next) (more : ℕ) (statuses message told : List ℕ) (status : ℕ) → length message ≤ max_content_len
+    → IsResponse message status → told ≡ statuses ++ status ∷ [] → EndsWith bytes next more statuses (frame 0 message) → EndsInStatus bytes statuses told
+message_grows bytes next more statuses message told status fits has is ends = record {
+  next = next;
+  more = more;
+  message = message;
+  status = status;
+  ends = ends;
+  fits = fits;
+  response = has;
+  after_is = is;
+}
 
 -- a status behind which more is asked for
 pub message_on : (method : Method) (most : ℕ) (bytes : List ℕ) (next : Next) (more : ℕ) (statuses message told : List ℕ) (status : ℕ) → length message ≤ max_content_len

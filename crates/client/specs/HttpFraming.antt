@@ -12,9 +12,12 @@ use Rattle.client.specs.declared.ask_fault.AskFault.TheVariants.{BadResponse, Ht
 use Rattle.client.specs.declared.http_framing.Framing.{Framing}
 use Rattle.client.specs.declared.http_framing.Framing.TheVariants.{Chunked, Length}
 
--- the most bytes of content that are read, which is this client's limit
+-- the longest body by its length, and the most bytes of content in chunks, which are this client's limits
 abbrev pub max_body_len : ℕ
 max_body_len = 1048576
+
+abbrev pub max_chunked_len : ℕ
+max_chunked_len = 1073741824
 
 -- the line says that the body comes in chunks (RFC 9112, section 6.1)
 abbrev pub is_chunked : List ℕ × List ℕ → Bool

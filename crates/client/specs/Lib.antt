@@ -1,6 +1,8 @@
 pub mod Ask
 pub mod Chunks
 pub mod GrpcFrames
+pub mod Growth
+pub mod Heard
 pub mod HttpFraming
 pub mod Lent
 pub mod Meaning

@@ -6,7 +6,7 @@ use Rattle.client.specs.declared.http_framing.Framing.TheVariants.{Chunked, Leng
 use Rattle.client.specs.declared.response_body.Next.{Next}
 use Rattle.client.specs.declared.response_body.Next.TheVariants.{Line, Data, End, Last}
 use Rattle.client.specs.Chunks.{AreChunks}
-use Rattle.client.specs.HttpFraming.{max_body_len}
+use Rattle.client.specs.HttpFraming.{max_chunked_len}
 
 -- the longest line of a chunk, with its CR LF, which is this client's limit
 abbrev pub max_line_len : ℕ
@@ -14,7 +14,7 @@ max_line_len = 64
 
 -- the most bytes of content that a body may have
 abbrev pub most_content : Framing → ℕ
-most_content Chunked = max_body_len
+most_content Chunked = max_chunked_len
 most_content (Length len) = len
 
 -- chunks have come, and of the next one's line these bytes, with which it may still become one
@@ -83,7 +83,7 @@ pub data IsBadChunk (bytes : List ℕ) : Type 0 where
   NoLine : (content part : List ℕ) → AreChunks bytes content part → NeverHasChunkLine part → IsBadChunk bytes
   LongLine : (content part : List ℕ) → AreChunks bytes content part → HasNoChunkLine part → max_line_len ≤ length part → IsBadChunk bytes
   TooMuch : (content : List ℕ) (line : ChunkLine) → AreChunks bytes content (print_chunk_line line) → IsChunkLine line
-      → max_body_len < length content + chunk_size line → IsBadChunk bytes
+      → max_chunked_len < length content + chunk_size line → IsBadChunk bytes
   NoEnd : (content two : List ℕ) → IsInChunk bytes content 0 two → length two ≡ 2 → two ≢ codes "\r\n" → IsBadChunk bytes
 
 -- a body by its length is no bad one, whatever its bytes

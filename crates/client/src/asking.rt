@@ -2,9 +2,8 @@ ghost use Rattle.std.specs.Prelude.{◌≡◌, ◌≢◌, ◌≤◌, ◌<◌, �
 ghost use Rattle.std.specs.Io.KnownBytes.{Consumes};
 ghost use Rattle.client.specs.Ask.{HasReadCause, HasWriteCause, IsAnswerTo, IsFaultAt, IsReadFor, IsSentFor};
 ghost use Rattle.client.specs.Lent.{lent_inner, lent_failed, lent_name};
-ghost use Rattle.client.specs.Reply.{WasOpen};
 ghost use Rattle.client.specs.Request.{WritesRequest};
-ghost use Rattle.client.specs.Stages.{Holds, method_of, most_of, owed_of, wanted_of};
+ghost use Rattle.client.specs.Stages.{GoesTo, Holds, method_of, most_of, owed_of, wanted_of};
 
 use crate::ask_fault::AskFault;
 use crate::lent::Lent;
@@ -113,7 +112,7 @@ fn read_told<R: Read>(
 }
 
 /// Reads once, and gives what was read to the response.
-fn read_more<R: Read>(
+pub(crate) fn read_more<R: Read>(
     reader: &mut Lent<'_, R>,
     piece: &mut [u8],
     reply: Reply,
@@ -123,8 +122,7 @@ fn read_more<R: Read>(
     ensures reference { lent_name reader.new ≡ lent_name reader.old }
     ensures ok { IfOk result (λ after. (bytes : List ℕ)
         × Consumes (R.remaining (lent_inner reader.old)) (R.remaining (lent_inner reader.new)) bytes
-        × ((front : List ℕ) → Holds front reply → Holds (front ++ bytes) after
-        × WasOpen (method_of reply) (most_of reply) (front ++ bytes))) }
+        × ((front : List ℕ) → Holds front reply → GoesTo (front ++ bytes) reply after)) }
     ensures err { IfErr result (λ fault. (bytes : List ℕ)
         × Consumes (R.remaining (lent_inner reader.old)) (R.remaining (lent_inner reader.new)) bytes
         × ((front : List ℕ) → Holds front reply

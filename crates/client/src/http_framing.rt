@@ -9,8 +9,11 @@ use httparse::Status;
 use httparse::spans::{EMPTY_HEADER_SPAN, HeaderSpan, parse_response};
 use web_call::{MAX_LINES, count_named, first_named, is_named, is_too_large, length_of};
 
-/// The longest body that is read, in bytes of content. The lines of its chunks don't count.
-pub(crate) const MAX_BODY_LEN: usize = 1_048_576;
+/// The longest body that is read by its length, in bytes.
+const MAX_BODY_LEN: usize = 1_048_576;
+
+/// The most bytes of content that are read in chunks, whose lines don't count: some hundred and fifty million statuses of a Watch.
+pub(crate) const MAX_CHUNKED_LEN: usize = 1_073_741_824;
 
 const OK: u16 = 200;
 
@@ -27,7 +30,7 @@ pub(crate) enum Framing {
 /// What the head of a response says of its body, or the fault of one that tells no status of gRPC.
 pub(crate) fn framing_of(head: &[u8]) -> Result<Framing, AskFault>
     ensures says { IsFramed head.now result }
-    ensures within { IfOk result (λ framing. most_content framing ≤ 1048576) }
+    ensures within { IfOk result (λ framing. most_content framing ≤ 1073741824) }
 {
     if is_too_large(head) {
         return Err(AskFault::BadResponse);
@@ -49,7 +52,7 @@ pub(crate) fn framing_of(head: &[u8]) -> Result<Framing, AskFault>
 fn framing_in(head: &[u8], lines: &[HeaderSpan]) -> Result<Framing, AskFault>
     requires { All (IsHeaderWithin (length head.now)) lines.now }
     ensures says { result ≡ framing_in (map (header_bytes head.now) lines.now) }
-    ensures within { IfOk result (λ framing. most_content framing ≤ 1048576) }
+    ensures within { IfOk result (λ framing. most_content framing ≤ 1073741824) }
 {
     if has_chunked(head, lines) {
         return Ok(Framing::Chunked);

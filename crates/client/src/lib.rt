@@ -36,14 +36,18 @@ mod http_framing;
 mod kept;
 mod laws;
 mod lent;
+mod listener;
 mod reply;
 mod request;
 mod response_body;
 mod told;
 mod transfer;
+mod watching;
 
 pub use ask_fault::AskFault;
 pub use asking::{ask, ask_through};
 pub use laws::{frames_tell, one_answer, written_frames_tell, written_trailers_tell};
 pub use lent::Lent;
+pub use listener::Listener;
 pub use told::{Ended, Told};
+pub use watching::watch_through;

@@ -12,7 +12,7 @@ use web_call::Method;
 
 /// Which statuses are asked for: a Check doesn't look at `most`.
 #[derive(Clone, Copy)]
-pub(crate) struct Call {
+pub(crate) struct Wanted {
     pub(crate) alloc: Global,
     pub(crate) method: Method,
     pub(crate) most: u32,
@@ -36,7 +36,7 @@ pub(crate) struct Reading {
 
 /// How far a response has come.
 #[derive(Drop)]
-pub(crate) enum Stage {
+pub(crate) enum ReplyStage {
     Head,
     Body(Reading),
     Told(Told),
@@ -45,7 +45,7 @@ pub(crate) enum Stage {
 /// A response as it comes: it is given bytes, and neither reads nor waits.
 #[derive(Drop)]
 pub(crate) struct Reply {
-    call: Call,
+    call: Wanted,
     head: Vec<u8>,
-    stage: Stage,
+    stage: ReplyStage,
 }

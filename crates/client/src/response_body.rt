@@ -3,7 +3,7 @@ ghost use Rattle.client.specs.declared.http_framing.Framing.{Framing};
 ghost use Rattle.client.specs.ResponseBody.{Stands, GoesOn, IsBadBody, is_content, left_of, most_content, owed_by, spare_in, wanted_by};
 
 use crate::ask_fault::AskFault;
-use crate::http_framing::{Framing, MAX_BODY_LEN};
+use crate::http_framing::{Framing, MAX_CHUNKED_LEN};
 use crate::kept::Kept;
 use httparse::{Status, parse_chunk_size};
 
@@ -114,7 +114,7 @@ fn in_chunks() -> ResponseBody
 {
     ResponseBody {
         next: Next::Line(Kept::new()),
-        more: MAX_BODY_LEN,
+        more: MAX_CHUNKED_LEN,
     }
 }
 

@@ -1,6 +1,7 @@
 //! A run with both places for sessions, beside clients of all.
 
 use crate::manuals::Manuals;
+use crate::same::same;
 use client::Told;
 use commands::ask::{ask_for_good, ask_within};
 use commands::ask_failure::AskFailure;
@@ -12,13 +13,12 @@ use control::{ControlClient, Place, connect};
 use std::alloc::Global;
 use std::io::{Read, Write};
 use std::net::{Net, SocketAddr, TcpListener, TcpStream};
+use std::process::Abort;
 use std::rt::Files;
 use std::sync::Wait;
-use std::test::Fail;
 use std::thread::Threads;
 use std::time::{Clock, Duration};
 use std::{env, fs, io, process, thread};
-use test_support::same;
 use web_call::Method;
 
 /// `b` is down.
@@ -53,91 +53,88 @@ struct Places<'a> {
 }
 
 /// A session at a place where a run listens soon: it is tried for some seconds.
-fn session_at<R: Clock + Net<Stream = TcpStream>>(
-    rt: &R,
-    path: &str,
-) -> Result<ControlClient, Fail> {
+fn session_at<R: Abort + Clock + Net<Stream = TcpStream>>(rt: &R, path: &str) -> ControlClient {
     for _ in 0..1_000u32 {
         match connect(rt, Place::Path(path)) {
-            Ok(session) => return Ok(session),
+            Ok(session) => return session,
             Err(_) => thread::sleep(rt, Duration::from_millis(5)),
         }
     }
-    Err(Fail::new("nobody listens"))
+    panic!(rt; "nobody listens at {path}")
 }
 
 /// A session is answered so.
 fn expect_answered(
+    rt: &impl Abort,
     alloc: Global,
     mut session: &ControlClient,
     (lines, answers): (&[u8], &[u8]),
-) -> Result<(), Fail> {
-    session.write_all(lines)?;
-    let mut found = vec![in alloc; 0u8; answers.len()]?;
-    session.read_exact(&mut found)?;
-    same(&found.as_slice(), &answers, &"answers")
+) {
+    session.write_all(lines).expect(rt, "lines that are sent");
+    let mut found = vec![in alloc; 0u8; answers.len()].expect(rt, "memory");
+    session.read_exact(&mut found).expect(rt, "answers");
+    same(rt, &found.as_slice(), &answers, &"answers");
 }
 
-fn expect_status(told: Result<Told, AskFailure>, expected: u64) -> Result<(), Fail> {
-    match told {
-        Ok(told) => same(
-            &told.statuses.as_slice(),
-            &[expected].as_slice(),
-            &"statuses",
-        ),
-        Err(failure) => same(&Some(failure), &None, &"an answer"),
-    }
+fn expect_status(rt: &impl Abort, told: Result<Told, AskFailure>, expected: u64) {
+    let told = told.expect(rt, "an answer");
+    same(
+        rt,
+        &told.statuses.as_slice(),
+        &[expected].as_slice(),
+        &"statuses",
+    );
 }
 
 /// A plain request is answered so.
-fn expect_plain<R: Net<Stream = TcpStream>>(
-    rt: &R,
-    alloc: Global,
-    addr: SocketAddr,
-) -> Result<(), Fail> {
-    let mut stream = TcpStream::connect(rt, addr)?;
-    stream.write_all(b"GET /status/a HTTP/1.0\r\n\r\n")?;
+fn expect_plain<R: Abort + Net<Stream = TcpStream>>(rt: &R, alloc: Global, addr: SocketAddr) {
+    let mut stream = TcpStream::connect(rt, addr).expect(rt, "a connection");
+    stream
+        .write_all(b"GET /status/a HTTP/1.0\r\n\r\n")
+        .expect(rt, "a request that is sent");
     let mut found = Vec::new(alloc);
-    stream.read_to_end(&mut found)?;
+    stream.read_to_end(&mut found).expect(rt, "an answer");
     let (head, end) = (b"HTTP/1.1 200 OK\r\n", b"\r\n\r\nserving\n");
-    same(&found.starts_with(head), &true, &"the head of its answer")?;
-    same(&found.ends_with(end), &true, &"the end of its answer")
+    assert!(rt; found.starts_with(head), "the head of its answer");
+    assert!(rt; found.ends_with(end), "the end of its answer");
 }
 
 /// A Check and a Watch, a plain request, and a session at each place.
-fn visit<R: Clock + Net<Stream = TcpStream>>(
+fn visit<R: Abort + Clock + Net<Stream = TcpStream>>(
     rt: &R,
     alloc: Global,
     places: Places<'_>,
     session: &ControlClient,
-) -> Result<(), Fail> {
+) {
     let calls = places.calls;
-    expect_status(ask_for_good(rt, alloc, calls, Method::Check, "a", 1), 1)?;
+    let told = ask_for_good(rt, alloc, calls, Method::Check, "a", 1);
+    expect_status(rt, told, 1);
     let time = Duration::from_secs(20);
-    expect_status(ask_within(rt, alloc, calls, time, Method::Watch, "b", 1), 2)?;
-    expect_plain(rt, alloc, places.plain)?;
-    let reporter = session_at(rt, places.report)?;
-    expect_answered(alloc, &reporter, REPORTS)?;
-    expect_answered(alloc, session, CHANGES)
+    let told = ask_within(rt, alloc, calls, time, Method::Watch, "b", 1);
+    expect_status(rt, told, 2);
+    expect_plain(rt, alloc, places.plain);
+    let reporter = session_at(rt, places.report);
+    expect_answered(rt, alloc, &reporter, REPORTS);
+    expect_answered(rt, alloc, session, CHANGES);
 }
 
 /// The same, and then the end of the run.
-fn visit_and_stop<R: Clock + Net<Stream = TcpStream>>(
+fn visit_and_stop<R: Abort + Clock + Net<Stream = TcpStream>>(
     rt: &R,
     alloc: Global,
     places: Places<'_>,
-) -> Result<(), Fail> {
-    let session = session_at(rt, places.control)?;
-    let found = visit(rt, alloc, places, &session);
+) {
+    let session = session_at(rt, places.control);
+    visit(rt, alloc, places, &session);
     let mut stopping = &session;
-    let _ = stopping.write_all(b"stop\n");
-    found
+    stopping
+        .write_all(b"stop\n")
+        .expect(rt, "a stop that is sent");
 }
 
 /// Options of a run at these places.
-fn options_of(places: Places<'_>) -> Option<RunOptions<'_>> {
-    let bounds = Bounds::new(10, 5)?;
-    Some(RunOptions {
+fn options_of<'a>(rt: &impl Abort, places: Places<'a>) -> RunOptions<'a> {
+    RunOptions {
         listen: places.calls,
         plain: Some(places.plain),
         control: Some(Place::Path(places.control)),
@@ -145,17 +142,17 @@ fn options_of(places: Places<'_>) -> Option<RunOptions<'_>> {
         script: Source::File(places.script),
         journal: None,
         threads: Some(2),
-        bounds,
+        bounds: Bounds::new(10, 5).expect(rt, "bounds"),
         is_quiet: true,
-    })
+    }
 }
 
 /// The files of the sockets are gone.
-fn expect_gone<R: Files>(rt: &R, places: Places<'_>) -> Result<(), Fail> {
+fn expect_gone<R: Abort + Files>(rt: &R, places: Places<'_>) {
     for path in [places.control, places.report] {
-        same(&fs::exists(rt, path)?, &false, &path)?;
+        let is_left = fs::exists(rt, path).expect(rt, path);
+        assert!(rt; !is_left, "{path}");
     }
-    Ok(())
 }
 
 /// A path of this test's own in the folder for temporary files, where nothing stands.
@@ -168,36 +165,35 @@ fn path_named(rt: &HostRuntime, name: &str) -> io::Result<String> {
 }
 
 /// An address at which nobody listens: it was let go just now.
-fn free_address<R>(rt: &R) -> io::Result<SocketAddr>
+fn free_address<R>(rt: &R) -> SocketAddr
 where
-    R: Net<Listener = TcpListener, Stream = TcpStream>,
+    R: Abort + Net<Listener = TcpListener, Stream = TcpStream>,
 {
-    TcpListener::bind(rt, ("127.0.0.1", 0u16))?.local_addr()
+    let listener = TcpListener::bind(rt, ("127.0.0.1", 0u16)).expect(rt, "a listener");
+    listener.local_addr().expect(rt, "its address")
 }
 
 #[test]
-fn serves_at_all_places_until_a_session_stops_it(rt: HostRuntime) -> Result<(), Fail> {
+fn serves_at_all_places_until_a_session_stops_it(rt: HostRuntime) {
     let rt = &rt;
-    let (control, report) = (path_named(rt, "control")?, path_named(rt, "report")?);
-    let script = path_named(rt, "script")?;
-    fs::write(rt, script.as_str(), SCRIPT)?;
+    let control = path_named(rt, "control").expect(rt, "a path");
+    let report = path_named(rt, "report").expect(rt, "a path");
+    let script = path_named(rt, "script").expect(rt, "a path");
+    fs::write(rt, script.as_str(), SCRIPT).expect(rt, "a script");
     let places = Places {
-        calls: free_address(rt)?,
-        plain: free_address(rt)?,
+        calls: free_address(rt),
+        plain: free_address(rt),
         control: &control,
         report: &report,
         script: &script,
     };
-    let Some(options) = options_of(places) else {
-        return Err(Fail::new("no options"));
-    };
-    let (ran, found) = thread::join(
+    let options = options_of(rt, places);
+    let (ran, ()) = thread::join(
         rt,
         move || run(rt, &Manuals, options, Supervisor::nobody()).err(),
         move || visit_and_stop(rt, rt.alloc(), places),
     );
     let _ = fs::remove_file(rt, script.as_str());
-    found?;
-    same(&ran, &None, &"a run")?;
-    expect_gone(rt, places)
+    same(&rt, &ran, &None, &"a run");
+    expect_gone(rt, places);
 }

@@ -1,12 +1,12 @@
+use crate::same::same;
 use crate::texts::padded;
 use commands::answer::answer_body;
 use commands::fault::Fault;
 use commands::service::{parse_service, parse_services};
 use health_wire::Serving;
-use std::alloc::{AllocError, Global};
-use std::fmt::Debug;
-use std::test::Fail;
-use test_support::{Scarcity, same};
+use std::alloc::Global;
+use std::process::Abort;
+use test_support::Scarcity;
 
 const SERVING: &[u8] = b"\0\0\0\0\x02\x08\x01\x80\0\0\0\x0fgrpc-status:0\r\n";
 
@@ -54,47 +54,46 @@ const ANSWERS: [(&[u8], &[u8]); 15] = [
     (b"\0\0\0\0\0\0", MALFORMED_REQUEST),
 ];
 
-fn expect_answer<A: Debug>(
+fn expect_answer(
+    rt: &impl Abort,
     alloc: Global,
     list: &[(String, Serving)],
     body: &[u8],
     expected: &[u8],
-    at: &A,
-) -> Result<(), Fail> {
-    let answer = answer_body(alloc, list, body)?;
-    same(&answer.as_slice(), &expected, at)
+) {
+    let answer = answer_body(alloc, list, body).expect(rt, "an answer");
+    same(rt, &answer.as_slice(), &expected, &body);
 }
 
 /// An answer of `NoMemory` in place of every other meets the contract of `answer_body`: `always_out_of_memory` is refused here.
 #[test]
-fn answers_each_body(rt: HostRuntime) -> Result<(), Fail> {
+fn answers_each_body(rt: HostRuntime) {
     let alloc = rt.alloc();
     let words = ["a=not_serving", "=serving", "b=serving", "c=unknown"];
-    let list = parse_services(alloc, words.as_slice())?;
+    let list = parse_services(alloc, words.as_slice()).expect(&rt, "services");
     for (body, expected) in &ANSWERS {
-        expect_answer(alloc, &list, *body, *expected, body)?;
+        expect_answer(&rt, alloc, &list, *body, *expected);
     }
-    Ok(())
 }
 
 #[test]
-fn refuses_each_cut_body(rt: HostRuntime) -> Result<(), Fail> {
+fn refuses_each_cut_body(rt: HostRuntime) {
     let alloc = rt.alloc();
-    let list = parse_services(alloc, &["a=not_serving", "=serving", "b=serving"])?;
+    let words = ["a=not_serving", "=serving", "b=serving"];
+    let list = parse_services(alloc, words.as_slice()).expect(&rt, "services");
     for len in 0..13usize {
         let cut = TWO_SERVICES.get(..len).unwrap_or(TWO_SERVICES);
-        expect_answer(alloc, &list, cut, MALFORMED_REQUEST, &len)?;
+        expect_answer(&rt, alloc, &list, cut, MALFORMED_REQUEST);
     }
-    Ok(())
 }
 
 #[test]
-fn refuses_a_body_of_over_8_192_bytes(rt: HostRuntime) -> Result<(), Fail> {
+fn refuses_a_body_of_over_8_192_bytes(rt: HostRuntime) {
     let alloc = rt.alloc();
-    let mut body = padded(alloc, b"\0\0\0\x1f\xfb", 8_192, 0x80)?;
-    expect_answer(alloc, &[], &body, MALFORMED_REQUEST, &8_192)?;
-    body.push(0)?;
-    expect_answer(alloc, &[], &body, REQUEST_TOO_LARGE, &8_193)
+    let mut body = padded(&rt, alloc, b"\0\0\0\x1f\xfb", 8_192, 0x80);
+    expect_answer(&rt, alloc, &[], &body, MALFORMED_REQUEST);
+    body.push(0).expect(&rt, "memory");
+    expect_answer(&rt, alloc, &[], &body, REQUEST_TOO_LARGE);
 }
 
 /// What is known of the empty name, and the answer: that of the first pair counts.
@@ -104,12 +103,11 @@ const KNOWN: [(&[&str], &[u8]); 2] = [
 ];
 
 #[test]
-fn answers_from_the_first_pair_with_the_name(rt: HostRuntime) -> Result<(), Fail> {
+fn answers_from_the_first_pair_with_the_name(rt: HostRuntime) {
     for (words, expected) in &KNOWN {
-        let list = parse_services(rt.alloc(), words)?;
-        expect_answer(rt.alloc(), &list, b"\0\0\0\0\0", *expected, words)?;
+        let list = parse_services(rt.alloc(), words).expect(&rt, "services");
+        expect_answer(&rt, rt.alloc(), &list, b"\0\0\0\0\0", *expected);
     }
-    Ok(())
 }
 
 static SERVICE_WORDS: [(&str, Result<(&str, Serving), Fault>); 10] = [
@@ -126,41 +124,55 @@ static SERVICE_WORDS: [(&str, Result<(&str, Serving), Fault>); 10] = [
 ];
 
 fn expect_service(
+    rt: &impl Abort,
     alloc: Global,
     word: &str,
     expected: Result<(&str, Serving), Fault>,
-) -> Result<(), Fail> {
+) {
     match parse_service(alloc, word) {
-        Ok((name, status)) => same(&Ok((name.as_str(), status)), &expected, &word),
-        Err(fault) => same(&Err(fault), &expected, &word),
+        Ok((name, status)) => same(rt, &Ok((name.as_str(), status)), &expected, &word),
+        Err(fault) => same(rt, &Err(fault), &expected, &word),
     }
 }
 
 #[test]
-fn cuts_a_service_word_at_its_last_equals_sign(rt: HostRuntime) -> Result<(), Fail> {
+fn cuts_a_service_word_at_its_last_equals_sign(rt: HostRuntime) {
     for (word, expected) in &SERVICE_WORDS {
-        expect_service(rt.alloc(), *word, *expected)?;
+        expect_service(&rt, rt.alloc(), *word, *expected);
     }
-    Ok(())
+}
+
+/// Whether the answer is whole that is made with so many steps of memory, if there is one.
+fn is_whole_within(
+    rt: &impl Abort,
+    alloc: Global,
+    list: &[(String, Serving)],
+    scarcity: &Scarcity,
+    steps: usize,
+) -> Option<bool> {
+    let _filler = scarcity.leave_steps(steps).expect(rt, "a filler");
+    match answer_body(alloc, list, b"\0\0\0\0\0") {
+        Ok(answer) => Some(answer.as_slice() == SERVING),
+        Err(_) => None,
+    }
 }
 
 #[test]
-fn refuses_each_growth_of_an_answer(rt: HostRuntime) -> Result<(), Fail> {
+fn refuses_each_growth_of_an_answer(rt: HostRuntime) {
     let alloc = rt.alloc();
-    let list = parse_services(alloc, &["=serving"])?;
-    let scarcity = Scarcity::with_small_room(alloc)?;
-    let (mut refused, mut whole) = (0u32, 0u32);
-    for step in 0..512usize {
-        let filler = scarcity.leave_steps(step)?;
-        match answer_body(alloc, &list, b"\0\0\0\0\0") {
-            Ok(answer) => {
-                same(&answer.as_slice(), &SERVING, &step)?;
-                whole = whole.wrapping_add(1);
-            }
-            Err(AllocError) => refused = refused.wrapping_add(1),
+    let list = parse_services(alloc, &["=serving"]).expect(&rt, "services");
+    let scarcity = Scarcity::with_small_room(alloc).expect(&rt, "a room");
+    let (mut refused, mut whole, mut cut) = (0u32, 0u32, 0u32);
+    for steps in 0..512usize {
+        match is_whole_within(&rt, alloc, &list, &scarcity, steps) {
+            None => refused = refused.wrapping_add(1),
+            Some(true) => whole = whole.wrapping_add(1),
+            Some(false) => cut = cut.wrapping_add(1),
         }
-        drop(filler);
     }
     drop(scarcity);
-    same(&(refused > 1, whole > 0), &(true, true), &"refused, whole")
+    assert!(rt;
+        refused > 1 && whole > 0 && cut == 0,
+        "{refused} {whole} {cut}"
+    );
 }

@@ -1,6 +1,5 @@
+use crate::same::same;
 use commands::bounds::{Bounds, bounds_of};
-use std::test::Fail;
-use test_support::same;
 
 /// Connections, Watches and threads, and how many loops share places for them.
 const ROWS: [(u32, u32, u16, u16); 6] = [
@@ -14,28 +13,26 @@ const ROWS: [(u32, u32, u16, u16); 6] = [
 ];
 
 #[test]
-fn loops_share_places_for_all_that_a_server_holds(_rt: HostRuntime) -> Result<(), Fail> {
+fn loops_share_places_for_all_that_a_server_holds(rt: HostRuntime) {
     for (connections, watches, threads, loops) in &ROWS {
-        let Some(bounds) = Bounds::new(*connections, *watches) else {
-            return same(&"none", &"bounds", connections);
-        };
-        same(&bounds.loops(*threads), loops, connections)?;
+        let bounds = Bounds::new(*connections, *watches).expect(&rt, "bounds");
+        same(&rt, &bounds.loops(*threads), loops, &connections);
         let limits = bounds.limits();
         let expected = (*connections as usize, *watches as usize);
         same(
+            &rt,
             &(limits.connections, limits.watches),
             &expected,
-            connections,
-        )?;
+            &connections,
+        );
     }
-    Ok(())
 }
 
 #[test]
-fn takes_no_more_watches_than_connections(_rt: HostRuntime) -> Result<(), Fail> {
-    same(&Bounds::new(0, 0).is_some(), &false, &"no connections")?;
-    same(&Bounds::new(1, 2).is_some(), &false, &"two Watches")?;
-    same(&Bounds::new(1, 1).is_some(), &true, &"a Watch")
+fn takes_no_more_watches_than_connections(rt: HostRuntime) {
+    assert!(rt; Bounds::new(0, 0).is_none(), "no connections");
+    assert!(rt; Bounds::new(1, 2).is_none(), "two Watches");
+    assert!(rt; Bounds::new(1, 1).is_some(), "a Watch");
 }
 
 /// Connections and the Watches that are asked for, and how many Watches may be open, if these are bounds.
@@ -52,15 +49,15 @@ const ASKED: [(u32, Option<u32>, Option<u32>); 9] = [
 ];
 
 #[test]
-fn takes_nine_tenths_where_no_watches_are_asked_for(_rt: HostRuntime) -> Result<(), Fail> {
+fn takes_nine_tenths_where_no_watches_are_asked_for(rt: HostRuntime) {
     for (connections, watches, expected) in &ASKED {
         let expected = match *expected {
             Some(watches) => Bounds::new(*connections, watches),
             None => None,
         };
-        same(&bounds_of(*connections, *watches), &expected, connections)?;
+        let found = bounds_of(*connections, *watches);
+        same(&rt, &found, &expected, &(connections, watches));
     }
-    Ok(())
 }
 
 /// Connections and Watches, how many connections can be held, and the bounds within that, where there are any.
@@ -78,12 +75,11 @@ const WITHIN: [(u32, u32, u32, Option<(u32, u32)>); 9] = [
 ];
 
 #[test]
-fn takes_fewer_where_fewer_can_be_held(_rt: HostRuntime) -> Result<(), Fail> {
+fn takes_fewer_where_fewer_can_be_held(rt: HostRuntime) {
     for row in &WITHIN {
         let (connections, watches, most, expected) = *row;
         let within = Bounds::new(connections, watches).and_then(|bounds| bounds.within(most));
         let found = within.map(|bounds| (bounds.connections(), bounds.limits().watches as u32));
-        same(&found, &expected, row)?;
+        same(&rt, &found, &expected, &row);
     }
-    Ok(())
 }

@@ -1,8 +1,6 @@
+use crate::texts::expect_text;
 use commands::cause::Cause;
-use std::alloc::Global;
 use std::io;
-use std::test::Fail;
-use test_support::same;
 
 /// Numbers of errors as Linux has them, and their texts.
 const TEXTS: [(i32, &str); 7] = [
@@ -15,16 +13,10 @@ const TEXTS: [(i32, &str); 7] = [
     (99, "address not available"),
 ];
 
-fn expect_text(alloc: Global, code: i32, expected: &str) -> Result<(), Fail> {
-    let cause = Cause::from(io::Error::from_raw_os_error(code));
-    let text = format!(in alloc; "{cause}")?;
-    same(&text.as_str(), &expected, &code)
-}
-
 #[test]
-fn tells_the_cause_in_plain_words(rt: HostRuntime) -> Result<(), Fail> {
+fn tells_the_cause_in_plain_words(rt: HostRuntime) {
     for (code, expected) in &TEXTS {
-        expect_text(rt.alloc(), *code, *expected)?;
+        let cause = Cause::from(io::Error::from_raw_os_error(*code));
+        expect_text(&rt, rt.alloc(), &cause, *expected);
     }
-    Ok(())
 }

@@ -1,9 +1,9 @@
 use crate::command_line::command_line;
+use crate::same::same;
 use clap::error::ErrorKind;
 use commands::command::{bad_history_place, bad_host, bad_place, bad_status_place, bad_words};
-use std::alloc::Global;
-use std::test::Fail;
-use test_support::same;
+use std::alloc::{AllocError, Global};
+use std::process::Abort;
 
 /// The words behind the program's name, and why they are refused, if they are. `--help` and `--version` refuse to run anything.
 static ROWS: [(&[&str], Option<ErrorKind>); 79] = [
@@ -102,7 +102,7 @@ static ROWS: [(&[&str], Option<ErrorKind>); 79] = [
     ),
     (&["ask", "--port", "1"], None),
     (
-        &["ask", "--port", "1", "--name", "-", "--watch", "1000"],
+        &["ask", "--port", "1", "--name", "-", "--watch", "4294967295"],
         None,
     ),
     (
@@ -110,7 +110,7 @@ static ROWS: [(&[&str], Option<ErrorKind>); 79] = [
         Some(ErrorKind::ValueValidation),
     ),
     (
-        &["ask", "--port", "1", "--watch", "1001"],
+        &["ask", "--port", "1", "--watch", "4294967296"],
         Some(ErrorKind::ValueValidation),
     ),
     (&["ask", "--port", "0"], Some(ErrorKind::ValueValidation)),
@@ -218,23 +218,23 @@ static ROWS: [(&[&str], Option<ErrorKind>); 79] = [
     (&["journal", "--help"], Some(ErrorKind::DisplayHelp)),
 ];
 
-fn expect_kind(alloc: Global, words: &[&str], expected: Option<ErrorKind>) -> Result<(), Fail> {
+fn expect_kind(rt: &impl Abort, alloc: Global, words: &[&str], expected: Option<ErrorKind>) {
     let mut all = Vec::new(alloc);
-    all.push("healthd")?;
-    all.extend_from_slice(words)?;
-    let found = match command_line(alloc)?.try_get_matches_from(all.as_slice()) {
+    all.push("healthd").expect(rt, "memory");
+    all.extend_from_slice(words).expect(rt, "memory");
+    let command = command_line(alloc).expect(rt, "memory");
+    let found = match command.try_get_matches_from(all.as_slice()) {
         Ok(_) => None,
         Err(error) => Some(error.kind()),
     };
-    same(&found, &expected, &words)
+    same(rt, &found, &expected, &words);
 }
 
 #[test]
-fn takes_and_refuses_command_lines(rt: HostRuntime) -> Result<(), Fail> {
+fn takes_and_refuses_command_lines(rt: HostRuntime) {
     for (words, expected) in &ROWS {
-        expect_kind(rt.alloc(), words, *expected)?;
+        expect_kind(&rt, rt.alloc(), words, *expected);
     }
-    Ok(())
 }
 
 /// What the help of `run` has to say: each option with its example, and each line of a script.
@@ -277,8 +277,8 @@ const ASK_HELP: [&str; 13] = [
     "e.g. 192.0.2.7 or ::1",
     "--name <NAME>",
     "e.g. my.package.Service",
-    "--watch <N>",
-    "1 to 1000, e.g. 3",
+    "--watch [<N>]",
+    "1 to 4294967295, e.g. 3",
     "--timeout <S>",
     "1 to 3600, e.g. 5",
     "--expect <STATUS>",
@@ -328,64 +328,72 @@ const JOURNAL_HELP_PARTS: [&str; 4] = [
     "healthd journal /var/lib/healthd/journal",
 ];
 
-fn expect_help(alloc: Global, name: &str, parts: &[&str]) -> Result<(), Fail> {
+fn expect_help(rt: &impl Abort, alloc: Global, name: &str, parts: &[&str]) {
     let words = ["healthd", name, "--help"];
-    let Err(help) = command_line(alloc)?.try_get_matches_from(words.as_slice()) else {
-        return same(&"matches", &"help", &name);
-    };
-    let text = format!(in alloc; "{help}")?;
+    let command = command_line(alloc).expect(rt, "memory");
+    let help = command
+        .try_get_matches_from(words.as_slice())
+        .err()
+        .expect(rt, "help");
+    let text = format!(in alloc; "{help}").expect(rt, "memory");
     for part in parts {
-        same(&text.contains(*part), &true, part)?;
+        assert!(rt; text.contains(*part), "{name}: {part}");
     }
-    Ok(())
 }
 
 #[test]
-fn tells_the_options_of_each_command(rt: HostRuntime) -> Result<(), Fail> {
-    expect_help(rt.alloc(), "run", &RUN_HELP)?;
-    expect_help(rt.alloc(), "ask", &ASK_HELP)?;
-    expect_help(rt.alloc(), "tell", &TELL_HELP_PARTS)?;
-    expect_help(rt.alloc(), "status", &STATUS_HELP_PARTS)?;
-    expect_help(rt.alloc(), "history", &HISTORY_HELP_PARTS)?;
-    expect_help(rt.alloc(), "journal", &JOURNAL_HELP_PARTS)
-}
-
-fn expect_refusal(alloc: Global, error: &clap::Error, begin: &str) -> Result<(), Fail> {
-    let text = format!(in alloc; "{error}")?;
-    same(&text.starts_with(begin), &true, &text)
-}
-
-#[test]
-fn refuses_values_in_the_words_of_clap(rt: HostRuntime) -> Result<(), Fail> {
+fn tells_the_options_of_each_command(rt: HostRuntime) {
     let alloc = rt.alloc();
-    let host = bad_host(alloc, "localhost")?;
+    expect_help(&rt, alloc, "run", &RUN_HELP);
+    expect_help(&rt, alloc, "ask", &ASK_HELP);
+    expect_help(&rt, alloc, "tell", &TELL_HELP_PARTS);
+    expect_help(&rt, alloc, "status", &STATUS_HELP_PARTS);
+    expect_help(&rt, alloc, "history", &HISTORY_HELP_PARTS);
+    expect_help(&rt, alloc, "journal", &JOURNAL_HELP_PARTS);
+}
+
+fn expect_refusal(
+    rt: &impl Abort,
+    alloc: Global,
+    refusal: Result<clap::Error, AllocError>,
+    begin: &str,
+) {
+    let error = refusal.expect(rt, "memory");
+    let text = format!(in alloc; "{error}").expect(rt, "memory");
+    assert!(rt; text.starts_with(begin), "{text}");
+}
+
+#[test]
+fn refuses_values_in_the_words_of_clap(rt: HostRuntime) {
+    let alloc = rt.alloc();
     expect_refusal(
+        &rt,
         alloc,
-        &host,
+        bad_host(alloc, "localhost"),
         "error: invalid value 'localhost' for '--host <ADDR>'",
-    )?;
-    let place = bad_place(alloc, "192.0.2.7:80")?;
+    );
     expect_refusal(
+        &rt,
         alloc,
-        &place,
+        bad_place(alloc, "192.0.2.7:80"),
         "error: invalid value '192.0.2.7:80' for '--control <PLACE>'",
-    )?;
-    let status = bad_status_place(alloc, "nowhere")?;
+    );
     expect_refusal(
+        &rt,
         alloc,
-        &status,
+        bad_status_place(alloc, "nowhere"),
         "error: invalid value 'nowhere' for '--control <PLACE>'",
-    )?;
-    let history = bad_history_place(alloc, "nowhere")?;
+    );
     expect_refusal(
+        &rt,
         alloc,
-        &history,
+        bad_history_place(alloc, "nowhere"),
         "error: invalid value 'nowhere' for '--control <PLACE>'",
-    )?;
-    let words = bad_words(alloc)?;
+    );
     expect_refusal(
+        &rt,
         alloc,
-        &words,
+        bad_words(alloc),
         "error: invalid value for '[WORD]...': a line feed",
-    )
+    );
 }

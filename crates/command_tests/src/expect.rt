@@ -1,8 +1,8 @@
+use crate::same::same;
 use client::{Ended, Told};
 use commands::expect::{STATUS_NAMES, exit_status, status_name};
 use std::alloc::Global;
-use std::test::Fail;
-use test_support::same;
+use std::process::Abort;
 use web_call::Method;
 
 /// The method, the statuses and the code of the end, and the exit status where SERVING is expected.
@@ -25,34 +25,35 @@ const ROWS: [Row; 12] = [
     (Method::Watch, &[4], None, 3),
 ];
 
-fn expect_status(alloc: Global, row: &Row) -> Result<(), Fail> {
+fn expect_status(rt: &impl Abort, alloc: Global, row: &Row) {
     let end = row.2.map(|code| Ended {
         code,
         text: Vec::new(alloc),
     });
-    let statuses = Vec::from_slice(alloc, row.1)?;
+    let statuses = Vec::from_slice(alloc, row.1).expect(rt, "memory");
     let told = Told { statuses, end };
-    same(&exit_status(row.0, Some("SERVING"), &told), &row.3, row)?;
-    same(&exit_status(row.0, None, &told), &0, row)
+    same(
+        rt,
+        &exit_status(row.0, Some("SERVING"), &told),
+        &row.3,
+        &row,
+    );
+    same(rt, &exit_status(row.0, None, &told), &0, &row);
 }
 
 #[test]
-fn tells_what_is_expected_by_the_exit_status(rt: HostRuntime) -> Result<(), Fail> {
+fn tells_what_is_expected_by_the_exit_status(rt: HostRuntime) {
     for row in &ROWS {
-        expect_status(rt.alloc(), row)?;
+        expect_status(&rt, rt.alloc(), row);
     }
-    Ok(())
 }
 
 #[test]
-fn names_each_status_that_has_a_name(_rt: HostRuntime) -> Result<(), Fail> {
+fn names_each_status_that_has_a_name(rt: HostRuntime) {
     for number in 0..4u64 {
         let index = usize::try_from(number).unwrap_or(4);
-        same(
-            &status_name(number),
-            &STATUS_NAMES.get(index).copied(),
-            &number,
-        )?;
+        let expected = STATUS_NAMES.get(index).copied();
+        same(&rt, &status_name(number), &expected, &number);
     }
-    same(&status_name(4), &None, &4)
+    same(&rt, &status_name(4), &None, &"found");
 }

@@ -1,13 +1,13 @@
 //! What the script of a run expects to be heard.
 
+use crate::same::same;
 use commands::expected::{expected_in, first_failure};
 use commands::run_failure::RunFailure;
 use desk_core::{Refusal, Reply, Slot};
 use live_run::RefusedLine;
 use script::Expected;
 use std::alloc::Global;
-use std::test::Fail;
-use test_support::same;
+use std::process::Abort;
 
 /// What is read of a script: how many seconds are expected of the first service, if any, or the line that does not stand.
 type Found = Result<Option<u32>, (u32, Result<Reply, Refusal>)>;
@@ -33,12 +33,12 @@ const ROWS: [(&[u8], Found); 6] = [
     (b"no script", Ok(None)),
 ];
 
-fn found_in(alloc: Global, bytes: &[u8]) -> Result<Found, Fail> {
-    let slot = Slot::new(0).ok_or("no slot")?;
-    Ok(match expected_in(alloc, bytes)? {
+fn found_in(rt: &impl Abort, alloc: Global, bytes: &[u8]) -> Found {
+    let slot = Slot::new(0).expect(rt, "a slot");
+    match expected_in(alloc, bytes).expect(rt, "memory") {
         Ok(expected) => Ok(seconds_of(&expected, slot)),
         Err(RefusedLine { number, answer }) => Err((number, answer)),
-    })
+    }
 }
 
 fn seconds_of(expected: &[Expected], slot: Slot) -> Option<u32> {
@@ -49,11 +49,10 @@ fn seconds_of(expected: &[Expected], slot: Slot) -> Option<u32> {
 }
 
 #[test]
-fn reads_what_a_script_expects(rt: HostRuntime) -> Result<(), Fail> {
+fn reads_what_a_script_expects(rt: HostRuntime) {
     for (bytes, found) in &ROWS {
-        same(&found_in(rt.alloc(), bytes)?, found, bytes)?;
+        same(&rt, &found_in(&rt, rt.alloc(), bytes), found, &bytes);
     }
-    Ok(())
 }
 
 const fn refused(number: u32) -> RefusedLine {
@@ -72,7 +71,7 @@ fn line_of(failure: RunFailure<'_>) -> Option<u32> {
 }
 
 #[test]
-fn tells_the_first_line_that_does_not_stand() -> Result<(), Fail> {
+fn tells_the_first_line_that_does_not_stand(rt: HostRuntime) {
     let rows: [(Option<RunFailure<'_>>, Option<u32>); 4] = [
         (None, Some(5)),
         (Some(RunFailure::Refused(refused(4))), Some(4)),
@@ -80,7 +79,7 @@ fn tells_the_first_line_that_does_not_stand() -> Result<(), Fail> {
         (Some(RunFailure::OutOfMemory), None),
     ];
     for (number, (setup, line)) in rows.into_iter().enumerate() {
-        same(&line_of(first_failure(setup, refused(5))), &line, &number)?;
+        let found = line_of(first_failure(setup, refused(5)));
+        same(&rt, &found, &line, &number);
     }
-    Ok(())
 }

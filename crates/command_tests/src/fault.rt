@@ -1,11 +1,9 @@
+use crate::texts::expect_text;
 use client::AskFault;
 use commands::fault::Fault;
 use crew::CrewWhy;
 use desk_core::CatalogueFault;
 use script::ScriptFault;
-use std::alloc::Global;
-use std::test::Fail;
-use test_support::same;
 
 /// Each fault, and its text on standard error behind the program's name.
 const TEXTS: [(Fault, &str); 17] = [
@@ -31,15 +29,9 @@ const TEXTS: [(Fault, &str); 17] = [
     (Fault::OutOfMemory, "out of memory"),
 ];
 
-fn expect_text(alloc: Global, fault: &Fault, expected: &str) -> Result<(), Fail> {
-    let text = format!(in alloc; "{fault}")?;
-    same(&text.as_str(), &expected, fault)
-}
-
 #[test]
-fn tells_each_fault_in_words(rt: HostRuntime) -> Result<(), Fail> {
+fn tells_each_fault_in_words(rt: HostRuntime) {
     for (fault, expected) in &TEXTS {
-        expect_text(rt.alloc(), fault, *expected)?;
+        expect_text(&rt, rt.alloc(), fault, *expected);
     }
-    Ok(())
 }

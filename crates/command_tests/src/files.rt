@@ -1,8 +1,7 @@
+use crate::same::same;
 use commands::bounds::Bounds;
 use commands::files::{bounds_within, reserved};
 use open_files::OpenFiles;
-use std::test::Fail;
-use test_support::same;
 
 /// Loops, sockets and places for sessions, and how many files they have open beside connections, with those that any server has.
 const RESERVED: [(u16, u16, u16, u32); 8] = [
@@ -17,12 +16,11 @@ const RESERVED: [(u16, u16, u16, u32); 8] = [
 ];
 
 #[test]
-fn reserves_files_for_loops_and_for_places(_rt: HostRuntime) -> Result<(), Fail> {
+fn reserves_files_for_loops_and_for_places(rt: HostRuntime) {
     for (loops, sockets, places, expected) in RESERVED {
         let found = reserved(loops, sockets, places);
-        same(&found, &expected, &(loops, sockets, places))?;
+        same(&rt, &found, &expected, &(loops, sockets, places));
     }
-    Ok(())
 }
 
 /// Connections and Watches, how many files may be open, and the bounds beside four loops and one place, where there are any.
@@ -46,15 +44,12 @@ const WITHIN: [((u32, u32), OpenFiles, Option<(u32, u32)>); 8] = [
 ];
 
 #[test]
-fn holds_as_many_connections_as_files_may_be_open_beside_the_others(
-    _rt: HostRuntime,
-) -> Result<(), Fail> {
+fn holds_as_many_connections_as_files_may_be_open_beside_the_others(rt: HostRuntime) {
     for row in &WITHIN {
         let ((connections, watches), limit, expected) = *row;
         let bounds = Bounds::new(connections, watches);
         let within = bounds.and_then(|bounds| bounds_within(bounds, limit, reserved(4, 1, 1)));
         let found = within.map(|bounds| (bounds.connections(), bounds.limits().watches as u32));
-        same(&found, &expected, row)?;
+        same(&rt, &found, &expected, &row);
     }
-    Ok(())
 }

@@ -4,6 +4,8 @@
 #[cfg(test)]
 mod ask;
 #[cfg(test)]
+mod ask_watch;
+#[cfg(test)]
 mod beside;
 #[cfg(test)]
 mod bodies;
@@ -39,6 +41,8 @@ mod run;
 mod run_failure;
 #[cfg(test)]
 mod run_options;
+#[cfg(test)]
+mod same;
 #[cfg(test)]
 mod serve;
 #[cfg(test)]

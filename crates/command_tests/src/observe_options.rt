@@ -1,12 +1,12 @@
-use crate::command_line::command_line;
+use crate::command_line::matches_of;
+use crate::same::same;
 use clap::ArgMatches;
 use commands::command::bad_observe;
 use commands::observe_options::{BadObserve, ObserveOptions, millis_of, targets_in};
 use control::Place;
 use observation::Terms;
 use std::alloc::Global;
-use std::test::Fail;
-use test_support::same;
+use std::process::Abort;
 
 /// Numbers of seconds, and their milliseconds where they are any.
 const SECONDS: [(&str, Option<u32>); 15] = [
@@ -28,24 +28,22 @@ const SECONDS: [(&str, Option<u32>); 15] = [
 ];
 
 #[test]
-fn reads_seconds(_rt: HostRuntime) -> Result<(), Fail> {
+fn reads_seconds(rt: HostRuntime) {
     for (text, expected) in &SECONDS {
-        same(&millis_of(text), expected, text)?;
+        same(&rt, &millis_of(text), expected, &text);
     }
-    Ok(())
 }
 
 /// Why the command line is refused, or how many targets it has.
 fn read_of<'a>(
+    rt: &impl Abort,
     alloc: Global,
     matches: &ArgMatches<'a>,
-) -> Result<Result<usize, BadObserve<'a>>, Fail> {
-    if let Err(bad) = ObserveOptions::read(matches) {
-        return Ok(Err(bad));
-    }
-    match targets_in(alloc, matches)? {
-        Ok(targets) => Ok(Ok(targets.len())),
-        Err(bad) => Ok(Err(bad)),
+) -> Result<usize, BadObserve<'a>> {
+    ObserveOptions::read(matches)?;
+    match targets_in(alloc, matches).expect(rt, "memory") {
+        Ok(targets) => Ok(targets.len()),
+        Err(bad) => Err(bad),
     }
 }
 
@@ -77,35 +75,27 @@ const BAD: [(&[&str], &str); 6] = [
     ),
 ];
 
-fn expect_refused(alloc: Global, options: &[&str], expected: &str) -> Result<(), Fail> {
+fn expect_refused(rt: &impl Abort, alloc: Global, options: &[&str], expected: &str) {
     let mut words = Vec::new(alloc);
-    words.push("healthd")?;
-    words.push("observe")?;
-    words.extend_from_slice(options)?;
-    let matches = command_line(alloc)?.try_get_matches_from(words.as_slice())?;
-    let Some((_, matches)) = matches.subcommand() else {
-        return same(&"none", &"a command", &options);
-    };
-    match read_of(alloc, matches)? {
-        Ok(targets) => same(&Some(targets), &None, &options),
-        Err(bad) => {
-            let error = bad_observe(alloc, bad)?;
-            let text = format!(in alloc; "{error}")?;
-            same(&text.lines().next(), &Some(expected), &options)
-        }
-    }
+    words.push("healthd").expect(rt, "memory");
+    words.push("observe").expect(rt, "memory");
+    words.extend_from_slice(options).expect(rt, "memory");
+    let matches = matches_of(rt, alloc, words.as_slice());
+    let bad = read_of(rt, alloc, &matches).expect_err(rt, "options that are refused");
+    let error = bad_observe(alloc, bad).expect(rt, "memory");
+    let text = format!(in alloc; "{error}").expect(rt, "memory");
+    same(rt, &text.lines().next(), &Some(expected), &options);
 }
 
 #[test]
-fn refuses_what_cannot_be_observed(rt: HostRuntime) -> Result<(), Fail> {
+fn refuses_what_cannot_be_observed(rt: HostRuntime) {
     for (options, expected) in &BAD {
-        expect_refused(rt.alloc(), *options, *expected)?;
+        expect_refused(&rt, rt.alloc(), *options, *expected);
     }
-    Ok(())
 }
 
 #[test]
-fn reads_its_options(rt: HostRuntime) -> Result<(), Fail> {
+fn reads_its_options(rt: HostRuntime) {
     let words = [
         "healthd",
         "observe",
@@ -119,18 +109,17 @@ fn reads_its_options(rt: HostRuntime) -> Result<(), Fail> {
         "-v",
         "db=tcp://a:1",
     ];
-    let matches = command_line(rt.alloc())?.try_get_matches_from(words.as_slice())?;
-    let Some(terms) = Terms::new(1_000, 500) else {
-        return Err(Fail::new("no terms"));
-    };
     let expected = ObserveOptions {
         place: Place::Path("/a"),
-        terms,
+        terms: Terms::new(1_000, 500).expect(&rt, "terms"),
         is_once: true,
         is_verbose: true,
     };
-    let is_read = matches
-        .subcommand()
-        .is_some_and(|named| ObserveOptions::read(named.1) == Ok(expected));
-    same(&is_read, &true, &"options")
+    let matches = matches_of(&rt, rt.alloc(), words.as_slice());
+    same(
+        &rt,
+        &ObserveOptions::read(&matches),
+        &Ok(expected),
+        &"found",
+    );
 }

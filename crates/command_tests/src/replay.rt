@@ -1,15 +1,14 @@
 ghost use Rattle.probe_core.specs.Made.{IsAsked};
 
-use crate::texts::padded;
+use crate::same::same;
+use crate::texts::{expect_text, padded};
 use commands::fault::Fault;
 use commands::replay::replay;
 use desk_core::CatalogueFault;
 use probe_core::{Depends, FnMaker, Manual, Probe, ProbeFn, Rule, Threshold};
 use script::ScriptFault;
 use std::alloc::{AllocError, Global};
-use std::fmt::Display;
-use std::test::Fail;
-use test_support::same;
+use std::process::Abort;
 
 const SCRIPT: &str = "catalogue a b -
 max 100
@@ -125,12 +124,12 @@ fn replayed(alloc: Global, bytes: &[u8]) -> Result<Vec<u8>, Fault> {
 }
 
 #[test]
-fn replays_with_the_rules_of_the_script(rt: HostRuntime) -> Result<(), Fail> {
+fn replays_with_the_rules_of_the_script(rt: HostRuntime) {
     for (script, expected) in &[(SCRIPT, OUTPUT), (RULES, RULES_OUTPUT)] {
-        let output = replayed(rt.alloc(), script.as_bytes())?;
-        same(&str::from_utf8(&output)?, expected, script)?;
+        let output = replayed(rt.alloc(), script.as_bytes()).expect(&rt, "an output");
+        let text = str::from_utf8(&output).expect(&rt, "a text");
+        same(&rt, &text, expected, &script);
     }
-    Ok(())
 }
 
 /// What ends a run, and its text on standard error behind the program's name.
@@ -159,24 +158,19 @@ const FAULTS: [(&[u8], ScriptFault, &str); 6] = [
     ),
 ];
 
-fn expect_end(alloc: Global, bytes: &[u8], fault: ScriptFault) -> Result<(), Fail> {
+fn expect_end(rt: &impl Abort, alloc: Global, bytes: &[u8], fault: ScriptFault) {
     let ended = replayed(alloc, bytes).err();
-    same(&ended, &Some(Fault::Script(fault)), &bytes.len())
-}
-
-fn expect_text<F: Display>(alloc: Global, fault: &F, text: &str) -> Result<(), Fail> {
-    let told = format!(in alloc; "{fault}")?;
-    same(&told.as_str(), &text, &"the text")
+    same(rt, &ended, &Some(Fault::Script(fault)), &bytes.len());
 }
 
 #[test]
-fn tells_why_bytes_are_no_script(rt: HostRuntime) -> Result<(), Fail> {
+fn tells_why_bytes_are_no_script(rt: HostRuntime) {
     let alloc = rt.alloc();
     for (bytes, fault, text) in &FAULTS {
-        expect_end(alloc, *bytes, *fault)?;
-        expect_text(alloc, &Fault::Script(*fault), *text)?;
+        expect_end(&rt, alloc, *bytes, *fault);
+        expect_text(&rt, alloc, &Fault::Script(*fault), *text);
     }
-    let long = padded(alloc, b"", 65_537, b' ')?;
-    expect_end(alloc, &long, ScriptFault::TooLong)?;
-    expect_text(alloc, &ScriptFault::TooLong, "script too long")
+    let long = padded(&rt, alloc, b"", 65_537, b' ');
+    expect_end(&rt, alloc, &long, ScriptFault::TooLong);
+    expect_text(&rt, alloc, &ScriptFault::TooLong, "script too long");
 }

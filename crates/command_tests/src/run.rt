@@ -1,4 +1,5 @@
 use crate::manuals::Manuals;
+use crate::same::same;
 use commands::cause::Cause;
 use commands::listening_lines::listening_line;
 use commands::run::{script_bytes, set_up};
@@ -8,10 +9,9 @@ use desk_core::KeepMany;
 use probe_core::Manual;
 use std::alloc::Global;
 use std::io;
+use std::process::Abort;
 use std::rt::Files;
 use std::sync::Wait;
-use std::test::Fail;
-use test_support::same;
 
 /// Scripts, and what is told of them where they set up no hall.
 const SCRIPTS: [(&[u8], &str); 9] = [
@@ -50,25 +50,19 @@ const SCRIPTS: [(&[u8], &str); 9] = [
 ];
 
 /// Why a script sets up no hall of one seat.
-fn expect_failure<R: Wait>(
-    rt: &R,
-    alloc: Global,
-    script: &[u8],
-    expected: &str,
-) -> Result<(), Fail> {
+fn expect_failure<R: Abort + Wait>(rt: &R, alloc: Global, script: &[u8], expected: &str) {
     let told = match set_up::<R, Manual, KeepMany, Manuals>(rt, alloc, &Manuals, script, 1) {
         Ok(_) => String::new(alloc),
-        Err(failure) => format!(in alloc; "{failure}")?,
+        Err(failure) => format!(in alloc; "{failure}").expect(rt, "memory"),
     };
-    same(&told.as_str(), &expected, &script)
+    same(rt, &told.as_str(), &expected, &script);
 }
 
 #[test]
-fn ends_where_a_script_is_none_or_a_change_is_not_made(rt: HostRuntime) -> Result<(), Fail> {
+fn ends_where_a_script_is_none_or_a_change_is_not_made(rt: HostRuntime) {
     for (script, expected) in &SCRIPTS {
-        expect_failure(&rt, rt.alloc(), *script, *expected)?;
+        expect_failure(&rt, rt.alloc(), *script, *expected);
     }
-    Ok(())
 }
 
 /// Addresses, and the lines that tell that calls are answered there.
@@ -79,12 +73,12 @@ const LISTENING: [(&str, &str); 3] = [
 ];
 
 #[test]
-fn tells_where_it_listens(rt: HostRuntime) -> Result<(), Fail> {
+fn tells_where_it_listens(rt: HostRuntime) {
     for (addr, expected) in &LISTENING {
-        let line = listening_line(rt.alloc(), addr.parse()?)?;
-        same(&line.as_str(), expected, addr)?;
+        let addr = addr.parse().expect(&rt, "an address");
+        let line = listening_line(rt.alloc(), addr).expect(&rt, "memory");
+        same(&rt, &line.as_str(), expected, &"found");
     }
-    Ok(())
 }
 
 /// Files, and how many bytes are read of each, or the system's number of the error.
@@ -96,12 +90,12 @@ const FILES: [(&str, Result<usize, i32>); 4] = [
     ("/no/such/file", Err(2)),
 ];
 
-fn expect_bytes<R: Input + Files>(
+fn expect_bytes<R: Abort + Input + Files>(
     rt: &R,
     alloc: Global,
     path: &str,
     expected: Result<usize, i32>,
-) -> Result<(), Fail> {
+) {
     let source = Source::File(path);
     let read = script_bytes(rt, alloc, source).map(|bytes| bytes.len());
     let expected = match expected {
@@ -111,13 +105,12 @@ fn expect_bytes<R: Input + Files>(
             Err(RunFailure::Read(source, cause))
         }
     };
-    same(&read, &expected, &path)
+    same(rt, &read, &expected, &path);
 }
 
 #[test]
-fn reads_its_script_from_a_file(rt: HostRuntime) -> Result<(), Fail> {
+fn reads_its_script_from_a_file(rt: HostRuntime) {
     for (path, expected) in &FILES {
-        expect_bytes(&rt, rt.alloc(), *path, *expected)?;
+        expect_bytes(&rt, rt.alloc(), *path, *expected);
     }
-    Ok(())
 }

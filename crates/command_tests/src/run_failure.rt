@@ -1,3 +1,4 @@
+use crate::texts::expect_text;
 use commands::cause::Cause;
 use commands::journal_cause::JournalCause;
 use commands::run_failure::{RunFailure, script_failure};
@@ -6,23 +7,15 @@ use control::Place;
 use desk_core::{Refusal, Reply};
 use live_run::RefusedLine;
 use script::ScriptFault;
-use std::alloc::Global;
 use std::io;
 use std::net::SocketAddr;
-use std::test::Fail;
-use test_support::same;
-
-fn expect_text(alloc: Global, fault: &RunFailure<'_>, expected: &str) -> Result<(), Fail> {
-    let text = format!(in alloc; "{fault}")?;
-    same(&text.as_str(), &expected, fault)
-}
 
 fn cause(code: i32) -> Cause {
     Cause::from(io::Error::from_raw_os_error(code))
 }
 
 #[test]
-fn tells_each_fault_with_its_cause(rt: HostRuntime) -> Result<(), Fail> {
+fn tells_each_fault_with_its_cause(rt: HostRuntime) {
     let bytes = b"catalogue db -\nfail";
     let rows = [
         (
@@ -83,13 +76,12 @@ fn tells_each_fault_with_its_cause(rt: HostRuntime) -> Result<(), Fail> {
         (RunFailure::OutOfMemory, "out of memory"),
     ];
     for (fault, expected) in &rows {
-        expect_text(rt.alloc(), fault, *expected)?;
+        expect_text(&rt, rt.alloc(), fault, *expected);
     }
-    Ok(())
 }
 
 #[test]
-fn tells_why_a_history_cannot_go_on(rt: HostRuntime) -> Result<(), Fail> {
+fn tells_why_a_history_cannot_go_on(rt: HostRuntime) {
     let rows = [
         (
             JournalCause::System(cause(28)),
@@ -107,7 +99,6 @@ fn tells_why_a_history_cannot_go_on(rt: HostRuntime) -> Result<(), Fail> {
         ),
     ];
     for (cause, expected) in rows {
-        expect_text(rt.alloc(), &RunFailure::Journal("/j", cause), expected)?;
+        expect_text(&rt, rt.alloc(), &RunFailure::Journal("/j", cause), expected);
     }
-    Ok(())
 }

@@ -1,12 +1,12 @@
-use crate::command_line::command_line;
+use crate::command_line::matches_of;
+use crate::same::same;
 use commands::bounds::Bounds;
 use commands::command::bad_option;
 use commands::run_options::{RunOptions, Source};
 use control::Place;
 use std::alloc::Global;
 use std::net::SocketAddr;
-use std::test::Fail;
-use test_support::same;
+use std::process::Abort;
 
 /// The words behind `run`, and what is read of them: where it listens, the script, the journal, the threads, the connections, the Watches, and
 /// whether there is no log.
@@ -146,62 +146,55 @@ const ROWS: [Row<'static>; 10] = [
     ),
 ];
 
-fn words_of<'a>(alloc: Global, options: &[&'a str]) -> Result<Vec<&'a str>, Fail> {
+fn words_of<'a>(rt: &impl Abort, alloc: Global, options: &[&'a str]) -> Vec<&'a str> {
     let mut words = Vec::new(alloc);
-    words.push("healthd")?;
-    words.push("run")?;
-    words.extend_from_slice(options)?;
-    Ok(words)
+    words.push("healthd").expect(rt, "memory");
+    words.push("run").expect(rt, "memory");
+    words.extend_from_slice(options).expect(rt, "memory");
+    words
 }
 
-fn expect_read(alloc: Global, row: &Row<'_>) -> Result<(), Fail> {
-    let words = words_of(alloc, row.0)?;
-    let matches = command_line(alloc)?.try_get_matches_from(words.as_slice())?;
+fn expect_read(rt: &impl Abort, alloc: Global, row: &Row<'_>) {
     let (listen, script, journal, threads, connections, watches, is_quiet) = row.1;
-    let expected = match (listen.parse(), Bounds::new(connections, watches)) {
-        (Ok(listen), Some(bounds)) => Some(Ok(RunOptions {
-            listen,
-            plain: None,
-            control: None,
-            report: None,
-            script,
-            journal,
-            threads,
-            bounds,
-            is_quiet,
-        })),
-        _ => None,
+    let expected = RunOptions {
+        listen: listen.parse().expect(rt, "an address"),
+        plain: None,
+        control: None,
+        report: None,
+        script,
+        journal,
+        threads,
+        bounds: Bounds::new(connections, watches).expect(rt, "bounds"),
+        is_quiet,
     };
-    let read = matches.subcommand().map(|named| RunOptions::read(named.1));
-    same(&read, &expected, &row.0)
+    let options = row.0;
+    let words = words_of(rt, alloc, options);
+    let matches = matches_of(rt, alloc, words.as_slice());
+    same(rt, &RunOptions::read(&matches), &Ok(expected), &options);
 }
 
 #[test]
-fn reads_its_options(rt: HostRuntime) -> Result<(), Fail> {
+fn reads_its_options(rt: HostRuntime) {
     for row in &ROWS {
-        expect_read(rt.alloc(), row)?;
+        expect_read(&rt, rt.alloc(), row);
     }
-    Ok(())
 }
 
 /// The text is read as that place, behind the option of each kind of place.
-fn expect_place(alloc: Global, text: &str, expected: Place<'_>) -> Result<(), Fail> {
+fn expect_place(rt: &impl Abort, alloc: Global, text: &str, expected: Place<'_>) {
     for (option, places) in [
         ("--control", (Some(expected), None)),
         ("--report", (None, Some(expected))),
     ] {
         let words = ["healthd", "run", option, text];
-        let matches = command_line(alloc)?.try_get_matches_from(words.as_slice())?;
-        let is_read = matches.subcommand().is_some_and(|named| {
-            RunOptions::read(named.1).is_ok_and(|read| (read.control, read.report) == places)
-        });
-        same(&is_read, &true, &(option, text))?;
+        let matches = matches_of(rt, alloc, words.as_slice());
+        let read = RunOptions::read(&matches).expect(rt, text);
+        same(rt, &(read.control, read.report), &places, &(option, text));
     }
-    Ok(())
 }
 
 #[test]
-fn reads_where_changes_are_asked_for_and_findings_reported(rt: HostRuntime) -> Result<(), Fail> {
+fn reads_where_changes_are_asked_for_and_findings_reported(rt: HostRuntime) {
     let rows = [
         (
             "127.0.0.1:8081",
@@ -218,20 +211,17 @@ fn reads_where_changes_are_asked_for_and_findings_reported(rt: HostRuntime) -> R
         ("/run/healthd", Place::Path("/run/healthd")),
     ];
     for (text, expected) in &rows {
-        expect_place(rt.alloc(), *text, *expected)?;
+        expect_place(&rt, rt.alloc(), *text, *expected);
     }
-    Ok(())
 }
 
 #[test]
-fn reads_where_plain_requests_are_answered(rt: HostRuntime) -> Result<(), Fail> {
+fn reads_where_plain_requests_are_answered(rt: HostRuntime) {
     let words = ["healthd", "run", "--plain", "[::1]:8082"];
-    let matches = command_line(rt.alloc())?.try_get_matches_from(words.as_slice())?;
+    let matches = matches_of(&rt, rt.alloc(), words.as_slice());
     let expected = SocketAddr::from(([0u16, 0, 0, 0, 0, 0, 0, 1], 8082));
-    let is_read = matches.subcommand().is_some_and(|named| {
-        RunOptions::read(named.1).is_ok_and(|read| read.plain == Some(expected))
-    });
-    same(&is_read, &true, &"the place of plain requests")
+    let read = RunOptions::read(&matches).expect(&rt, "options");
+    same(&rt, &read.plain, &Some(expected), &"found");
 }
 
 /// The words behind `run`, and the first line of the text by which they are refused.
@@ -304,27 +294,19 @@ const BAD: [(&[&str], &str); 16] = [
     ),
 ];
 
-fn expect_refused(alloc: Global, options: &[&str], expected: &str) -> Result<(), Fail> {
-    let words = words_of(alloc, options)?;
-    let matches = command_line(alloc)?.try_get_matches_from(words.as_slice())?;
-    let Some((_, matches)) = matches.subcommand() else {
-        return same(&"none", &"a command", &options);
-    };
-    match RunOptions::read(matches) {
-        Ok(read) => same(&Some(read), &None, &options),
-        Err(bad) => {
-            let error = bad_option(alloc, bad)?;
-            let text = format!(in alloc; "{error}")?;
-            same(&text.lines().next(), &Some(expected), &options)?;
-            same(&error.exit_code(), &2, &options)
-        }
-    }
+fn expect_refused(rt: &impl Abort, alloc: Global, options: &[&str], expected: &str) {
+    let words = words_of(rt, alloc, options);
+    let matches = matches_of(rt, alloc, words.as_slice());
+    let bad = RunOptions::read(&matches).expect_err(rt, "options that are refused");
+    let error = bad_option(alloc, bad).expect(rt, "memory");
+    same(rt, &error.exit_code(), &2, &options);
+    let text = format!(in alloc; "{error}").expect(rt, "memory");
+    same(rt, &text.lines().next(), &Some(expected), &options);
 }
 
 #[test]
-fn refuses_options_that_clap_takes(rt: HostRuntime) -> Result<(), Fail> {
+fn refuses_options_that_clap_takes(rt: HostRuntime) {
     for (options, expected) in &BAD {
-        expect_refused(rt.alloc(), *options, *expected)?;
+        expect_refused(&rt, rt.alloc(), *options, *expected);
     }
-    Ok(())
 }

@@ -1,13 +1,12 @@
-use crate::command_line::command_line;
+use crate::command_line::matches_of;
 use crate::manuals::Manuals;
+use crate::same::same;
 use commands::command::port_in;
 use commands::serve::{capacity_in, serve_script};
 use server::Capacity;
-use std::test::Fail;
-use test_support::same;
 
 #[test]
-fn reads_its_arguments(rt: HostRuntime) -> Result<(), Fail> {
+fn reads_its_arguments(rt: HostRuntime) {
     let words = [
         "healthd",
         "serve",
@@ -18,15 +17,13 @@ fn reads_its_arguments(rt: HostRuntime) -> Result<(), Fail> {
         "--calls",
         "1000",
     ];
-    let matches = command_line(rt.alloc())?.try_get_matches_from(words.as_slice())?;
-    let read = matches
-        .subcommand()
-        .map(|named| (port_in(named.1), capacity_in(named.1)));
+    let matches = matches_of(&rt, rt.alloc(), words.as_slice());
     let capacity = Capacity {
         workers: 64,
         calls: 1_000,
     };
-    same(&read, &Some((65_535, capacity)), &words)
+    same(&rt, &port_in(&matches), &65_535, &"found");
+    same(&rt, &capacity_in(&matches), &capacity, &"found");
 }
 
 /// `b` is down, and is set up by an order.
@@ -45,7 +42,8 @@ const CAPACITY: Capacity = Capacity {
 };
 
 #[test]
-fn makes_the_orders_of_its_script_where_there_is_no_call(rt: HostRuntime) -> Result<(), Fail> {
-    let output = serve_script(&rt, rt.alloc(), &Manuals, SCRIPT, 0, CAPACITY)?;
-    same(&output.as_str(), &"journal 4\n", &"output")
+fn makes_the_orders_of_its_script_where_there_is_no_call(rt: HostRuntime) {
+    let output = serve_script(&rt, rt.alloc(), &Manuals, SCRIPT, 0, CAPACITY);
+    let output = output.expect(&rt, "an output");
+    same(&rt, &output.as_str(), &"journal 4\n", &"found");
 }

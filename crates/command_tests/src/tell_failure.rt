@@ -1,11 +1,9 @@
+use crate::texts::expect_text;
 use commands::cause::Cause;
 use commands::tell_failure::{TellFailure, failure_at};
-use control::{Place, TellFault};
-use std::alloc::Global;
+use control::{AnswerFault, Place};
 use std::io;
 use std::io::ErrorKind;
-use std::test::Fail;
-use test_support::same;
 
 const PLACE: Place<'static> = Place::Path("/run/healthd");
 
@@ -20,38 +18,32 @@ fn texts() -> [(TellFailure<'static>, &'static str); 10] {
             "connect /run/healthd: connection refused",
         ),
         (
-            failure_at(PLACE, TellFault::Write(broken)),
+            failure_at(PLACE, AnswerFault::Write(broken)),
             "write /run/healthd: broken pipe",
         ),
         (
-            failure_at(PLACE, TellFault::Read(refused)),
+            failure_at(PLACE, AnswerFault::Read(refused)),
             "read /run/healthd: connection refused",
         ),
         (
-            failure_at(PLACE, TellFault::Read(late)),
+            failure_at(PLACE, AnswerFault::Read(late)),
             "timed out, the change may still be made",
         ),
         (
-            failure_at(PLACE, TellFault::Write(late)),
+            failure_at(PLACE, AnswerFault::Write(late)),
             "timed out, the change may still be made",
         ),
-        (failure_at(PLACE, TellFault::NoAnswer), "no answer"),
-        (failure_at(PLACE, TellFault::TooLong), "answer too long"),
-        (failure_at(PLACE, TellFault::OutOfMemory), "out of memory"),
+        (failure_at(PLACE, AnswerFault::NoAnswer), "no answer"),
+        (failure_at(PLACE, AnswerFault::TooLong), "answer too long"),
+        (failure_at(PLACE, AnswerFault::OutOfMemory), "out of memory"),
         (TellFailure::TurnedAway, "too many sessions"),
         (TellFailure::InputTooLong, "input line too long"),
     ]
 }
 
-fn expect_text(alloc: Global, failure: &TellFailure<'_>, expected: &str) -> Result<(), Fail> {
-    let text = format!(in alloc; "{failure}")?;
-    same(&text.as_str(), &expected, failure)
-}
-
 #[test]
-fn tells_each_failure_in_words(rt: HostRuntime) -> Result<(), Fail> {
+fn tells_each_failure_in_words(rt: HostRuntime) {
     for (failure, expected) in &texts() {
-        expect_text(rt.alloc(), failure, expected)?;
+        expect_text(&rt, rt.alloc(), failure, expected);
     }
-    Ok(())
 }

@@ -1,6 +1,5 @@
+use crate::same::same;
 use commands::terminal::is_terminal_path;
-use std::test::Fail;
-use test_support::same;
 
 /// Names that Linux has for the file of standard input, and whether that is a terminal.
 const PATHS: [(&str, bool); 11] = [
@@ -18,9 +17,8 @@ const PATHS: [(&str, bool); 11] = [
 ];
 
 #[test]
-fn tells_terminals_from_other_files(_rt: HostRuntime) -> Result<(), Fail> {
+fn tells_terminals_from_other_files(rt: HostRuntime) {
     for (path, expected) in &PATHS {
-        same(&is_terminal_path(path), expected, path)?;
+        same(&rt, &is_terminal_path(path), expected, &path);
     }
-    Ok(())
 }

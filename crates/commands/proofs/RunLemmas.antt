@@ -15,19 +15,19 @@ use Rattle.server.specs.Setup.{SetUpState, AreSetUp}
 use Rattle.durable.specs.Journal.{AreOfFirst}
 use Rattle.commands.specs.Journaled.{IsSetupOf}
 use Rattle.server.proofs.OwnLemmas.{seats_dealt}
-use Rattle.live_run.specs.declared.run_fault.RunFault.{RunFault}
-use Rattle.live_run.specs.declared.run_fault.RunFault.TheVariants as faults
+use Rattle.live_run.specs.declared.loops_fault.LoopsFault.{LoopsFault}
+use Rattle.live_run.specs.declared.loops_fault.LoopsFault.TheVariants as faults
 use Rattle.live_run.specs.declared.refused_line.RefusedLine.{RefusedLine}
 use Rattle.live_run.specs.RefusedLine.{IsFirstRefused, IsMade}
 use Rattle.script.specs.Change.{line_changes}
 use Rattle.script.specs.declared.script.Mode.TheVariants.{Run}
 use Rattle.script.specs.Script.{ScriptParts, IsScript}
-use Rattle.live_run.specs.WholeRun.{IsLaterFault, run_fault}
+use Rattle.live_run.specs.WholeRun.{IsLaterFault, loops_fault}
 use Rattle.live_run.specs.WholeRun.IsLaterFault.{NoMemory as NoMemoryLater, SeatsMissing as SeatsMissingLater}
 use Rattle.commands.specs.declared.run_failure.RunFailure.{RunFailure}
 use Rattle.commands.specs.declared.run_failure.RunFailure.TheVariants.{Refused}
 use Rattle.live_server.specs.Loop.{EventServer}
-use Rattle.live_server.specs.declared.places.Limits.{Limits}
+use Rattle.live_server.specs.declared.places.ServerLimits.{ServerLimits}
 use Rattle.live_server.specs.Loop.{empty_table, held_by}
 use Rattle.commands.specs.declared.bounds.Bounds.{Bounds}
 use Rattle.commands.specs.Run.{AreLoopsOf, AreMadeAlone, EndsSetUp, HasReply, IsWhollySetUp, limits_in}
@@ -96,26 +96,26 @@ all_entries calls made journal whole is =
     ap length is ∙ all_made 0 _ whole.set_up.first calls made.results met.done whole.replies
 
 -- loops that have a seat each behind the first are not refused
-no_fault : (loops seats : ℕ) → 1 ≤ loops → loops < seats → run_fault loops seats ≡ None
+no_fault : (loops seats : ℕ) → 1 ≤ loops → loops < seats → loops_fault loops seats ≡ None
 no_fault loops seats some enough = grind (arith, nat_tests, some, enough)
 
 -- so that only an allocation can have failed
-only_memory : (calls : List (Option Call)) (made : SetUpState) (fault : RunFault) → IsWhollySetUp calls made → IsLaterFault made fault → fault ≡ faults.NoMemory
+only_memory : (calls : List (Option Call)) (made : SetUpState) (fault : LoopsFault) → IsWhollySetUp calls made → IsLaterFault made fault → fault ≡ faults.NoMemory
 only_memory calls made _ whole NoMemoryLater = refl
 only_memory calls made _ whole (SeatsMissingLater missing) = absurd (missing whole.all)
 
 -- so what holds where there is no such fault holds
-no_such_fault : (X : Type 0) (loops seats : ℕ) → 1 ≤ loops → loops < seats → IfNone (run_fault loops seats) X → X
-no_such_fault X loops seats some enough holds = subst (λ (fault : Option RunFault). IfNone fault X) (no_fault loops seats some enough) holds
+no_such_fault : (X : Type 0) (loops seats : ℕ) → 1 ≤ loops → loops < seats → IfNone (loops_fault loops seats) X → X
+no_such_fault X loops seats some enough holds = subst (λ (fault : Option LoopsFault). IfNone fault X) (no_fault loops seats some enough) holds
 
 -- so that an allocation failed where loops that have seats each were not run
-pub out_of_memory : (calls : List (Option Call)) (made : SetUpState) (loops : ℕ) (fault : RunFault) → IsWhollySetUp calls made → 1 ≤ loops → loops < made.hall.seats
-    → IfNone (run_fault loops (length made.seats)) (IsLaterFault made fault) → fault ≡ faults.NoMemory
+pub out_of_memory : (calls : List (Option Call)) (made : SetUpState) (loops : ℕ) (fault : LoopsFault) → IsWhollySetUp calls made → 1 ≤ loops → loops < made.hall.seats
+    → IfNone (loops_fault loops (length made.seats)) (IsLaterFault made fault) → fault ≡ faults.NoMemory
 out_of_memory calls made loops fault whole some enough failed =
     only_memory calls made fault whole (no_such_fault _ loops (length made.seats) some (omega (arith, enough, whole.all)) failed)
 
 -- one more loop that may hold so much
-pub one_loop_more : (limits : Limits) (old new : List EventServer) (server : EventServer) → new ≡ old ++ server ∷ [] → AreLoopsOf limits old
+pub one_loop_more : (limits : ServerLimits) (old new : List EventServer) (server : EventServer) → new ≡ old ++ server ∷ [] → AreLoopsOf limits old
     → held_by server ≡ empty_table limits → AreLoopsOf limits new
 one_loop_more limits old new server pushed all empty =
     subst (AreLoopsOf limits) (sym pushed) (All-push (λ server. held_by server ≡ empty_table limits) old server all empty)
@@ -141,6 +141,6 @@ pub setup_first : (bytes : List ℕ) (entries : List Entry) → IsSetupOf bytes 
 setup_first bytes entries is = subst AreOfFirst (sym is.entries_are) (first_replied (line_changes is.script.names is.script.lines) is.results)
 
 -- limits whose numbers are those of bounds
-pub limits_are : (limits : Limits) (bounds : Bounds) → limits.connections ≡ bounds.connections → limits.watches ≡ bounds.watches → limits ≡ limits_in bounds
+pub limits_are : (limits : ServerLimits) (bounds : Bounds) → limits.connections ≡ bounds.connections → limits.watches ≡ bounds.watches → limits ≡ limits_in bounds
 limits_are limits bounds connections_are watches_are =
     ap (λ n. record { connections = n; watches = limits.watches }) connections_are ∙ ap (λ n. record { connections = bounds.connections; watches = n }) watches_are

@@ -5,8 +5,8 @@ use Rattle.std.specs.Io.KnownBytes.{Appends, Consumes, Keeps}
 use Rattle.std.specs.Prelude.{IfOk, OnOk, Result, Ok, Err, Some, None}
 use Rattle.control.specs.Answer.{IsRefused}
 use Rattle.control.specs.Line.{ended}
-use Rattle.control.specs.Tell.{IsAnswered, IsTellFault}
-use Rattle.control.specs.declared.tell_fault.TellFault.TheVariants.{Write}
+use Rattle.control.specs.Tell.{IsAnswered, IsAnswerFault}
+use Rattle.control.specs.declared.answer_fault.AnswerFault.TheVariants.{Write}
 use Rattle.commands.specs.Tell.{HasRefused, HasTold, lines_text}
 
 lines_then : (first later : List (List ℕ)) → lines_text (first ++ later) ≡ lines_text first ++ lines_text later
@@ -65,7 +65,7 @@ kept_first (Some x) (Some y) None bs kept consumed = absurd consumed
 kept_first (Some x) (Some y) (Some z) bs kept consumed = sym kept ∙ consumed
 
 -- the answer that was read where a write had failed
-pub last_read : (line answer : List ℕ) (written written_now read between read_now : Option (List ℕ)) (error : _) → IsTellFault line written written_now read between (Write error)
+pub last_read : (line answer : List ℕ) (written written_now read between read_now : Option (List ℕ)) (error : _) → IsAnswerFault line written written_now read between (Write error)
     → Consumes between read_now (ended answer) → Consumes read read_now (ended answer)
 last_read line answer written written_now read between read_now error fault consumed = kept_first read between read_now (ended answer) fault.1 consumed
 

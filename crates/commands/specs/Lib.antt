@@ -10,5 +10,6 @@ pub mod Run
 pub mod RunFailure
 pub mod RunOptions
 pub mod Service
+pub mod StatusPrinter
 pub mod Tell
 pub mod Terminal

@@ -13,7 +13,7 @@ use Rattle.script.specs.Explanation.{IsExplanation}
 use Rattle.script.specs.Script.{ScriptParts, IsScript, IsScriptFault}
 use Rattle.server.specs.Setup.{SetUpState, AreSetUp}
 use Rattle.live_server.specs.Loop.{EventServer}
-use Rattle.live_server.specs.declared.places.Limits.{Limits}
+use Rattle.live_server.specs.declared.places.ServerLimits.{ServerLimits}
 use Rattle.live_server.specs.Loop.{empty_table, held_by}
 use Rattle.live_run.specs.declared.refused_line.RefusedLine.{RefusedLine}
 use Rattle.live_run.specs.RefusedLine.{IsFirstRefused, IsMade}
@@ -72,9 +72,9 @@ EndsSetUp bytes (Write cause) = ⊥
 EndsSetUp bytes OutOfMemory = Unit {0}
 
 -- how much the loops of a run hold together
-abbrev pub limits_in : Bounds → Limits
+abbrev pub limits_in : Bounds → ServerLimits
 limits_in bounds = record { connections = bounds.connections; watches = bounds.watches }
 
 -- each of these loops holds no connection yet, and may hold so much
-abbrev pub AreLoopsOf : Limits → List EventServer → Type 0
+abbrev pub AreLoopsOf : ServerLimits → List EventServer → Type 0
 AreLoopsOf limits servers = All (λ server. held_by server ≡ empty_table limits) servers

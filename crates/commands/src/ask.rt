@@ -1,15 +1,16 @@
-ghost use Rattle.std.specs.Prelude.{◌≡◌, ◌≤◌, ◌↔◌, ◌⊎◌, IfNone, IfOk, IfSome, length};
+ghost use Rattle.std.specs.Prelude.{◌≡◌, ◌≤◌, ◌↔◌, ◌⊎◌, false, IfNone, IfOk, IfSome, length};
 ghost use Rattle.commands.specs.Expect.{IsExpected};
 
 use crate::ask_failure::AskFailure;
 use crate::cause::Cause;
 use crate::command::port_in;
 use crate::deadline::{Deadline, TimedStream};
-use crate::expect::{exit_status, status_name, status_spelled};
+use crate::expect::{exit_status, status_spelled};
 use crate::fault::Fault;
+use crate::status_printer::{StatusPrinter, put_status};
 use clap::ArgMatches;
 use clap::parser::ValueSource;
-use client::{Ended, Told, ask};
+use client::{Ended, Lent, Listener, Told, ask, watch_through};
 use std::alloc::{AllocError, Global};
 use std::fmt::Write as _;
 use std::io;
@@ -51,12 +52,68 @@ where
         return Err(AskFailure::Plain(Fault::NameTooLong));
     }
     let (method, most) = call_in(matches);
+    if method == Method::Watch {
+        return watch_and_print(rt, matches, addr, name, most);
+    }
     let told = match timeout_in(matches) {
         Some(timeout) => ask_within(rt, alloc, addr, timeout, method, name, most)?,
         None => ask_for_good(rt, alloc, addr, method, name, most)?,
     };
     let expected = expected_in(matches);
     Ok(print_told(alloc, &mut io::writer(rt), method, expected, &told)?)
+}
+
+/// Watches the service, prints each status as it comes, and then how the Watch ended. It tells the exit status.
+fn watch_and_print<R>(
+    rt: &R,
+    matches: &ArgMatches<'_>,
+    addr: SocketAddr,
+    name: &str,
+    most: u32,
+) -> Result<u8, AskFailure>
+where
+    R: Print + Clock + AllocGlobal + Net<Stream = TcpStream>,
+    requires name { length name.now ≤ 1048576 }
+    requires most { 1 ≤ most }
+    ensures one_of_two { IfOk result (λ status. (status ≡ 0) ⊎ (status ≡ 3)) }
+{
+    let alloc = rt.alloc();
+    let mut output = io::writer(rt);
+    let told = watch_aloud(
+        rt,
+        alloc,
+        addr,
+        timeout_in(matches),
+        name,
+        most,
+        &mut output,
+    )?;
+    let expected = expected_in(matches);
+    Ok(print_end(alloc, &mut output, expected, &told)?)
+}
+
+/// Watches the service, and prints each status as it comes.
+fn watch_aloud<R: Clock + Net<Stream = TcpStream>, O: Write>(
+    rt: &R,
+    alloc: Global,
+    addr: SocketAddr,
+    timeout: Option<Duration>,
+    name: &str,
+    most: u32,
+    output: &mut O,
+) -> Result<Told, AskFailure>
+    requires name { length name.now ≤ 1048576 }
+    requires most { 1 ≤ most }
+{
+    let mut printer = StatusPrinter::new(alloc, output);
+    let watched = match timeout {
+        Some(timeout) => watch_within(rt, alloc, addr, timeout, name, most, &mut printer),
+        None => watch_for_good(rt, alloc, addr, name, most, &mut printer),
+    };
+    match printer.fault() {
+        Some(fault) => Err(AskFailure::Plain(fault)),
+        None => watched,
+    }
 }
 
 /// The name of the status that is expected, if one is.
@@ -84,6 +141,25 @@ pub fn print_told<O: Write>(
     let text = output_of(alloc, told)?;
     match output.write_all(&text) {
         Ok(()) => Ok(exit_status(method, expected, told)),
+        Err(_) => Err(Fault::Write),
+    }
+}
+
+/// Prints how a Watch ended, whose statuses are printed. It tells the exit status, where a status of this name may be expected.
+pub fn print_end<O: Write>(
+    alloc: Global,
+    output: &mut O,
+    expected: Option<&str>,
+    told: &Told,
+) -> Result<u8, Fault>
+    ensures nothing { IfNone expected.entry (IfOk result (λ status. status ≡ 0)) }
+    ensures met { IfSome expected.entry (λ name.
+        IfOk result (λ status. (status ≡ 0) ↔ IsExpected Method.Watch name.now told.now)) }
+    ensures one_of_two { IfOk result (λ status. (status ≡ 0) ⊎ (status ≡ 3)) }
+{
+    let text = end_of(alloc, told)?;
+    match output.write_all(&text) {
+        Ok(()) => Ok(exit_status(Method::Watch, expected, told)),
         Err(_) => Err(Fault::Write),
     }
 }
@@ -127,15 +203,45 @@ pub fn ask_for_good<R: Net<Stream = TcpStream>>(
     requires name { length name.now ≤ 1048576 }
     requires most { 1 ≤ most }
 {
-    let stream = match TcpStream::connect(rt, addr) {
-        Ok(stream) => stream,
-        Err(error) => return Err(AskFailure::Connect(addr, Cause::from(error))),
-    };
+    let stream = connect_for_good(rt, addr)?;
     let Ok(mut reader) = BufReader::new(alloc, &stream) else {
         return Err(AskFailure::Plain(Fault::OutOfMemory));
     };
     let mut writer = &stream;
     Ok(ask(alloc, &mut reader, &mut writer, method, name, most)?)
+}
+
+/// Asks by a Watch in the same way, and tells a listener each status as it comes.
+pub fn watch_for_good<R: Net<Stream = TcpStream>, L: Listener>(
+    rt: &R,
+    alloc: Global,
+    addr: SocketAddr,
+    name: &str,
+    most: u32,
+    listener: &mut L,
+) -> Result<Told, AskFailure>
+    requires name { length name.now ≤ 1048576 }
+    requires most { 1 ≤ most }
+    requires wants { L.has_enough listener.old ≡ false }
+{
+    let stream = connect_for_good(rt, addr)?;
+    let Ok(mut reader) = BufReader::new(alloc, &stream) else {
+        return Err(AskFailure::Plain(Fault::OutOfMemory));
+    };
+    let mut writer = &stream;
+    let mut reader = Lent::new(&mut reader);
+    let mut writer = Lent::new(&mut writer);
+    Ok(watch_through(alloc, &mut reader, &mut writer, name, most, listener)?)
+}
+
+fn connect_for_good<R: Net<Stream = TcpStream>>(
+    rt: &R,
+    addr: SocketAddr,
+) -> Result<TcpStream, AskFailure> {
+    match TcpStream::connect(rt, addr) {
+        Ok(stream) => Ok(stream),
+        Err(error) => Err(AskFailure::Connect(addr, Cause::from(error))),
+    }
 }
 
 /// Asks the server that listens there, and gives up where the whole call takes longer.
@@ -155,11 +261,7 @@ pub fn ask_within<R: Clock + Net<Stream = TcpStream>>(
     let Ok(deadline) = Deadline::after(rt, timeout) else {
         return Err(late);
     };
-    let stream = match connect_by(rt, addr, deadline) {
-        Ok(stream) => stream,
-        Err(error) if error.kind() == ErrorKind::TimedOut => return Err(late),
-        Err(error) => return Err(AskFailure::Connect(addr, Cause::from(error))),
-    };
+    let stream = connect_by(rt, addr, deadline, late)?;
     let Ok(mut reader) = BufReader::new(alloc, TimedStream::new(rt, &stream, deadline)) else {
         return Err(AskFailure::Plain(Fault::OutOfMemory));
     };
@@ -171,7 +273,59 @@ pub fn ask_within<R: Clock + Net<Stream = TcpStream>>(
     }
 }
 
+/// Asks by a Watch in the same way, and tells a listener each status as it comes.
+pub fn watch_within<R: Clock + Net<Stream = TcpStream>, L: Listener>(
+    rt: &R,
+    alloc: Global,
+    addr: SocketAddr,
+    timeout: Duration,
+    name: &str,
+    most: u32,
+    listener: &mut L,
+) -> Result<Told, AskFailure>
+    requires name { length name.now ≤ 1048576 }
+    requires most { 1 ≤ most }
+    requires wants { L.has_enough listener.old ≡ false }
+{
+    let late = AskFailure::TimedOut(timeout.as_secs());
+    let Ok(deadline) = Deadline::after(rt, timeout) else {
+        return Err(late);
+    };
+    let stream = connect_by(rt, addr, deadline, late)?;
+    let Ok(mut reader) = BufReader::new(alloc, TimedStream::new(rt, &stream, deadline)) else {
+        return Err(AskFailure::Plain(Fault::OutOfMemory));
+    };
+    let mut writer = TimedStream::new(rt, &stream, deadline);
+    let watched = watch_through(
+        alloc,
+        &mut Lent::new(&mut reader),
+        &mut Lent::new(&mut writer),
+        name,
+        most,
+        listener,
+    );
+    match watched {
+        Ok(told) => Ok(told),
+        Err(_) if reader.get_ref().is_late() || writer.is_late() => Err(late),
+        Err(fault) => Err(AskFailure::Plain(Fault::Ask(fault))),
+    }
+}
+
+/// Connects before a deadline, past which it is too late.
 fn connect_by<R: Clock + Net<Stream = TcpStream>>(
+    rt: &R,
+    addr: SocketAddr,
+    deadline: Deadline,
+    late: AskFailure,
+) -> Result<TcpStream, AskFailure> {
+    match connect_in_time(rt, addr, deadline) {
+        Ok(stream) => Ok(stream),
+        Err(error) if error.kind() == ErrorKind::TimedOut => Err(late),
+        Err(error) => Err(AskFailure::Connect(addr, Cause::from(error))),
+    }
+}
+
+fn connect_in_time<R: Clock + Net<Stream = TcpStream>>(
     rt: &R,
     addr: SocketAddr,
     deadline: Deadline,
@@ -185,21 +339,22 @@ pub fn output_of(alloc: Global, told: &Told) -> Result<Vec<u8>, AllocError> {
     for status in &told.statuses {
         put_status(&mut output, *status)?;
     }
+    with_end(output, told)
+}
+
+/// A line for the end of the call, if it has one.
+fn end_of(alloc: Global, told: &Told) -> Result<Vec<u8>, AllocError> {
+    with_end(String::new(alloc), told)
+}
+
+fn with_end(output: String, told: &Told) -> Result<Vec<u8>, AllocError> {
     match &told.end {
-        Some(ended) => with_end(output, ended),
+        Some(ended) => with_code(output, ended),
         None => Ok(output.into_bytes()),
     }
 }
 
-/// A status by its name, or by its number where it has none.
-fn put_status(output: &mut String, status: u64) -> Result<(), AllocError> {
-    match status_name(status) {
-        Some(name) => writeln!(output, "{name}"),
-        None => writeln!(output, "status {status}"),
-    }
-}
-
-fn with_end(mut output: String, ended: &Ended) -> Result<Vec<u8>, AllocError> {
+fn with_code(mut output: String, ended: &Ended) -> Result<Vec<u8>, AllocError> {
     let code = ended.code;
     if code == 0 {
         output.push_str("grpc-status 0\n")?;

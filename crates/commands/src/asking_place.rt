@@ -8,7 +8,7 @@ use crate::cause::Cause;
 use crate::show_failure::ShowFailure;
 use crate::tell_failure::{TellFailure, failure_at};
 use control::{
-    ControlClient, LINE_ROOM, LineEnd, Place, TellFault, connect_within, is_one_line,
+    AnswerFault, ControlClient, LINE_ROOM, LineEnd, Place, connect_within, is_one_line,
     is_turned_away, read_line, tell,
 };
 use std::alloc::Global;
@@ -69,7 +69,7 @@ impl<'a, R: Read + Drop, W: Write + Drop> AskingPlace<'a, R, W> {
         }
     }
 
-    fn failure_of(&mut self, fault: TellFault) -> ShowFailure<'a> {
+    fn failure_of(&mut self, fault: AnswerFault) -> ShowFailure<'a> {
         if has_ended(fault) {
             return self.end();
         }
@@ -90,14 +90,14 @@ impl<'a, R: Read + Drop, W: Write + Drop> AskingPlace<'a, R, W> {
 }
 
 /// Whether the line has no answer since the server ended the session.
-fn has_ended(fault: TellFault) -> bool {
+fn has_ended(fault: AnswerFault) -> bool {
     match fault {
-        TellFault::NoAnswer => true,
-        TellFault::Write(error) | TellFault::Read(error) => matches!(
+        AnswerFault::NoAnswer => true,
+        AnswerFault::Write(error) | AnswerFault::Read(error) => matches!(
             error.kind(),
             ErrorKind::BrokenPipe | ErrorKind::ConnectionReset
         ),
-        TellFault::TooLong | TellFault::OutOfMemory => false,
+        AnswerFault::TooLong | AnswerFault::OutOfMemory => false,
     }
 }
 

@@ -1,7 +1,7 @@
 ghost use Rattle.std.specs.Prelude.{min, max, ◌≡◌, ◌≤◌, ◌<◌, ◌↔◌, ◌⊎◌, IsSome, IsNone, IfSome, None};
 ghost use Rattle.commands.specs.Bounds.{watches_of};
 
-use live_server::Limits;
+use live_server::ServerLimits;
 
 /// The most event loops of a server.
 pub const MAX_LOOPS: u16 = 64;
@@ -91,11 +91,11 @@ impl Bounds {
     }
 
     /// How much the loops hold together.
-    pub fn limits(self) -> Limits
+    pub fn limits(self) -> ServerLimits
         ensures connections { result.connections ≡ self.connections }
         ensures watches { result.watches ≡ self.watches }
     {
-        Limits {
+        ServerLimits {
             connections: self.connections as usize,
             watches: self.watches as usize,
         }

@@ -1,5 +1,5 @@
 use crate::cause::Cause;
-use durable::JournalFault;
+use durable::OpeningFault;
 use std::io::ErrorKind;
 use thiserror::Error;
 
@@ -27,17 +27,17 @@ pub enum JournalCause {
 
 impl JournalCause {
     /// The cause of a fault; none where memory ran out.
-    pub(crate) fn of(fault: JournalFault) -> Option<JournalCause> {
+    pub(crate) fn of(fault: OpeningFault) -> Option<JournalCause> {
         Some(match fault {
-            JournalFault::Memory => return None,
-            JournalFault::System(error) if error.kind() == ErrorKind::OutOfMemory => return None,
-            JournalFault::System(error) => JournalCause::System(Cause::from(error)),
-            JournalFault::InUse => JournalCause::InUse,
-            JournalFault::NotAFile => JournalCause::NotAFile,
-            JournalFault::AnotherCatalogue => JournalCause::AnotherCatalogue,
-            JournalFault::Damaged(at) => JournalCause::Damaged(at),
-            JournalFault::TooLong => JournalCause::TooLong,
-            JournalFault::NotStored => JournalCause::NotStored,
+            OpeningFault::Memory => return None,
+            OpeningFault::System(error) if error.kind() == ErrorKind::OutOfMemory => return None,
+            OpeningFault::System(error) => JournalCause::System(Cause::from(error)),
+            OpeningFault::InUse => JournalCause::InUse,
+            OpeningFault::NotAFile => JournalCause::NotAFile,
+            OpeningFault::AnotherCatalogue => JournalCause::AnotherCatalogue,
+            OpeningFault::Damaged(at) => JournalCause::Damaged(at),
+            OpeningFault::TooLong => JournalCause::TooLong,
+            OpeningFault::NotStored => JournalCause::NotStored,
         })
     }
 }

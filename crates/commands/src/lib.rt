@@ -55,6 +55,7 @@ pub mod service;
 pub mod show_failure;
 pub mod show_journal;
 pub mod status;
+pub mod status_printer;
 pub mod supervisor;
 pub mod tallies;
 pub mod tell;

@@ -8,7 +8,7 @@ use crate::tallies::tallies_of;
 use control::{ControlListener, Terms};
 use control_server::ControlServer;
 use handover::Notifier;
-use live_server::{Acceptor, EventServer, Limits, News, Places};
+use live_server::{Acceptor, EventServer, News, Places, ServerLimits};
 use std::alloc::Global;
 use std::io;
 use std::net::{Net, TcpListener, TcpStream};
@@ -22,7 +22,7 @@ pub fn event_loops<'a, R>(
     alloc: Global,
     listener: &TcpListener,
     plain: &Option<TcpListener>,
-    limits: Limits,
+    limits: ServerLimits,
     loops: u16,
 ) -> Result<(Vec<EventServer>, News), RunFailure<'a>>
 where
@@ -41,7 +41,7 @@ fn loops_with<R>(
     alloc: Global,
     listener: &TcpListener,
     plain: &Option<TcpListener>,
-    limits: Limits,
+    limits: ServerLimits,
     loops: u16,
 ) -> io::Result<(Vec<EventServer>, News)>
 where

@@ -4,9 +4,9 @@ ghost use Rattle.desk_core.specs.Past.{past};
 ghost use Rattle.hall.specs.Seats.{new_seats};
 ghost use Rattle.server.specs.Setup.{AreSetUp};
 ghost use Rattle.live_run.specs.Sitting.{terms_by};
-ghost use Rattle.live_run.specs.Loops.{HaveServedAll};
+ghost use Rattle.live_run.specs.Loops.{AllEndedEmpty};
 ghost use Rattle.live_run.specs.WholeRun.{AreNone, HasRun, HasRunLoops, HaveEnded, HaveTerms};
-ghost use Rattle.live_run.specs.declared.run_fault.RunFault.TheVariants.{NoMemory};
+ghost use Rattle.live_run.specs.declared.loops_fault.LoopsFault.TheVariants.{NoMemory};
 ghost use Rattle.commands.specs.declared.run_failure.RunFailure.TheVariants.{OutOfMemory, Refused};
 ghost use Rattle.commands.specs.Run.{AreLoopsOf, AreMadeAlone, EndsSetUp, IsSetUpBy, IsWhollySetUp, limits_in};
 
@@ -27,7 +27,7 @@ use control::{Rights, Terms};
 use control_server::{MAX_SESSIONS, SESSION_SEATS};
 use desk_core::{Keep, KeepAll, KeepMany};
 use diary::{Held, Setup};
-use live_run::{Counters, Ran, RefusedLine, RunFault, SessionPlaces, first_refused, run_live};
+use live_run::{Counters, LoopsFault, Ran, RefusedLine, SessionPlaces, first_refused, run_live};
 use live_server::{EventServer, News};
 use open_files::open_files;
 use probe_core::{Maker, Probe};
@@ -493,7 +493,7 @@ where
     requires some { 1 ≤ vec_len servers }
     requires enough { vec_len servers < made.hall.seats }
     requires terms { HaveTerms made.hall.most places }
-    ensures servers { IfOk result (λ ran. HaveServedAll servers.items ran.servers.items) }
+    ensures servers { IfOk result (λ ran. AllEndedEmpty servers.items ran.servers.items) }
     // nothing but the setup, the lines of sessions and the watchdog makes changes
     ensures ran { IfOk result (λ ran. HasRun K.kept places ran.places made.hall
         (vec_len servers) made.seats ran.desk) }
@@ -525,12 +525,12 @@ pub fn remove_sockets<R: Files, P: Probe, K: Keep>(rt: &R, ran: &Ran<P, K>) {
 }
 
 /// The one failure of loops that have seats, all of which come back.
-fn failure_to_run<'a>(fault: RunFault) -> RunFailure<'a>
+fn failure_to_run<'a>(fault: LoopsFault) -> RunFailure<'a>
     requires { fault ≡ NoMemory }
     ensures { result ≡ OutOfMemory }
 {
     match fault {
-        RunFault::NoMemory => RunFailure::OutOfMemory,
-        RunFault::NoLoops | RunFault::NoSeats | RunFault::SeatsMissing => unreachable!(),
+        LoopsFault::NoMemory => RunFailure::OutOfMemory,
+        LoopsFault::NoLoops | LoopsFault::NoSeats | LoopsFault::SeatsMissing => unreachable!(),
     }
 }

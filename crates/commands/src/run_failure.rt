@@ -8,7 +8,7 @@ use crate::cause::Cause;
 use crate::journal_cause::JournalCause;
 use crate::run_options::Source;
 use control::Place;
-use durable::JournalFault;
+use durable::OpeningFault;
 use live_run::RefusedLine;
 use script::{ScriptFault, changed_text, explain};
 use std::alloc::{AllocError, AllocFailed, Global};
@@ -63,7 +63,7 @@ impl<T: Drop> From<AllocFailed<T>> for RunFailure<'_> {
 }
 
 /// The failure of a run whose history can't go on from the file at this path.
-pub(crate) fn journal_failure<'a>(path: &'a str, fault: JournalFault) -> RunFailure<'a> {
+pub(crate) fn journal_failure<'a>(path: &'a str, fault: OpeningFault) -> RunFailure<'a> {
     match JournalCause::of(fault) {
         Some(cause) => RunFailure::Journal(path, cause),
         None => RunFailure::OutOfMemory,

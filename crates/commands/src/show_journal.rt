@@ -1,5 +1,5 @@
 use crate::cause::Cause;
-use journal_lines::{JournalFault, print_journal};
+use journal_lines::{PrintingFault, print_journal};
 use std::io;
 use std::io::BufWriter;
 use std::rt::Files;
@@ -23,13 +23,13 @@ pub enum JournalFailure<'a> {
 
 impl<'a> JournalFailure<'a> {
     /// The failure of printing the journal in the file at a path.
-    pub fn at(path: &'a str, fault: JournalFault) -> JournalFailure<'a> {
+    pub fn at(path: &'a str, fault: PrintingFault) -> JournalFailure<'a> {
         match fault {
-            JournalFault::NotAFile => JournalFailure::NotAFile(path),
-            JournalFault::Damaged(at) => JournalFailure::Damaged(path, at),
-            JournalFault::Read(error) => JournalFailure::Read(path, Cause::from(error)),
-            JournalFault::Write(error) => JournalFailure::Write(Cause::from(error)),
-            JournalFault::Memory => JournalFailure::OutOfMemory,
+            PrintingFault::NotAFile => JournalFailure::NotAFile(path),
+            PrintingFault::Damaged(at) => JournalFailure::Damaged(path, at),
+            PrintingFault::Read(error) => JournalFailure::Read(path, Cause::from(error)),
+            PrintingFault::Write(error) => JournalFailure::Write(Cause::from(error)),
+            PrintingFault::Memory => JournalFailure::OutOfMemory,
         }
     }
 }

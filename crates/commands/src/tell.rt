@@ -10,7 +10,7 @@ use crate::tell_failure::{TellFailure, failure_at};
 use crate::timed_control::{AnswerTime, TimedControl};
 use clap::ArgMatches;
 use control::{
-    ControlClient, LINE_ROOM, LineEnd, Place, TellFault, connect_within, is_refused,
+    AnswerFault, ControlClient, LINE_ROOM, LineEnd, Place, connect_within, is_refused,
     is_turned_away, read_line, tell,
 };
 use std::alloc::{AllocError, Global};
@@ -152,9 +152,9 @@ pub fn tell_line<'a, R: Read, W: Write, O: Write>(
     match tell(alloc, reader, writer, line) {
         Ok(Some(answer)) => print_answer(output, answer),
         Ok(None) => Ok(DONE),
-        Err(TellFault::Write(error)) => match last_answer(alloc, reader, error.kind()) {
+        Err(AnswerFault::Write(error)) => match last_answer(alloc, reader, error.kind()) {
             Some(answer) => print_answer(output, answer),
-            None => Err(failure_at(place, TellFault::Write(error))),
+            None => Err(failure_at(place, AnswerFault::Write(error))),
         },
         Err(fault) => Err(failure_at(place, fault)),
     }

@@ -2,7 +2,7 @@ ghost use Rattle.std.specs.Prelude.{◌≡◌};
 ghost use Rattle.commands.specs.declared.tell_failure.TellFailure.TheVariants.{OutOfMemory};
 
 use crate::cause::Cause;
-use control::{Place, TellFault};
+use control::{AnswerFault, Place};
 use std::alloc::{AllocError, AllocFailed};
 use std::io::ErrorKind;
 use thiserror::Error;
@@ -54,15 +54,14 @@ impl<T: Drop> From<AllocFailed<T>> for TellFailure<'_> {
 }
 
 /// The failure of a line that has no answer of the server there.
-pub fn failure_at<'a>(place: Place<'a>, fault: TellFault) -> TellFailure<'a> {
+pub fn failure_at<'a>(place: Place<'a>, fault: AnswerFault) -> TellFailure<'a> {
     match fault {
-        TellFault::Write(error) | TellFault::Read(error) if error.kind() == ErrorKind::TimedOut => {
-            TellFailure::TimedOut
-        }
-        TellFault::Write(error) => TellFailure::Send(place, Cause::from(error)),
-        TellFault::Read(error) => TellFailure::Receive(place, Cause::from(error)),
-        TellFault::NoAnswer => TellFailure::NoAnswer,
-        TellFault::TooLong => TellFailure::AnswerTooLong,
-        TellFault::OutOfMemory => TellFailure::OutOfMemory,
+        AnswerFault::Write(error) | AnswerFault::Read(error)
+            if error.kind() == ErrorKind::TimedOut => { TellFailure::TimedOut }
+        AnswerFault::Write(error) => TellFailure::Send(place, Cause::from(error)),
+        AnswerFault::Read(error) => TellFailure::Receive(place, Cause::from(error)),
+        AnswerFault::NoAnswer => TellFailure::NoAnswer,
+        AnswerFault::TooLong => TellFailure::AnswerTooLong,
+        AnswerFault::OutOfMemory => TellFailure::OutOfMemory,
     }
 }

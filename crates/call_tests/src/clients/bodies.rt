@@ -128,57 +128,80 @@ const BAD: [(&[u8], usize); 27] = [
 const BAD_RESPONSE: Result<Seen<'static>, AskFault> = Err(AskFault::BadResponse);
 
 #[test]
-fn tells_each_message_and_the_end_of_a_body_by_its_length(rt: HostRuntime) -> Result<(), Fail> {
+fn tells_each_message_and_the_end_of_a_body_by_its_length(rt: HostRuntime) {
     for &(body, most, told, left) in &WATCHES {
-        expect_of_body(rt.alloc(), body, &(Method::Watch, most, Ok(told), left))?;
+        expect_of_body(
+            &rt,
+            rt.alloc(),
+            body,
+            &(Method::Watch, most, Ok(told), left),
+        );
     }
     for &(body, told) in &CHECKS {
-        expect_of_body(rt.alloc(), body, &(Method::Check, 1, Ok(told), 0))?;
+        expect_of_body(&rt, rt.alloc(), body, &(Method::Check, 1, Ok(told), 0));
     }
-    Ok(())
 }
 
 #[test]
-fn refuses_a_bad_body(rt: HostRuntime) -> Result<(), Fail> {
+fn refuses_a_bad_body(rt: HostRuntime) {
     for &(body, unread) in &BAD {
-        expect_of_body(rt.alloc(), body, &(Method::Check, 1, BAD_RESPONSE, unread))?;
         expect_of_body(
+            &rt,
+            rt.alloc(),
+            body,
+            &(Method::Check, 1, BAD_RESPONSE, unread),
+        );
+        expect_of_body(
+            &rt,
             rt.alloc(),
             body,
             &(Method::Watch, 1_000, BAD_RESPONSE, unread),
-        )?;
+        );
     }
     for &body in &WITHOUT_TRAILERS {
-        expect_of_body(rt.alloc(), body, &(Method::Check, 1_000, BAD_RESPONSE, 0))?;
+        expect_of_body(
+            &rt,
+            rt.alloc(),
+            body,
+            &(Method::Check, 1_000, BAD_RESPONSE, 0),
+        );
     }
-    Ok(())
 }
 
 #[test]
-fn tells_a_thousand_messages(rt: HostRuntime) -> Result<(), Fail> {
+fn tells_a_thousand_messages(rt: HostRuntime) {
     let alloc = rt.alloc();
     let (mut body, mut told) = (Vec::new(alloc), Vec::new(alloc));
     for _ in 0..1_000u32 {
-        body.extend_from_slice(b"\0\0\0\0\x02\x08\x01")?;
-        told.push(1)?;
+        body.extend_from_slice(b"\0\0\0\0\x02\x08\x01")
+            .expect(&rt, "memory");
+        told.push(1).expect(&rt, "memory");
     }
     let watch = (Method::Watch, 1_000, Ok((told.as_slice(), None)), 0);
-    expect_of_body(alloc, &body, &watch)?;
-    body.extend_from_slice(b"\x80\0\0\0\x0fgrpc-status:0\r\n")?;
-    expect_of_body(alloc, &body, &(Method::Check, 1, Ok((&told, OK)), 0))
+    expect_of_body(&rt, alloc, &body, &watch);
+    body.extend_from_slice(b"\x80\0\0\0\x0fgrpc-status:0\r\n")
+        .expect(&rt, "memory");
+    expect_of_body(&rt, alloc, &body, &(Method::Check, 1, Ok((&told, OK)), 0));
 }
 
 /// A message of 1,048,551 bytes, which has one unknown field, and trailers of 20: a body of 1,048,576 bytes. One more is too many.
 #[test]
-fn reads_a_body_of_1_048_576_bytes(rt: HostRuntime) -> Result<(), Fail> {
+fn reads_a_body_of_1_048_576_bytes(rt: HostRuntime) {
     let front = b"\0\0\x0f\xff\xe7\x12\xe3\xff\x3f";
-    let mut body = padded(rt.alloc(), front, 1_048_556, 0)?;
-    body.extend_from_slice(b"\x80\0\0\0\x0fgrpc-status:0\r\n")?;
-    expect_of_body(rt.alloc(), &body, &(Method::Check, 1, Ok((&[0], OK)), 0))?;
-    body.push(0)?;
+    let mut body = padded(&rt, rt.alloc(), front, 1_048_556, 0);
+    body.extend_from_slice(b"\x80\0\0\0\x0fgrpc-status:0\r\n")
+        .expect(&rt, "memory");
     expect_of_body(
+        &rt,
+        rt.alloc(),
+        &body,
+        &(Method::Check, 1, Ok((&[0], OK)), 0),
+    );
+    body.push(0).expect(&rt, "memory");
+    expect_of_body(
+        &rt,
         rt.alloc(),
         &body,
         &(Method::Watch, 1, BAD_RESPONSE, 1_048_577),
-    )
+    );
 }

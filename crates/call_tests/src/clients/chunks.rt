@@ -9,39 +9,44 @@ const BAD_RESPONSE: Result<Seen<'static>, AskFault> = Err(AskFault::BadResponse)
 const END: &[u8] = b"\r\n0\r\n\r\n";
 
 /// Adds a chunk, behind the end of the one before it. No bytes are no chunk.
-fn push_chunk(alloc: Global, input: &mut Vec<u8>, bytes: &[u8]) -> Result<(), Fail> {
+fn push_chunk(rt: &impl Abort, alloc: Global, input: &mut Vec<u8>, bytes: &[u8]) {
     if bytes.is_empty() {
-        return Ok(());
+        return;
     }
     if input.len() > CHUNKED.len() {
-        input.extend_from_slice(b"\r\n")?;
+        input.extend_from_slice(b"\r\n").expect(rt, "memory");
     }
-    let line = format!(in alloc; "{:x}\r\n", bytes.len())?;
-    input.extend_from_slice(line.as_bytes())?;
-    input.extend_from_slice(bytes)?;
-    Ok(())
+    let line = format!(in alloc; "{:x}\r\n", bytes.len()).expect(rt, "memory");
+    input
+        .extend_from_slice(line.as_bytes())
+        .expect(rt, "memory");
+    input.extend_from_slice(bytes).expect(rt, "memory");
 }
 
 /// A Check's response, in chunks of so many bytes.
-fn in_chunks_of(alloc: Global, len: usize) -> Result<Vec<u8>, Fail> {
-    let mut input = CHUNKED.to_vec(alloc)?;
+fn in_chunks_of(rt: &impl Abort, alloc: Global, len: usize) -> Vec<u8> {
+    let mut input = CHUNKED.to_vec(alloc).expect(rt, "memory");
     let mut rest = SERVING_BODY;
     for _ in 0..SERVING_BODY.len() {
         let (chunk, behind) = rest.split_at(len.min(rest.len()));
-        push_chunk(alloc, &mut input, chunk)?;
+        push_chunk(rt, alloc, &mut input, chunk);
         rest = behind;
     }
-    input.extend_from_slice(END)?;
-    Ok(input)
+    input.extend_from_slice(END).expect(rt, "memory");
+    input
 }
 
 #[test]
-fn needs_each_byte_of_chunks_up_to_the_trailers(rt: HostRuntime) -> Result<(), Fail> {
+fn needs_each_byte_of_chunks_up_to_the_trailers(rt: HostRuntime) {
     for len in 1..28usize {
-        let input = in_chunks_of(rt.alloc(), len)?;
-        expect_at_each_cut(rt.alloc(), &input, &(Method::Check, 1, TOLD, END.len()))?;
+        let input = in_chunks_of(&rt, rt.alloc(), len);
+        expect_at_each_cut(
+            &rt,
+            rt.alloc(),
+            &input,
+            &(Method::Check, 1, TOLD, END.len()),
+        );
     }
-    Ok(())
 }
 
 /// Lines of a chunk of 27 bytes. The longest has 64 bytes.
@@ -63,17 +68,27 @@ const BEHIND: [&[u8]; 4] = [b"", b"x", b"\r\n1\r\nx", b"\r\n7\r\n\0\0\0\0\x02\x0
 const LONG_LINE: &[u8] = b"1b;xxxxxxxxxxxxxxxxxxxxxxxxxxxxxxxxxxxxxxxxxxxxxxxxxxxxxxxxxxxx\r\n";
 
 #[test]
-fn reads_each_spelling_of_a_chunks_line_and_nothing_behind(rt: HostRuntime) -> Result<(), Fail> {
+fn reads_each_spelling_of_a_chunks_line_and_nothing_behind(rt: HostRuntime) {
     for &line in &LINES {
         let parts = [CHUNKED, line, SERVING_BODY, END];
-        expect_over(rt.alloc(), &parts, &(Method::Check, 1, TOLD, 7))?;
+        expect_over(&rt, rt.alloc(), &parts, &(Method::Check, 1, TOLD, 7));
     }
     for &behind in &BEHIND {
         let parts = [CHUNKED, b"1b\r\n", SERVING_BODY, behind];
-        expect_over(rt.alloc(), &parts, &(Method::Check, 1, TOLD, behind.len()))?;
+        expect_over(
+            &rt,
+            rt.alloc(),
+            &parts,
+            &(Method::Check, 1, TOLD, behind.len()),
+        );
     }
     let parts = [CHUNKED, LONG_LINE, SERVING_BODY, END];
-    expect_over(rt.alloc(), &parts, &(Method::Check, 1, BAD_RESPONSE, 35))
+    expect_over(
+        &rt,
+        rt.alloc(),
+        &parts,
+        &(Method::Check, 1, BAD_RESPONSE, 35),
+    );
 }
 
 /// Chunks of a Watch, the most statuses, what they tell, and how many bytes are not read.
@@ -118,10 +133,10 @@ const BAD: [(&[u8], usize); 22] = [
     (b"7\n\0\0\0\0\x02\x08\x01", 7),
     (b"7\r\r\n", 1),
     (b"7;a\nb\r\n", 3),
-    // a body of over 1,048,576 bytes
-    (b"100001\r\n\0\0\0\0\0", 5),
+    // content of over 1,099,511,627,776 bytes
+    (b"10000000001\r\n\0\0\0\0\0", 5),
     (b"ffffffffffffffff\r\n\0", 1),
-    (b"5\r\n\0\0\0\0\0\r\nffffc\r\n\0", 1),
+    (b"5\r\n\0\0\0\0\0\r\nfffffffffc\r\n\0", 1),
     // no end of a chunk
     (b"5\r\n\0\0\0\0\0xx7\r\n", 3),
     (b"5\r\n\0\0\0\0\0\n\n7\r\n", 3),
@@ -143,38 +158,40 @@ const CHUNKS_WITHOUT_TRAILERS: [&[u8]; 2] = [
 ];
 
 #[test]
-fn a_watch_in_chunks_reads_no_further_than_its_last_status(rt: HostRuntime) -> Result<(), Fail> {
+fn a_watch_in_chunks_reads_no_further_than_its_last_status(rt: HostRuntime) {
     for &(chunks, most, told, unread) in &WATCHES {
         expect_over(
+            &rt,
             rt.alloc(),
             &[CHUNKED, chunks],
             &(Method::Watch, most, Ok(told), unread),
-        )?;
+        );
     }
-    Ok(())
 }
 
 #[test]
-fn refuses_bad_chunks(rt: HostRuntime) -> Result<(), Fail> {
+fn refuses_bad_chunks(rt: HostRuntime) {
     for &(chunks, unread) in &BAD {
         let parts = [CHUNKED, chunks];
         expect_over(
+            &rt,
             rt.alloc(),
             &parts,
             &(Method::Check, 1, BAD_RESPONSE, unread),
-        )?;
+        );
         expect_over(
+            &rt,
             rt.alloc(),
             &parts,
             &(Method::Watch, 1_000, BAD_RESPONSE, unread),
-        )?;
+        );
     }
     for &chunks in &CHUNKS_WITHOUT_TRAILERS {
         expect_over(
+            &rt,
             rt.alloc(),
             &[CHUNKED, chunks],
             &(Method::Check, 1, BAD_RESPONSE, 2),
-        )?;
+        );
     }
-    Ok(())
 }

@@ -47,26 +47,26 @@ const READS: [(&[u8], Method, usize); 2] = [
 ];
 
 #[test]
-fn ends_at_each_faulty_read(rt: HostRuntime) -> Result<(), Fail> {
+fn ends_at_each_faulty_read(rt: HostRuntime) {
     for &(input, method, calls) in &READS {
         let whole = ask_faulty(rt.alloc(), input, method, 0, Fault::Nothing);
-        same(&whole, &(None, calls, false), &method)?;
+        same(&rt, &whole, &(None, calls, false), &method);
         for &fault in &FAULTS {
             for faulty in 1..=calls {
                 let found = ask_faulty(rt.alloc(), input, method, faulty, fault);
                 same(
+                    &rt,
                     &found,
                     &(Some(AskFault::Read), faulty, true),
                     &(faulty, fault),
-                )?;
+                );
             }
         }
     }
-    Ok(())
 }
 
 /// Asks with a writer of one byte a call, whose call behind so many bytes is faulty. Nothing may be read.
-fn expect_front(alloc: Global, taken: usize, fault: Fault) -> Result<(), Fail> {
+fn expect_front(rt: &impl Abort, alloc: Global, taken: usize, fault: Fault) {
     let faulty = taken.saturating_add(1);
     let mut writer = FaultyWriter::new(alloc, 1, faulty, fault);
     let mut rest = SERVING;
@@ -74,27 +74,27 @@ fn expect_front(alloc: Global, taken: usize, fault: Fault) -> Result<(), Fail> {
     let found = (result.err(), writer.written(), writer.calls(), rest.len());
     let front = CHECK_OF_EMPTY.get(..taken).unwrap_or(b"");
     let expected = (Some(AskFault::Write), front, faulty, 127);
-    same(&found, &expected, &(taken, fault))
+    same(rt, &found, &expected, &(taken, fault));
 }
 
 #[test]
-fn a_writer_that_fails_has_a_front_of_the_request(rt: HostRuntime) -> Result<(), Fail> {
+fn a_writer_that_fails_has_a_front_of_the_request(rt: HostRuntime) {
     for &fault in &FAULTS {
         for taken in 0..CHECK_OF_EMPTY.len() {
-            expect_front(rt.alloc(), taken, fault)?;
+            expect_front(&rt, rt.alloc(), taken, fault);
         }
     }
     // the flush behind the last byte
     let broken = Fault::Error(ErrorKind::BrokenPipe);
-    expect_front(rt.alloc(), CHECK_OF_EMPTY.len(), broken)
+    expect_front(&rt, rt.alloc(), CHECK_OF_EMPTY.len(), broken);
 }
 
 #[test]
-fn flushes_once_behind_the_request(rt: HostRuntime) -> Result<(), Fail> {
+fn flushes_once_behind_the_request(rt: HostRuntime) {
     let mut writer = FaultyWriter::new(rt.alloc(), 1, 0, Fault::Nothing);
     let mut rest = SERVING;
     let result = ask(rt.alloc(), &mut rest, &mut writer, Method::Check, "", 1);
     let found = (writer.written(), writer.flushes());
     let end = [CHECK_OF_EMPTY.len()];
-    same(&found, &(CHECK_OF_EMPTY, end.as_slice()), &result)
+    same(&rt, &found, &(CHECK_OF_EMPTY, end.as_slice()), &result);
 }

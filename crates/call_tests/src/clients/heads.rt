@@ -29,16 +29,15 @@ const WITH_CHUNKS: [&[u8]; 6] = [
 ];
 
 #[test]
-fn reads_a_body_by_its_length_or_its_chunks(rt: HostRuntime) -> Result<(), Fail> {
+fn reads_a_body_by_its_length_or_its_chunks(rt: HostRuntime) {
     for &head in &WITH_LENGTH {
         let parts = [head, SERVING_BODY, b"more"];
-        expect_over(rt.alloc(), &parts, &(Method::Check, 1, TOLD, 4))?;
+        expect_over(&rt, rt.alloc(), &parts, &(Method::Check, 1, TOLD, 4));
     }
     for &head in &WITH_CHUNKS {
         let parts = [head, b"1b\r\n", SERVING_BODY, b"\r\n0\r\n\r\n"];
-        expect_over(rt.alloc(), &parts, &(Method::Check, 1, TOLD, 7))?;
+        expect_over(&rt, rt.alloc(), &parts, &(Method::Check, 1, TOLD, 7));
     }
-    Ok(())
 }
 
 /// Heads with another status than 200, whatever else they say.
@@ -89,32 +88,35 @@ const BAD: [&[u8]; 23] = [
     b"HTTP/1.1 200 OK\r\ncontent-length: 999999999999999999\r\n\r\n",
 ];
 
-fn expect_refused(alloc: Global, head: &[u8], fault: AskFault) -> Result<(), Fail> {
+fn expect_refused(rt: &impl Abort, alloc: Global, head: &[u8], fault: AskFault) {
     let parts = [head, SERVING_BODY];
-    expect_over(alloc, &parts, &(Method::Watch, 1, Err(fault), 27))
+    expect_over(rt, alloc, &parts, &(Method::Watch, 1, Err(fault), 27));
 }
 
 #[test]
-fn refuses_a_response_by_its_head_alone(rt: HostRuntime) -> Result<(), Fail> {
+fn refuses_a_response_by_its_head_alone(rt: HostRuntime) {
     for &(head, status) in &OTHER_STATUSES {
-        expect_refused(rt.alloc(), head, AskFault::Http(status))?;
+        expect_refused(&rt, rt.alloc(), head, AskFault::Http(status));
     }
     for &head in &BAD {
-        expect_refused(rt.alloc(), head, AskFault::BadResponse)?;
+        expect_refused(&rt, rt.alloc(), head, AskFault::BadResponse);
     }
-    Ok(())
 }
 
 /// A head with so many empty lines before it and so many lines besides the length, and a body.
-fn of_lines(alloc: Global, empty: usize, lines: usize) -> Result<Vec<u8>, AllocError> {
-    let mut input = padded(alloc, b"", empty, b'\n')?;
-    input.extend_from_slice(b"HTTP/1.1 200 OK\r\n")?;
+fn of_lines(rt: &impl Abort, alloc: Global, empty: usize, lines: usize) -> Vec<u8> {
+    let mut input = padded(rt, alloc, b"", empty, b'\n');
+    input
+        .extend_from_slice(b"HTTP/1.1 200 OK\r\n")
+        .expect(rt, "memory");
     for _ in 0..lines {
-        input.extend_from_slice(b"a: b\r\n")?;
+        input.extend_from_slice(b"a: b\r\n").expect(rt, "memory");
     }
-    input.extend_from_slice(b"content-length: 27\r\n\r\n")?;
-    input.extend_from_slice(SERVING_BODY)?;
-    Ok(input)
+    input
+        .extend_from_slice(b"content-length: 27\r\n\r\n")
+        .expect(rt, "memory");
+    input.extend_from_slice(SERVING_BODY).expect(rt, "memory");
+    input
 }
 
 /// How many empty lines and how many lines besides the length, what a head of them tells, and how many bytes are not read.
@@ -126,12 +128,11 @@ const COUNTS: [(usize, usize, Result<Seen<'static>, AskFault>, usize); 4] = [
 ];
 
 #[test]
-fn reads_a_head_of_at_most_32_lines_and_34_line_feeds(rt: HostRuntime) -> Result<(), Fail> {
+fn reads_a_head_of_at_most_32_lines_and_34_line_feeds(rt: HostRuntime) {
     for &(empty, lines, told, unread) in &COUNTS {
-        let input = of_lines(rt.alloc(), empty, lines)?;
-        expect(rt.alloc(), &input, &(Method::Check, 1, told, unread))?;
+        let input = of_lines(&rt, rt.alloc(), empty, lines);
+        expect(&rt, rt.alloc(), &input, &(Method::Check, 1, told, unread));
     }
-    Ok(())
 }
 
 /// The end of a head of 8,192 bytes, what comes behind it, what they tell, and how many bytes are not read.
@@ -142,22 +143,22 @@ const ENDS: [(&[u8], &[u8], Result<Seen<'static>, AskFault>, usize); 3] = [
 ];
 
 fn expect_of_end(
+    rt: &impl Abort,
     alloc: Global,
     end: &[u8],
     behind: &[u8],
     told: Result<Seen<'_>, AskFault>,
     unread: usize,
-) -> Result<(), Fail> {
+) {
     let front = b"HTTP/1.1 200 OK\r\ncontent-length: 27\r\na: ";
-    let head = padded(alloc, front, 8_188, b'b')?;
+    let head = padded(rt, alloc, front, 8_188, b'b');
     let parts = [head.as_slice(), end, behind];
-    expect_over(alloc, &parts, &(Method::Check, 1, told, unread))
+    expect_over(rt, alloc, &parts, &(Method::Check, 1, told, unread));
 }
 
 #[test]
-fn reads_a_head_of_at_most_8192_bytes(rt: HostRuntime) -> Result<(), Fail> {
+fn reads_a_head_of_at_most_8192_bytes(rt: HostRuntime) {
     for &(end, behind, told, unread) in &ENDS {
-        expect_of_end(rt.alloc(), end, behind, told, unread)?;
+        expect_of_end(&rt, rt.alloc(), end, behind, told, unread);
     }
-    Ok(())
 }

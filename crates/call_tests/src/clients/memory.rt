@@ -43,12 +43,12 @@ fn left_of(
 
 /// A message of the status 1, which has an unknown field too and 600 bytes in all, and trailers of 700 bytes with a text of 670: each
 /// takes more memory than what was taken and given back before.
-fn long_response(alloc: Global, text: &[u8]) -> Result<Vec<u8>, Fail> {
-    let message = padded(alloc, b"\0\0\0\x02\x58\x08\x01\x12\xd3\x04", 605, 0)?;
+fn long_response(rt: &impl Abort, alloc: Global, text: &[u8]) -> Vec<u8> {
+    let message = padded(rt, alloc, b"\0\0\0\x02\x58\x08\x01\x12\xd3\x04", 605, 0);
     let front = b"\x80\0\0\x02\xbcgrpc-status:5\r\ngrpc-message:";
-    let body = bytes_of(alloc, &[&message, front, text, b"\r\n"])?;
-    same(&body.len(), &1_310, &"a message and trailers")?;
-    Ok(of_length(alloc, &body)?)
+    let body = bytes_of(rt, alloc, &[&message, front, text, b"\r\n"]);
+    same(rt, &body.len(), &1_310, &"a message and trailers");
+    of_length(rt, alloc, &body)
 }
 
 /// Room for a request, and the ends that were seen, each once.
@@ -59,40 +59,40 @@ struct Trial {
 }
 
 impl Trial {
-    fn new(alloc: Global) -> Result<Trial, AllocError> {
-        Ok(Trial {
-            written: Vec::with_capacity(alloc, 512)?,
-            ends: Vec::with_capacity(alloc, 8)?,
-        })
+    fn new(rt: &impl Abort, alloc: Global) -> Trial {
+        Trial {
+            written: Vec::with_capacity(alloc, 512).expect(rt, "memory"),
+            ends: Vec::with_capacity(alloc, 8).expect(rt, "memory"),
+        }
     }
 
     /// Asks with more and more memory left.
     fn refuse(
         &mut self,
+        rt: &impl Abort,
         alloc: Global,
         input: &[u8],
         expected: &Result<Seen<'_>, AskFault>,
-    ) -> Result<(), Fail> {
-        let scarcity = Scarcity::new(alloc, 49_152)?;
+    ) {
+        let scarcity = Scarcity::new(alloc, 49_152).expect(rt, "scarcity");
         for steps in 0..3_000usize {
-            let filler = scarcity.leave_steps(steps)?;
+            let filler = scarcity.leave_steps(steps).expect(rt, "the room");
             let left = left_of(alloc, input, &mut self.written, expected);
             drop(filler);
             if !self.ends.contains(&left) {
-                self.ends.push(left)?;
+                self.ends.push(left).expect(rt, "room");
             }
         }
-        Ok(())
     }
 }
 
 /// With more and more memory a call ends at the request, the head, the message, the statuses, the trailers, their text, and nowhere.
 #[test]
-fn refuses_each_growth_in_turn(rt: HostRuntime) -> Result<(), Fail> {
-    let text = padded(rt.alloc(), b"", 670, b't')?;
-    let input = long_response(rt.alloc(), &text)?;
-    let mut trial = Trial::new(rt.alloc())?;
-    trial.refuse(rt.alloc(), &input, &Ok((&[1], Some((5, &text)))))?;
+fn refuses_each_growth_in_turn(rt: HostRuntime) {
+    let text = padded(&rt, rt.alloc(), b"", 670, b't');
+    let input = long_response(&rt, rt.alloc(), &text);
+    let mut trial = Trial::new(&rt, rt.alloc());
+    trial.refuse(&rt, rt.alloc(), &input, &Ok((&[1], Some((5, &text)))));
     let expected = [
         Left::Nothing,
         Left::Request(input.len()),
@@ -102,5 +102,10 @@ fn refuses_each_growth_in_turn(rt: HostRuntime) -> Result<(), Fail> {
         Left::Request(0),
         Left::Whole,
     ];
-    same(&trial.ends.as_slice(), &expected.as_slice(), &"a Check")
+    same(
+        &rt,
+        &trial.ends.as_slice(),
+        &expected.as_slice(),
+        &"a Check",
+    );
 }

@@ -57,29 +57,27 @@ const INPUTS: [&[u8]; 4] = [
 ];
 
 fn expect_request(
+    rt: &impl Abort,
     alloc: Global,
     input: &[u8],
     method: Method,
     name: &str,
     expected: &[u8],
-) -> Result<(), Fail> {
-    if name.len() > 1_048_576 {
-        return Err(Fail::new("the name is too long"));
-    }
+) {
+    assert!(rt; name.len() <= 1_048_576, "the name is too long");
     let mut rest = input;
     let mut written = Vec::new(alloc);
     let result = ask(alloc, &mut rest, &mut written, method, name, 1);
-    same(&written.as_slice(), &expected, &(method, result.err()))
+    same(rt, &written.as_slice(), &expected, &(method, result.err()));
 }
 
 #[test]
-fn asks_for_each_name_by_each_method_whatever_is_answered(rt: HostRuntime) -> Result<(), Fail> {
+fn asks_for_each_name_by_each_method_whatever_is_answered(rt: HostRuntime) {
     for (method, name, expected) in &REQUESTS {
         for input in &INPUTS {
-            expect_request(rt.alloc(), *input, *method, *name, *expected)?;
+            expect_request(&rt, rt.alloc(), *input, *method, *name, *expected);
         }
     }
-    Ok(())
 }
 
 const LONG_FRONT: &[u8] = b"POST /grpc.health.v1.Health/Check HTTP/1.1\r\n\
@@ -91,14 +89,21 @@ const LONG_FRONT: &[u8] = b"POST /grpc.health.v1.Health/Check HTTP/1.1\r\n\
     \0\0\x10\0\x04\x0a\x80\x80\x40";
 
 #[test]
-fn asks_for_the_longest_name(rt: HostRuntime) -> Result<(), Fail> {
-    let name = padded(rt.alloc(), b"", 1_048_576, b'a')?;
-    let expected = padded(rt.alloc(), LONG_FRONT, LONG_FRONT.len() + 1_048_576, b'a')?;
+fn asks_for_the_longest_name(rt: HostRuntime) {
+    let name = padded(&rt, rt.alloc(), b"", 1_048_576, b'a');
+    let expected = padded(
+        &rt,
+        rt.alloc(),
+        LONG_FRONT,
+        LONG_FRONT.len() + 1_048_576,
+        b'a',
+    );
     expect_request(
+        &rt,
         rt.alloc(),
         b"",
         Method::Check,
-        str::from_utf8(&name)?,
+        str::from_utf8(&name).expect(&rt, "text"),
         &expected,
-    )
+    );
 }

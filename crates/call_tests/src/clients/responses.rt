@@ -1,6 +1,7 @@
 //! Responses, each as health-checking.md and PROTOCOL-WEB.md of grpc and RFC 9112 have it.
 
-use std::alloc::{AllocError, Global};
+use std::alloc::Global;
+use std::process::Abort;
 use web_call::HEAD_END;
 
 /// A Check of a service that is serving: a head of 100 bytes and a body of 27.
@@ -43,28 +44,29 @@ pub(super) const CHUNKED: &[u8] = b"HTTP/1.1 200 OK\r\ntransfer-encoding: chunke
 
 /// The bytes, and then so many times one byte that there are `size` in all.
 pub(super) fn padded(
+    rt: &impl Abort,
     alloc: Global,
     front: &[u8],
     size: usize,
     byte: u8,
-) -> Result<Vec<u8>, AllocError> {
-    let mut bytes = Vec::from_slice(alloc, front)?;
-    bytes.resize(size, byte)?;
-    Ok(bytes)
+) -> Vec<u8> {
+    let mut bytes = Vec::from_slice(alloc, front).expect(rt, "memory");
+    bytes.resize(size, byte).expect(rt, "memory");
+    bytes
 }
 
 /// The parts, one behind the other.
-pub(super) fn bytes_of(alloc: Global, parts: &[&[u8]]) -> Result<Vec<u8>, AllocError> {
+pub(super) fn bytes_of(rt: &impl Abort, alloc: Global, parts: &[&[u8]]) -> Vec<u8> {
     let mut bytes = Vec::new(alloc);
     for part in parts {
-        bytes.extend_from_slice(*part)?;
+        bytes.extend_from_slice(*part).expect(rt, "memory");
     }
-    Ok(bytes)
+    bytes
 }
 
 /// A response with this body, whose length its head tells.
-pub(super) fn of_length(alloc: Global, body: &[u8]) -> Result<Vec<u8>, AllocError> {
-    let len = body.len().to_string(alloc)?;
+pub(super) fn of_length(rt: &impl Abort, alloc: Global, body: &[u8]) -> Vec<u8> {
+    let len = body.len().to_string(alloc).expect(rt, "memory");
     let line = b"HTTP/1.1 200 OK\r\ncontent-length: ";
-    bytes_of(alloc, &[line, len.as_bytes(), HEAD_END, body])
+    bytes_of(rt, alloc, &[line, len.as_bytes(), HEAD_END, body])
 }

@@ -1,13 +1,14 @@
-ghost use Rattle.std.specs.Prelude.{◌≡◌, ◌≤◌, ◌<◌, ◌⊎◌, [], ◌∷◌, ◌++◌, ℕ, List, true, false, nat_le, ◌||◌, length, vec_len, IfOk, IfErr, IsErrOf};
-ghost use Rattle.client.specs.declared.reply.Stage.TheVariants as stages;
+ghost use Rattle.std.specs.Prelude.{None, ◌≡◌, ◌≤◌, ◌<◌, ◌⊎◌, [], ◌∷◌, ◌++◌, ℕ, List, true, false, nat_le, ◌||◌, length, vec_len, IfOk, IfErr, IsErrOf};
+ghost use Rattle.client.specs.declared.reply.ReplyStage.TheVariants as stages;
 ghost use Rattle.client.specs.GrpcFrames.{missing_in};
+ghost use Rattle.client.specs.Growth.{Grows};
 ghost use Rattle.client.specs.Reply.{IsBad, IsGoingOn, IsOfResponse, IsRefused, IsTold};
 ghost use Rattle.client.specs.ResponseBody.{is_content, owed_by, wanted_by};
-ghost use Rattle.client.specs.Stages.{Holds, StandsAt, method_of, most_of, owed_at, owed_of, wanted_of};
+ghost use Rattle.client.specs.Stages.{Holds, StandsAt, method_of, most_of, owed_at, owed_of, statuses_at, statuses_of, wanted_of};
 ghost use Rattle.web_call.specs.InputHead.{IsHead, IsOpenHead, ends_blank};
 
 use super::hearing::{settled, with_content};
-use super::{Call, Heard, Reading, Reply, Stage};
+use super::{Heard, Reading, Reply, ReplyStage, Wanted};
 use crate::ask_fault::AskFault;
 use crate::grpc_frames::missing_in;
 use crate::http_framing::framing_of;
@@ -18,7 +19,7 @@ use std::alloc::{AllocError, Global};
 use web_call::{HEAD_END, MAX_HEAD_LEN, Method};
 
 /// What is known behind a whole head.
-fn behind_head(call: Call, head: &[u8]) -> Result<Stage, AskFault>
+fn behind_head(call: Wanted, head: &[u8]) -> Result<ReplyStage, AskFault>
     ensures ok { IfOk result (λ stage. (other : List ℕ) → IsHead head.now
         → StandsAt call.method call.most head.now other stage) }
     ensures bad { IsErrOf result AskFault.BadResponse → IsHead head.now
@@ -26,7 +27,8 @@ fn behind_head(call: Call, head: &[u8]) -> Result<Stage, AskFault>
     ensures http { (status : ℕ) → IsErrOf result (AskFault.Http status) → IsHead head.now
         → IsRefused head.now status }
     ensures faults { IfErr result IsOfResponse }
-    ensures fewer { IfOk result (λ stage. (len : ℕ) → owed_at len stage ≤ 71303300) }
+    ensures none { IfOk result (λ stage. statuses_at stage ≡ []) }
+    ensures fewer { IfOk result (λ stage. (len : ℕ) → owed_at len stage ≤ 73014444164) }
 {
     let framing = match framing_of(head) {
         Ok(framing) => framing,
@@ -40,7 +42,7 @@ fn behind_head(call: Call, head: &[u8]) -> Result<Stage, AskFault>
 }
 
 /// What is known with more bytes of the body.
-fn behind_body(call: Call, reading: Reading, piece: &[u8]) -> Result<Stage, AskFault>
+fn behind_body(call: Wanted, reading: Reading, piece: &[u8]) -> Result<ReplyStage, AskFault>
     requires some { 0 < length piece.now }
     requires body { length piece.now ≤ wanted_by reading.body.next }
     requires frame { is_content reading.body.next ≡ true
@@ -55,6 +57,10 @@ fn behind_body(call: Call, reading: Reading, piece: &[u8]) -> Result<Stage, AskF
         → IsBad call.method call.most (bytes ++ piece.now) }
     ensures faults { IfErr result IsOfResponse }
     ensures refused { (status : ℕ) → ¬ IsErrOf result (AskFault.Http status) }
+    ensures grows { IfOk result (λ stage. (bytes : List ℕ)
+        → IsGoingOn call.method call.most bytes reading.body.next reading.body.more
+        reading.heard.statuses.items reading.heard.splitter
+        → Grows (bytes ++ piece.now) reading.heard.statuses.items (statuses_at stage)) }
     ensures fewer { IfOk result (λ stage. (len : ℕ)
         → owed_at len stage < owed_by reading.body.next reading.body.more) }
 {
@@ -80,7 +86,7 @@ fn is_head(bytes: &[u8]) -> bool
 }
 
 /// A response whose head has one more byte.
-fn head_after(call: Call, mut head: Vec<u8>, byte: u8) -> Result<Reply, AskFault>
+fn head_after(call: Wanted, mut head: Vec<u8>, byte: u8) -> Result<Reply, AskFault>
     ensures ok { IfOk result (λ reply. IsOpenHead head.items
         → Holds (head.items ++ byte ∷ []) reply) }
     ensures bad { IsErrOf result AskFault.BadResponse → IsOpenHead head.items
@@ -90,6 +96,7 @@ fn head_after(call: Call, mut head: Vec<u8>, byte: u8) -> Result<Reply, AskFault
     ensures faults { IfErr result IsOfResponse }
     ensures call { IfOk result (λ reply.
         (method_of reply ≡ call.method) × (most_of reply ≡ call.most)) }
+    ensures none { IfOk result (λ reply. statuses_of reply ≡ []) }
     ensures fewer { IfOk result (λ reply. owed_of reply < owed_at (length head.items) stages.Head) }
 {
     head.push(byte)?;
@@ -97,7 +104,7 @@ fn head_after(call: Call, mut head: Vec<u8>, byte: u8) -> Result<Reply, AskFault
         return Ok(Reply {
             call,
             head,
-            stage: Stage::Head,
+            stage: ReplyStage::Head,
         });
     }
     match behind_head(call, &head) {
@@ -111,16 +118,17 @@ impl Reply {
     pub(crate) fn new(alloc: Global, method: Method, most: u32) -> Result<Reply, AllocError>
         requires { 1 ≤ most }
         ensures begun { IfOk result (λ reply. Holds [] reply) }
+        ensures none { IfOk result (λ reply. statuses_of reply ≡ []) }
         ensures call { IfOk result (λ reply. (method_of reply ≡ method) × (most_of reply ≡ most)) }
     {
         Ok(Reply {
-            call: Call {
+            call: Wanted {
                 alloc,
                 method,
                 most,
             },
             head: Vec::with_capacity(alloc, MAX_HEAD_LEN)?,
-            stage: Stage::Head,
+            stage: ReplyStage::Head,
         })
     }
 
@@ -129,8 +137,8 @@ impl Reply {
         ensures { result ≡ wanted_of self.now }
     {
         match &self.stage {
-            Stage::Head => 1,
-            Stage::Body(reading) => {
+            ReplyStage::Head => 1,
+            ReplyStage::Body(reading) => {
                 let wanted = reading.body.wanted();
                 if reading.body.is_content() {
                     wanted.min(missing_in(reading.heard.splitter.rest()))
@@ -138,7 +146,7 @@ impl Reply {
                     wanted
                 }
             }
-            Stage::Told(_) => 0,
+            ReplyStage::Told(_) => 0,
         }
     }
 
@@ -155,24 +163,59 @@ impl Reply {
         ensures faults { IfErr result IsOfResponse }
         ensures call { IfOk result (λ reply.
             (method_of reply ≡ method_of self) × (most_of reply ≡ most_of self)) }
+        ensures grows { IfOk result (λ reply. (bytes : List ℕ) → Holds bytes self
+            → Grows (bytes ++ piece.now) (statuses_of self) (statuses_of reply)) }
         ensures fewer { IfOk result (λ reply. owed_of reply < owed_of self) }
     {
         let Reply { call, head, stage } = self;
         match stage {
-            Stage::Head => head_after(call, head, piece[0]),
-            Stage::Body(reading) => match behind_body(call, reading, piece) {
+            ReplyStage::Head => head_after(call, head, piece[0]),
+            ReplyStage::Body(reading) => match behind_body(call, reading, piece) {
                 Ok(stage) => Ok(Reply { call, head, stage }),
                 Err(fault) => Err(fault),
             },
-            Stage::Told(_) => unreachable!(),
+            ReplyStage::Told(_) => unreachable!(),
+        }
+    }
+
+    /// The statuses that it has told so far.
+    pub(crate) fn statuses(&self) -> &[u64]
+        ensures { result.now ≡ statuses_of self.now }
+    {
+        match &self.stage {
+            ReplyStage::Head => &[],
+            ReplyStage::Body(reading) => &reading.heard.statuses,
+            ReplyStage::Told(told) => &told.statuses,
+        }
+    }
+
+    /// What it has told so far, where it is left.
+    pub(crate) fn leave(self) -> Told
+        ensures statuses { result.statuses.items ≡ statuses_of self }
+        ensures end { result.end ≡ None }
+    {
+        let Reply {
+            call,
+            head: _,
+            stage,
+        } = self;
+        let statuses = match stage {
+            ReplyStage::Head => Vec::new(call.alloc),
+            ReplyStage::Body(reading) => reading.heard.statuses,
+            ReplyStage::Told(told) => told.statuses,
+        };
+        Told {
+            statuses,
+            end: None,
         }
     }
 
     /// What it told.
     pub(crate) fn into_told(self) -> Told
         requires { wanted_of self ≡ 0 }
-        ensures { (bytes : List ℕ) → Holds bytes self
+        ensures told { (bytes : List ℕ) → Holds bytes self
             → IsTold (method_of self) (most_of self) bytes result.statuses.items result.end }
+        ensures statuses { result.statuses.items ≡ statuses_of self }
     {
         let Reply {
             call: _,
@@ -180,9 +223,9 @@ impl Reply {
             stage,
         } = self;
         match stage {
-            Stage::Told(told) => told,
-            Stage::Head => unreachable!(),
-            Stage::Body(_) => unreachable!(),
+            ReplyStage::Told(told) => told,
+            ReplyStage::Head => unreachable!(),
+            ReplyStage::Body(_) => unreachable!(),
         }
     }
 }

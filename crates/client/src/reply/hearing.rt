@@ -3,10 +3,11 @@ ghost use Rattle.grpc_frame.specs.Frame.{frame};
 ghost use Rattle.grpc_frame.specs.Split.{BeginsWithNoFrame, max_content_len};
 ghost use Rattle.client.specs.GrpcFrames.{missing_in};
 ghost use Rattle.client.specs.Reply.{IsBad, IsGoingOn, IsOfResponse, is_enough};
+ghost use Rattle.client.specs.Growth.{Grows};
 ghost use Rattle.client.specs.ResponseBody.{owed_by};
-ghost use Rattle.client.specs.Stages.{IsEnding, StandsAt, owed_at};
+ghost use Rattle.client.specs.Stages.{IsEnding, StandsAt, owed_at, statuses_at};
 
-use super::{Call, Heard, Reading, Stage};
+use super::{Heard, Reading, ReplyStage, Wanted};
 use crate::ask_fault::AskFault;
 use crate::grpc_frames::{MESSAGE, next_frame};
 use crate::response_body::ResponseBody;
@@ -16,7 +17,7 @@ use health_wire::read_response;
 use web_call::Method;
 
 /// Whether so many statuses are all that is asked for.
-fn is_enough(call: Call, count: usize) -> bool
+fn is_enough(call: Wanted, count: usize) -> bool
     ensures { result ≡ is_enough call.method call.most count }
 {
     match call.method {
@@ -26,7 +27,7 @@ fn is_enough(call: Call, count: usize) -> bool
 }
 
 /// Whether the body may end without trailers.
-fn may_be_cut(call: Call) -> bool
+fn may_be_cut(call: Wanted) -> bool
     ensures watch { result ≡ true → call.method ≡ Method.Watch }
     ensures check { result ≡ false → call.method ≡ Method.Check }
 {
@@ -34,7 +35,11 @@ fn may_be_cut(call: Call) -> bool
 }
 
 /// What comes behind all that was heard: more of the body, or its end, which a Watch may have without trailers.
-pub(super) fn settled(call: Call, body: ResponseBody, heard: Heard) -> Result<Stage, AskFault>
+pub(super) fn settled(
+    call: Wanted,
+    body: ResponseBody,
+    heard: Heard,
+) -> Result<ReplyStage, AskFault>
     ensures ok { IfOk result (λ stage. (bytes head : List ℕ)
         → IsGoingOn call.method call.most bytes body.next body.more
         heard.statuses.items heard.splitter
@@ -44,11 +49,12 @@ pub(super) fn settled(call: Call, body: ResponseBody, heard: Heard) -> Result<St
         heard.statuses.items heard.splitter
         → IsBad call.method call.most bytes) }
     ensures fault { IfErr result (λ fault. fault ≡ AskFault.BadResponse) }
+    ensures same { IfOk result (λ stage. statuses_at stage ≡ heard.statuses.items) }
     ensures fewer { IfOk result (λ stage. (len : ℕ)
         → owed_at len stage ≤ owed_by body.next body.more) }
 {
     if body.wanted() > 0 {
-        return Ok(Stage::Body(Reading { body, heard }));
+        return Ok(ReplyStage::Body(Reading { body, heard }));
     }
     if !heard.splitter.rest().is_empty() {
         return Err(AskFault::BadResponse);
@@ -56,7 +62,7 @@ pub(super) fn settled(call: Call, body: ResponseBody, heard: Heard) -> Result<St
     if !may_be_cut(call) {
         return Err(AskFault::BadResponse);
     }
-    Ok(Stage::Told(Told {
+    Ok(ReplyStage::Told(Told {
         statuses: heard.statuses,
         end: None,
     }))
@@ -64,11 +70,11 @@ pub(super) fn settled(call: Call, body: ResponseBody, heard: Heard) -> Result<St
 
 /// What is told with the frame of a message, which is all that came behind the statuses.
 fn with_message(
-    call: Call,
+    call: Wanted,
     body: ResponseBody,
     mut heard: Heard,
     message: &[u8],
-) -> Result<Stage, AskFault>
+) -> Result<ReplyStage, AskFault>
     ensures ok { IfOk result (λ stage. (bytes head : List ℕ) → heard.splitter ≡ []
         → length message.now ≤ max_content_len
         → IsEnding call.method call.most bytes body.next body.more heard.statuses.items
@@ -81,6 +87,10 @@ fn with_message(
         → IsBad call.method call.most bytes }
     ensures faults { IfErr result IsOfResponse }
     ensures refused { (status : ℕ) → ¬ IsErrOf result (AskFault.Http status) }
+    ensures grows { IfOk result (λ stage. (bytes : List ℕ) → length message.now ≤ max_content_len
+        → IsEnding call.method call.most bytes body.next body.more heard.statuses.items
+        (frame 0 message.now)
+        → Grows bytes heard.statuses.items (statuses_at stage)) }
     ensures fewer { IfOk result (λ stage. (len : ℕ)
         → owed_at len stage ≤ owed_by body.next body.more) }
 {
@@ -90,7 +100,7 @@ fn with_message(
     };
     heard.statuses.push(status)?;
     if is_enough(call, heard.statuses.len()) {
-        return Ok(Stage::Told(Told {
+        return Ok(ReplyStage::Told(Told {
             statuses: heard.statuses,
             end: None,
         }));
@@ -100,11 +110,11 @@ fn with_message(
 
 /// What is told with the frame of trailers, behind which nothing may stand: PROTOCOL-WEB.md of grpc has them last in the body.
 fn with_trailers(
-    call: Call,
+    call: Wanted,
     body: &ResponseBody,
     statuses: Vec<u64>,
     block: &[u8],
-) -> Result<Stage, AskFault>
+) -> Result<ReplyStage, AskFault>
     ensures ok { IfOk result (λ stage. (bytes head : List ℕ) → length block.now ≤ max_content_len
         → IsEnding call.method call.most bytes body.now.next body.now.more statuses.items
         (frame 128 block.now)
@@ -116,13 +126,14 @@ fn with_trailers(
         → IsBad call.method call.most bytes }
     ensures faults { IfErr result IsOfResponse }
     ensures refused { (status : ℕ) → ¬ IsErrOf result (AskFault.Http status) }
+    ensures same { IfOk result (λ stage. statuses_at stage ≡ statuses.items) }
     ensures fewer { IfOk result (λ stage. (len : ℕ) → owed_at len stage ≡ 0) }
 {
     if body.has_left() {
         return Err(AskFault::BadResponse);
     }
     match read_trailers(block) {
-        Ok(trailers) => Ok(Stage::Told(Told {
+        Ok(trailers) => Ok(ReplyStage::Told(Told {
             statuses,
             end: Some(Ended {
                 code: trailers.code,
@@ -135,11 +146,11 @@ fn with_trailers(
 
 /// What is told with a frame, which is all that came behind the statuses.
 fn with_frame(
-    call: Call,
+    call: Wanted,
     body: ResponseBody,
     heard: Heard,
     taken: &Frame,
-) -> Result<Stage, AskFault>
+) -> Result<ReplyStage, AskFault>
     requires { taken.now.flag ≢ 0 → taken.now.flag ≡ 128 }
     ensures ok { IfOk result (λ stage. (bytes head : List ℕ) → heard.splitter ≡ []
         → length taken.now.body.items ≤ max_content_len
@@ -153,6 +164,11 @@ fn with_frame(
         → IsBad call.method call.most bytes }
     ensures faults { IfErr result IsOfResponse }
     ensures refused { (status : ℕ) → ¬ IsErrOf result (AskFault.Http status) }
+    ensures grows { IfOk result (λ stage. (bytes : List ℕ)
+        → length taken.now.body.items ≤ max_content_len
+        → IsEnding call.method call.most bytes body.next body.more heard.statuses.items
+        (frame taken.now.flag taken.now.body.items)
+        → Grows bytes heard.statuses.items (statuses_at stage)) }
     ensures fewer { IfOk result (λ stage. (len : ℕ)
         → owed_at len stage ≤ owed_by body.next body.more) }
 {
@@ -165,11 +181,11 @@ fn with_frame(
 
 /// What is told with more content.
 pub(super) fn with_content(
-    call: Call,
+    call: Wanted,
     body: ResponseBody,
     mut heard: Heard,
     piece: &[u8],
-) -> Result<Stage, AskFault>
+) -> Result<ReplyStage, AskFault>
     requires { length piece.now ≤ missing_in heard.splitter }
     ensures ok { IfOk result (λ stage. (bytes head : List ℕ) → BeginsWithNoFrame heard.splitter
         → IsEnding call.method call.most bytes body.next body.more
@@ -182,6 +198,10 @@ pub(super) fn with_content(
         → IsBad call.method call.most bytes }
     ensures faults { IfErr result IsOfResponse }
     ensures refused { (status : ℕ) → ¬ IsErrOf result (AskFault.Http status) }
+    ensures grows { IfOk result (λ stage. (bytes : List ℕ) → BeginsWithNoFrame heard.splitter
+        → IsEnding call.method call.most bytes body.next body.more
+        heard.statuses.items (heard.splitter ++ piece.now)
+        → Grows bytes heard.statuses.items (statuses_at stage)) }
     ensures fewer { IfOk result (λ stage. (len : ℕ)
         → owed_at len stage ≤ owed_by body.next body.more) }
 {

@@ -1,6 +1,5 @@
+use crate::same::same;
 use readout::entry_json;
-use std::test::Fail;
-use test_support::same;
 
 static ENTRIES: [(&str, &str); 9] = [
     (
@@ -43,12 +42,12 @@ static ENTRIES: [(&str, &str); 9] = [
 ];
 
 #[test]
-fn writes_an_entry_as_json(rt: HostRuntime) -> Result<(), Fail> {
+fn writes_an_entry_as_json(rt: HostRuntime) {
     for &(answer, expected) in &ENTRIES {
-        let text = entry_json(rt.alloc(), answer)?.ok_or("no entry")?;
-        same(&text.as_str(), &expected, &answer)?;
+        let text = entry_json(rt.alloc(), answer).expect(&rt, "memory");
+        let text = text.expect(&rt, "an entry");
+        same(&rt, &text.as_str(), &expected, &answer);
     }
-    Ok(())
 }
 
 static REFUSED: [&str; 14] = [
@@ -69,10 +68,9 @@ static REFUSED: [&str; 14] = [
 ];
 
 #[test]
-fn refuses_an_answer_without_an_entry(rt: HostRuntime) -> Result<(), Fail> {
+fn refuses_an_answer_without_an_entry(rt: HostRuntime) {
     for answer in &REFUSED {
-        let is_refused = entry_json(rt.alloc(), answer)?.is_none();
-        same(&is_refused, &true, answer)?;
+        let text = entry_json(rt.alloc(), answer).expect(&rt, "memory");
+        assert!(rt; text.is_none(), "{answer}");
     }
-    Ok(())
 }

@@ -1,8 +1,9 @@
 use super::{Told, rows_of};
+use crate::same::same;
 use readout::{Row, entry_json, names_in, read_standing, rows_json, table};
 use std::alloc::{AllocError, Global};
-use std::test::Fail;
-use test_support::{Scarcity, same};
+use std::process::Abort;
+use test_support::Scarcity;
 
 /// More steps of memory than any of the texts needs.
 const STEPS: usize = 1_000;
@@ -64,35 +65,35 @@ fn made(alloc: Global, rows: &[Row], text: Text) -> Result<usize, AllocError> {
 
 /// What is made with so many steps of memory.
 fn made_within(
+    rt: &impl Abort,
     alloc: Global,
     scarcity: &Scarcity,
     steps: usize,
     rows: &[Row],
     text: Text,
-) -> Result<Option<usize>, AllocError> {
-    let _filler = scarcity.leave_steps(steps)?;
-    Ok(made(alloc, rows, text).ok())
+) -> Option<usize> {
+    let _filler = scarcity.leave_steps(steps).expect(rt, "a filler");
+    made(alloc, rows, text).ok()
 }
 
 /// With how many steps of memory it was refused, and how long it was when it was made.
-fn refusals(alloc: Global, rows: &[Row], text: Text) -> Result<(usize, usize), AllocError> {
-    let scarcity = Scarcity::with_small_room(alloc)?;
+fn refusals(rt: &impl Abort, alloc: Global, rows: &[Row], text: Text) -> (usize, usize) {
+    let scarcity = Scarcity::with_small_room(alloc).expect(rt, "a room");
     for steps in 0..STEPS {
-        if let Some(len) = made_within(alloc, &scarcity, steps, rows, text)? {
-            return Ok((steps, len));
+        if let Some(len) = made_within(rt, alloc, &scarcity, steps, rows, text) {
+            return (steps, len);
         }
     }
-    Ok((STEPS, 0))
+    (STEPS, 0)
 }
 
 #[test]
-fn refuses_each_growth(rt: HostRuntime) -> Result<(), Fail> {
-    let rows = rows_of(rt.alloc(), &TOLD)?;
+fn refuses_each_growth(rt: HostRuntime) {
+    let rows = rows_of(&rt, rt.alloc(), &TOLD);
     for (at, text) in TEXTS.iter().enumerate() {
-        let expected = made(rt.alloc(), &rows, *text)?;
-        let (refused, len) = refusals(rt.alloc(), &rows, *text)?;
-        same(&len, &expected, &at)?;
-        same(&(2 < refused && refused < STEPS), &true, &(at, refused))?;
+        let expected = made(rt.alloc(), &rows, *text).expect(&rt, "memory");
+        let (refused, len) = refusals(&rt, rt.alloc(), &rows, *text);
+        same(&rt, &len, &expected, &at);
+        assert!(rt; 2 < refused && refused < STEPS, "text {at}: {refused}");
     }
-    Ok(())
 }

@@ -1,6 +1,5 @@
+use crate::same::same;
 use readout::names_in;
-use std::test::Fail;
-use test_support::same;
 
 static LISTS: [(&str, &[&str]); 8] = [
     (
@@ -21,14 +20,13 @@ static LISTS: [(&str, &[&str]); 8] = [
 ];
 
 #[test]
-fn lists_names(rt: HostRuntime) -> Result<(), Fail> {
+fn lists_names(rt: HostRuntime) {
     for &(answer, expected) in &LISTS {
-        let names = names_in(rt.alloc(), answer)?;
+        let names = names_in(rt.alloc(), answer).expect(&rt, "memory");
         let mut found = Vec::new(rt.alloc());
         for name in &names {
-            found.push(name.as_str())?;
+            found.push(name.as_str()).expect(&rt, "memory");
         }
-        same(&found.as_slice(), &expected, &answer)?;
+        same(&rt, &found.as_slice(), &expected, &answer);
     }
-    Ok(())
 }

@@ -1,6 +1,6 @@
+use crate::same::same;
 use readout::{Moment, Row, Status, read_standing};
-use std::test::Fail;
-use test_support::same;
+use std::process::Abort;
 
 /// An entry's place, and its time if that is known.
 type At = (u32, Option<&'static str>);
@@ -29,13 +29,22 @@ fn at(moment: &Option<Moment>) -> Option<(u32, Option<&str>)> {
     }
 }
 
-fn expect(row: &Row, expected: &Expected, answer: &str) -> Result<(), Fail> {
-    same(&row.name.as_str(), &expected.name, &answer)?;
-    same(&row.status.word(), &expected.status.word(), &answer)?;
-    same(&at(&row.since), &expected.since, &answer)?;
-    same(&at(&row.reported), &expected.reported, &answer)?;
-    same(&row.expected, &expected.expected, &answer)?;
-    same(&text_of(&row.why), &expected.why, &answer)
+fn expect_text(rt: &impl Abort, text: Option<&str>, expected: Option<&str>, answer: &str) {
+    same(rt, &text, &expected, &answer);
+}
+
+fn expect_moment(rt: &impl Abort, moment: &Option<Moment>, expected: Option<At>, answer: &str) {
+    same(rt, &at(moment), &expected, &answer);
+}
+
+fn expect(rt: &impl Abort, row: &Row, expected: &Expected, answer: &str) {
+    let (name, word) = (row.name.as_str(), row.status.word());
+    expect_text(rt, Some(name), Some(expected.name), answer);
+    expect_text(rt, Some(word), Some(expected.status.word()), answer);
+    expect_text(rt, text_of(&row.why), expected.why, answer);
+    expect_moment(rt, &row.since, expected.since, answer);
+    expect_moment(rt, &row.reported, expected.reported, answer);
+    same(rt, &row.expected, &expected.expected, &answer);
 }
 
 const AT_9: At = (4711, Some("2026-11-26T01:45:09.123456Z"));
@@ -135,17 +144,16 @@ static STANDINGS: [(&str, Expected); 8] = [
 ];
 
 #[test]
-fn reads_how_a_service_stands(rt: HostRuntime) -> Result<(), Fail> {
+fn reads_how_a_service_stands(rt: HostRuntime) {
     for (answer, expected) in &STANDINGS {
         let name = if expected.name.is_empty() {
             "-"
         } else {
             expected.name
         };
-        let row = read_standing(rt.alloc(), name, answer)?.ok_or("no row")?;
-        expect(&row, expected, answer)?;
+        let row = read_standing(rt.alloc(), name, answer).expect(&rt, "memory");
+        expect(&rt, &row.expect(&rt, "a row"), expected, answer);
     }
-    Ok(())
 }
 
 static REFUSED: [&str; 18] = [
@@ -170,10 +178,9 @@ static REFUSED: [&str; 18] = [
 ];
 
 #[test]
-fn refuses_an_answer_of_another_form(rt: HostRuntime) -> Result<(), Fail> {
+fn refuses_an_answer_of_another_form(rt: HostRuntime) {
     for answer in &REFUSED {
-        let is_refused = read_standing(rt.alloc(), "api", answer)?.is_none();
-        same(&is_refused, &true, answer)?;
+        let row = read_standing(rt.alloc(), "api", answer).expect(&rt, "memory");
+        assert!(rt; row.is_none(), "{answer}");
     }
-    Ok(())
 }

@@ -1,7 +1,6 @@
 use super::{Told, rows_of};
+use crate::same::same;
 use readout::{rows_json, table};
-use std::test::Fail;
-use test_support::same;
 
 const DB: Told = (
     "db",
@@ -72,13 +71,12 @@ static TABLES: [(&[Told], bool, &str); 5] = [
 ];
 
 #[test]
-fn aligns_the_columns_of_a_table(rt: HostRuntime) -> Result<(), Fail> {
+fn aligns_the_columns_of_a_table(rt: HostRuntime) {
     for &(told, is_coloured, expected) in &TABLES {
-        let rows = rows_of(rt.alloc(), told)?;
-        let text = table(rt.alloc(), &rows, is_coloured)?;
-        same(&text.as_str(), &expected, &told.len())?;
+        let rows = rows_of(&rt, rt.alloc(), told);
+        let text = table(rt.alloc(), &rows, is_coloured).expect(&rt, "memory");
+        same(&rt, &text.as_str(), &expected, &"found");
     }
-    Ok(())
 }
 
 static TEXTS: [(&[Told], &str); 3] = [
@@ -112,11 +110,10 @@ static TEXTS: [(&[Told], &str); 3] = [
 ];
 
 #[test]
-fn writes_rows_as_json(rt: HostRuntime) -> Result<(), Fail> {
+fn writes_rows_as_json(rt: HostRuntime) {
     for &(told, expected) in &TEXTS {
-        let rows = rows_of(rt.alloc(), told)?;
-        let text = rows_json(rt.alloc(), &rows)?;
-        same(&text.as_str(), &expected, &told.len())?;
+        let rows = rows_of(&rt, rt.alloc(), told);
+        let text = rows_json(rt.alloc(), &rows).expect(&rt, "memory");
+        same(&rt, &text.as_str(), &expected, &"found");
     }
-    Ok(())
 }

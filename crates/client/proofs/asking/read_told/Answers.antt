@@ -26,8 +26,8 @@ loop-piece-preserved g c =
       received = (
         before.received.0 ++ read.0,
         Consumes-trans _ _ _ before.received.0 read.0 before.received.1 read.1,
-        gives.0,
-        inr (asked_for (λ (method : Method) (most : ℕ). WasOpen method most (before.received.0 ++ read.0)) (method_of reply) c.args.method (most_of reply) c.args.most before.method before.most gives.1),
+        gives.holds,
+        inr (asked_for (λ (method : Method) (most : ℕ). WasOpen method most (before.received.0 ++ read.0)) (method_of reply) c.args.method (most_of reply) c.args.most before.method before.most gives.was_open),
       );
       method = c.in-Ok.ensures.call.0 ∙ before.method;
       most = c.in-Ok.ensures.call.1 ∙ before.most;
@@ -57,7 +57,7 @@ returns-clause-response g c =
     let before = c.loop-piece.invariant in
     let told = c.into_told.result in
     let says = asked_for (λ (method : Method) (most : ℕ). IsTold method most before.received.0 told.statuses.items told.end) _ c.args.method _ c.args.most before.method before.most
-    (c.into_told.ensures before.received.0 before.received.2) in (
+    (c.into_told.ensures.told before.received.0 before.received.2) in (
       before.received.0,
       before.received.1,
       (says, told_earliest c.args.method c.args.most before.received.0 told.statuses.items told.end before.received.3 says),

@@ -1,0 +1,4 @@
+mod answers;
+mod memory;
+mod refusals;
+mod staged;
