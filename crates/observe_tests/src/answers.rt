@@ -73,7 +73,7 @@ fn tells_what_whole_answers_are(rt: HostRuntime) {
         &rt,
         &found,
         &Answer::Told(Verdict::Fail(Why::Status(503))),
-        &"found",
+        &"another status",
     );
     let found = answer_of(rt.alloc(), Kind::GrpcWeb, b"SSH-2.0-OpenSSH\r\n\r\n");
     same(
@@ -110,5 +110,5 @@ fn reads_no_more_than_the_limit(rt: HostRuntime) {
     bytes.push(b'a').expect(&rt, "memory");
     let late = Answer::Told(Verdict::Fail(Why::TooLong));
     let found = answer_of(rt.alloc(), Kind::Http, &bytes);
-    same(&rt, &found, &late, &"found");
+    same(&rt, &found, &late, &"too long");
 }

@@ -63,13 +63,13 @@ fn goes_on_once_the_place_is_back(rt: HostRuntime) {
         &rt,
         &before.as_slice(),
         &b"pass a;pass a;pass a;".as_slice(),
-        &"found",
+        &"before",
     );
     same(
         &rt,
         &after.as_slice(),
         &b"pass a;pass a;pass a;pass a;".as_slice(),
-        &"found",
+        &"after",
     );
     let telling = telling.expect(&rt, "what was told");
     same(&rt, &telling.told, &5, &"told");

@@ -15,78 +15,65 @@ fn play(rt: &impl Abort, alloc: Global, kind: Kind, rows: &[Row<'_>]) {
     assert!(rt; look.stage().is_over(), "{kind:?}");
 }
 
-#[test]
-fn reports_each_look_once(rt: HostRuntime) {
-    const LATE: Option<Verdict> = Some(Verdict::Fail(Why::Late));
-    let alloc = rt.alloc();
-    play(
-        &rt,
-        alloc,
+const REFUSED: Option<Verdict> = Some(Verdict::Fail(Why::Refused));
+
+const NO_ADDRESS: Option<Verdict> = Some(Verdict::Fail(Why::NoAddress));
+
+const LATE: Option<Verdict> = Some(Verdict::Fail(Why::Late));
+
+const CLOSED: Option<Verdict> = Some(Verdict::Fail(Why::Closed));
+
+const PASS: Option<Verdict> = Some(Verdict::Pass);
+
+/// Looks of each kind, by the rows that they are told.
+const LOOKS: [(Kind, &[Row<'static>]); 7] = [
+    (
         Kind::Tcp,
         &[
             (1000, Event::Connected, None),
             (1000, Event::Resolved(2), None),
             (1001, Event::Refused, None),
-            (1002, Event::Connected, Some(Verdict::Pass)),
+            (1002, Event::Connected, PASS),
             (1003, Event::Connected, None),
             (3000, Event::Waited, None),
         ],
-    );
-    play(
-        &rt,
-        alloc,
+    ),
+    (
         Kind::Tcp,
         &[
             (1000, Event::Resolved(1), None),
-            (1001, Event::Refused, Some(Verdict::Fail(Why::Refused))),
+            (1001, Event::Refused, REFUSED),
             (1002, Event::Connected, None),
         ],
-    );
-    play(
-        &rt,
-        alloc,
-        Kind::Tcp,
-        &[(
-            1000,
-            Event::Resolved(0),
-            Some(Verdict::Fail(Why::NoAddress)),
-        )],
-    );
-    play(
-        &rt,
-        alloc,
+    ),
+    (Kind::Tcp, &[(1000, Event::Resolved(0), NO_ADDRESS)]),
+    (
         Kind::Tcp,
         &[
             (1000, Event::Resolved(1), None),
             (3000, Event::Connected, LATE),
         ],
-    );
-    play(
-        &rt,
-        alloc,
+    ),
+    (
         Kind::Http,
         &[
             (1000, Event::Resolved(1), None),
             (1001, Event::Connected, None),
             (1002, Event::Came(b"HTTP/1.1 20"), None),
-            (1003, Event::Closed, Some(Verdict::Fail(Why::Closed))),
+            (1003, Event::Closed, CLOSED),
             (1003, Event::Came(b"0 OK\r\n"), None),
         ],
-    );
-    play(
-        &rt,
-        alloc,
+    ),
+    (
         Kind::Http,
         &[
             (1000, Event::Resolved(1), None),
             (1001, Event::Connected, None),
             (2998, Event::Came(b"HTTP/1.1 20"), None),
-            (2999, Event::Came(b"0 OK\r\n"), Some(Verdict::Pass)),
+            (2999, Event::Came(b"0 OK\r\n"), PASS),
         ],
-    );
-    play(
-        &rt,
-        alloc,
+    ),
+    (
         Kind::Http,
         &[
             (1000, Event::Resolved(1), None),
@@ -95,7 +82,14 @@ fn reports_each_look_once(rt: HostRuntime) {
             (3000, Event::Came(b"0 OK\r\n"), LATE),
             (3001, Event::Came(b"HTTP/1.1 200 OK\r\n"), None),
         ],
-    );
+    ),
+];
+
+#[test]
+fn reports_each_look_once(rt: HostRuntime) {
+    for (kind, rows) in LOOKS {
+        play(&rt, rt.alloc(), kind, rows);
+    }
 }
 
 #[test]
