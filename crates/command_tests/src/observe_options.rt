@@ -120,6 +120,6 @@ fn reads_its_options(rt: HostRuntime) {
         &rt,
         &ObserveOptions::read(&matches),
         &Ok(expected),
-        &"found",
+        &"the options",
     );
 }

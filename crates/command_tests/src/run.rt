@@ -77,7 +77,7 @@ fn tells_where_it_listens(rt: HostRuntime) {
     for (addr, expected) in &LISTENING {
         let addr = addr.parse().expect(&rt, "an address");
         let line = listening_line(rt.alloc(), addr).expect(&rt, "memory");
-        same(&rt, &line.as_str(), expected, &"found");
+        same(&rt, &line.as_str(), expected, &"the line");
     }
 }
 

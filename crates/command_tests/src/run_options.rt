@@ -221,7 +221,7 @@ fn reads_where_plain_requests_are_answered(rt: HostRuntime) {
     let matches = matches_of(&rt, rt.alloc(), words.as_slice());
     let expected = SocketAddr::from(([0u16, 0, 0, 0, 0, 0, 0, 1], 8082));
     let read = RunOptions::read(&matches).expect(&rt, "options");
-    same(&rt, &read.plain, &Some(expected), &"found");
+    same(&rt, &read.plain, &Some(expected), &"the plain place");
 }
 
 /// The words behind `run`, and the first line of the text by which they are refused.

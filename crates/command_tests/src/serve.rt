@@ -22,8 +22,8 @@ fn reads_its_arguments(rt: HostRuntime) {
         workers: 64,
         calls: 1_000,
     };
-    same(&rt, &port_in(&matches), &65_535, &"found");
-    same(&rt, &capacity_in(&matches), &capacity, &"found");
+    same(&rt, &port_in(&matches), &65_535, &"the port");
+    same(&rt, &capacity_in(&matches), &capacity, &"the capacity");
 }
 
 /// `b` is down, and is set up by an order.
@@ -45,5 +45,5 @@ const CAPACITY: Capacity = Capacity {
 fn makes_the_orders_of_its_script_where_there_is_no_call(rt: HostRuntime) {
     let output = serve_script(&rt, rt.alloc(), &Manuals, SCRIPT, 0, CAPACITY);
     let output = output.expect(&rt, "an output");
-    same(&rt, &output.as_str(), &"journal 4\n", &"found");
+    same(&rt, &output.as_str(), &"journal 4\n", &"the output");
 }

@@ -19,5 +19,5 @@ pub(crate) fn padded(
 /// The text of what is told.
 pub(crate) fn expect_text<T: Display>(rt: &impl Abort, alloc: Global, told: &T, expected: &str) {
     let text = format!(in alloc; "{told}").expect(rt, "memory");
-    same(rt, &text.as_str(), &expected, &"found");
+    same(rt, &text.as_str(), &expected, &"a text");
 }

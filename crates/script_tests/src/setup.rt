@@ -88,7 +88,12 @@ fn makes_the_change_of_each_line(rt: HostRuntime) {
     let alloc = rt.alloc();
     let (mut registry, lines) = registry_of(&rt, alloc, TEXT);
     let results = set_up(alloc, &mut registry, &lines, &Manuals).expect(&rt, "memory");
-    same(&rt, &results.as_slice(), &RESULTS.as_slice(), &"found");
+    same(
+        &rt,
+        &results.as_slice(),
+        &RESULTS.as_slice(),
+        &"the results",
+    );
 }
 
 /// Lines that register one service, by hand.
@@ -100,7 +105,7 @@ fn replies(rt: &impl Abort, results: &[Result<Reply, Refusal>]) -> u64 {
     for result in results {
         match result {
             Ok(_) => replies = replies.wrapping_add(1),
-            Err(refusal) => same(rt, refusal, &Refusal::NoMemory, &"found"),
+            Err(refusal) => same(rt, refusal, &Refusal::NoMemory, &"a refusal"),
         }
     }
     replies

@@ -75,7 +75,7 @@ fn aligns_the_columns_of_a_table(rt: HostRuntime) {
     for &(told, is_coloured, expected) in &TABLES {
         let rows = rows_of(&rt, rt.alloc(), told);
         let text = table(rt.alloc(), &rows, is_coloured).expect(&rt, "memory");
-        same(&rt, &text.as_str(), &expected, &"found");
+        same(&rt, &text.as_str(), &expected, &"a table");
     }
 }
 
@@ -114,6 +114,6 @@ fn writes_rows_as_json(rt: HostRuntime) {
     for &(told, expected) in &TEXTS {
         let rows = rows_of(&rt, rt.alloc(), told);
         let text = rows_json(rt.alloc(), &rows).expect(&rt, "memory");
-        same(&rt, &text.as_str(), &expected, &"found");
+        same(&rt, &text.as_str(), &expected, &"as JSON");
     }
 }
