@@ -8,6 +8,8 @@ mod bells;
 #[cfg(test)]
 mod clients;
 #[cfg(test)]
+mod controls;
+#[cfg(test)]
 mod doors;
 #[cfg(test)]
 mod exchanges;
@@ -19,6 +21,8 @@ mod heads;
 mod inquiries;
 #[cfg(test)]
 mod memory;
+#[cfg(test)]
+mod observers;
 #[cfg(test)]
 mod pieces;
 #[cfg(test)]

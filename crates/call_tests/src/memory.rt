@@ -1,7 +1,7 @@
 use crate::answers::{SERVING, UNKNOWN_METHOD, WATCH_OF_UNKNOWN};
 use crate::doors::{Flipping, catalogue};
 use crate::runs::{Run, exchange_over};
-use crate::same::same;
+use crate::same::{holds, same};
 use std::alloc::Global;
 use std::process::Abort;
 use test_support::Scarcity;
@@ -70,7 +70,7 @@ fn gather(
     }
     drop(scarcity);
     same(rt, &wrong, &None, &"each end");
-    assert!(rt; is_whole, "the most memory");
+    holds(rt, is_whole, "the most memory");
 }
 
 /// Requests and their responses. Memory is wanted for the head, before anything is read, for the body, of which nothing is read then, and

@@ -1,6 +1,6 @@
 -- Who asked for the entry of a record.
 use Rattle.std.specs.Prelude.{Option, Some, None, if◌then◌else◌, nat_eq}
-use Rattle.chronicle.specs.declared.record.Record.{Record}
+use Rattle.record_ring.specs.declared.record.Record.{Record}
 use Rattle.chronicle.specs.declared.who.Who.{Who}
 use Rattle.chronicle.specs.declared.who.Who.TheVariants.{Setup, Session, Expiry}
 

@@ -1,33 +1,20 @@
-ghost use Rattle.std.specs.Prelude.{◌≡◌, ◌+◌, ◌<◌, Some, IfSome, IfNone};
-ghost use Rattle.chronicle.specs.Who.{who_of};
+ghost use Rattle.std.specs.Prelude.{◌≡◌, ◌+◌, ◌<◌, IfSome, IfNone};
 
 use crate::newest::{Newest, NewestRecords};
-use crate::record::Record;
+use crate::refusals::Refusals;
 use crate::refused::Refused;
-use crate::ring::Ring;
+use crate::session_numbers::SessionNumbers;
 use crate::sitting::Sitting;
 use crate::time::{TimeText, time_text};
-use crate::who::Who;
+use crate::who::{Who, record_of, who_in};
+use record_ring::Ring;
 use std::alloc::{AllocError, Global};
-use std::sync::atomic::{AtomicU32, AtomicU64, Ordering};
 
 /// Of how many entries it is kept when they were made.
 const KEPT_ENTRIES: u32 = 65_536;
 
-/// How many refusals are kept.
-const KEPT_REFUSALS: u32 = 1_024;
-
 /// How many seats there can be.
 const SEATS: u16 = 1_024;
-
-const SETUP: u32 = 0;
-
-const SESSION: u32 = 1;
-
-const EXPIRY: u32 = 2;
-
-/// A refusal's sort has who asked below this, and why it was refused above it.
-const SORTS: u32 = 256;
 
 /// What is known of an entry.
 #[derive(Clone, Copy, Debug, PartialEq, Eq)]
@@ -45,42 +32,10 @@ pub struct Note {
 pub struct Chronicle {
     entries: Ring,
     newest: NewestRecords,
-    refusals: Ring,
-    /// How many refusals there have been.
-    refused: AtomicU64,
-    /// The number of the newest session.
-    sessions: AtomicU32,
+    refusals: Refusals,
+    sessions: SessionNumbers,
     /// Who sits at each seat.
     sitting: Vec<Sitting>,
-}
-
-/// The record of an entry.
-fn record_of(micros: u64, who: Who) -> Record
-    ensures who { who_of result ≡ Some who }
-    ensures micros { result.micros ≡ micros }
-{
-    let (sort, session) = match who {
-        Who::Setup => (SETUP, 0),
-        Who::Session(session) => (SESSION, session),
-        Who::Expiry => (EXPIRY, 0),
-    };
-    Record {
-        micros,
-        session,
-        sort,
-    }
-}
-
-/// Who asked for the entry of a record, if it is one.
-fn who_in(kept: Record) -> Option<Who>
-    ensures { result ≡ who_of kept }
-{
-    match kept.sort {
-        SETUP => Some(Who::Setup),
-        SESSION => Some(Who::Session(kept.session)),
-        EXPIRY => Some(Who::Expiry),
-        _ => None,
-    }
 }
 
 /// Nobody at each seat.
@@ -98,9 +53,8 @@ impl Chronicle {
         Ok(Chronicle {
             entries: Ring::new(alloc, KEPT_ENTRIES)?,
             newest: NewestRecords::new(alloc)?,
-            refusals: Ring::new(alloc, KEPT_REFUSALS)?,
-            refused: AtomicU64::new(0),
-            sessions: AtomicU32::new(0),
+            refusals: Refusals::new(alloc)?,
+            sessions: SessionNumbers::after(0),
             sitting: sittings(alloc)?,
         })
     }
@@ -142,15 +96,7 @@ impl Chronicle {
     pub fn next_session(&self) -> u32
         ensures { 0 < result }
     {
-        let before = self.sessions.fetch_update(
-            Ordering::SeqCst,
-            Ordering::SeqCst,
-            |number| number.checked_add(1),
-        );
-        match before {
-            Ok(number) => number.saturating_add(1),
-            Err(_) => u32::MAX,
-        }
+        self.sessions.take()
     }
 
     /// Takes down who makes the entries of this seat from now on, and at this time. Only the thread that uses the seat does.
@@ -169,13 +115,8 @@ impl Chronicle {
     /// Takes down that a change was refused, at this time, to whoever asked for it, and for this reason, which the caller numbers.
     /// It never waits: there is room for 1,024 refusals, and the oldest is written over.
     pub fn refuse(&self, micros: u64, who: Who, reason: u8) {
-        let place = self.refused.fetch_add(1, Ordering::SeqCst);
-        let asked = record_of(micros, who);
-        let record = Record {
-            sort: asked.sort % SORTS + u32::from(reason) * SORTS,
-            ..asked
-        };
-        self.refusals.put(place, record);
+        let place = self.refusals.take_place();
+        self.refusals.put(place, micros, who, reason);
     }
 
     /// The next refusal at or after this cursor, which starts at 0 and moves past it. Where one is being taken down, those
@@ -184,23 +125,6 @@ impl Chronicle {
         ensures some { IfSome result (λ told. cursor.new ≡ cursor.old + told.lost + 1) }
         ensures none { IfNone result (cursor.new ≡ cursor.old) }
     {
-        let end = self.refused.load(Ordering::SeqCst);
-        let start = end.saturating_sub(u64::from(KEPT_REFUSALS)).max(*cursor);
-        let (place, kept) = self.refusals.first_kept(start, end)?;
-        let lost = place - *cursor;
-        *cursor = place + 1;
-        let asked = Record {
-            sort: kept.sort % SORTS,
-            ..kept
-        };
-        Some(Refused {
-            lost,
-            micros: kept.micros,
-            who: who_in(asked).unwrap_or(Who::Setup),
-            reason: (kept.sort / SORTS % SORTS) as u8,
-        })
+        self.refusals.refused(cursor)
     }
 }
-
-#[cfg(test)]
-mod tests;

@@ -18,21 +18,18 @@
 #![tactic(auto)]
 
 mod chronicle;
-mod halves;
-mod laws;
 mod newest;
-mod record;
+mod refusals;
 mod refused;
-mod ring;
+mod session_numbers;
 mod sitting;
-mod slot;
 mod time;
 mod who;
-mod word;
 
 pub use crate::chronicle::{Chronicle, Note};
-pub use crate::laws::spots_tell_places_apart;
 pub use crate::newest::Newest;
+pub use crate::refusals::Refusals;
 pub use crate::refused::Refused;
+pub use crate::session_numbers::SessionNumbers;
 pub use crate::time::{TimeText, time_text, wall_micros};
 pub use crate::who::Who;

@@ -1,5 +1,4 @@
-use crate::record::Record;
-use crate::slot::Slot;
+use record_ring::{Record, Slot};
 use std::alloc::{AllocError, Global};
 
 /// How many services there can be.

@@ -1,5 +1,4 @@
-use crate::halves::{halves, joined};
-use crate::record::Record;
+use record_ring::{Record, halves, joined};
 use std::sync::atomic::{AtomicU64, Ordering};
 
 /// The sort of a record of nobody.

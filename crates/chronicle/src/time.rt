@@ -120,6 +120,3 @@ fn text_of(at: DateTime) -> TimeText
         f0, f1, f2, f3, f4, f5, b'Z',
     ])
 }
-
-#[cfg(test)]
-mod tests;

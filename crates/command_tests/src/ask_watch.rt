@@ -1,5 +1,5 @@
 use crate::command_line::command_line;
-use crate::same::same;
+use crate::same::{holds, same};
 use client::{Ended, Listener, Told};
 use commands::ask::{call_in, print_end};
 use commands::fault::Fault as Failure;
@@ -55,9 +55,9 @@ fn prints_each_status_at_once(rt: HostRuntime) {
     let alloc = rt.alloc();
     let mut output = FaultyWriter::new(alloc, 100, 0, Fault::Nothing);
     let mut printer = StatusPrinter::new(alloc, &mut output);
-    assert!(rt; !printer.hear(1), "the first");
-    assert!(rt; !printer.hear(2), "the second");
-    assert!(rt; !printer.hear(4), "one without a name");
+    holds(&rt, !printer.hear(1), "the first");
+    holds(&rt, !printer.hear(2), "the second");
+    holds(&rt, !printer.hear(4), "one without a name");
     same(&rt, &printer.fault(), &None, &"no fault");
     same(
         &rt,

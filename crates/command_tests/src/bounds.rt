@@ -1,4 +1,4 @@
-use crate::same::same;
+use crate::same::{holds, same};
 use commands::bounds::{Bounds, bounds_of};
 
 /// Connections, Watches and threads, and how many loops share places for them.
@@ -30,9 +30,9 @@ fn loops_share_places_for_all_that_a_server_holds(rt: HostRuntime) {
 
 #[test]
 fn takes_no_more_watches_than_connections(rt: HostRuntime) {
-    assert!(rt; Bounds::new(0, 0).is_none(), "no connections");
-    assert!(rt; Bounds::new(1, 2).is_none(), "two Watches");
-    assert!(rt; Bounds::new(1, 1).is_some(), "a Watch");
+    holds(&rt, Bounds::new(0, 0).is_none(), "no connections");
+    holds(&rt, Bounds::new(1, 2).is_none(), "two Watches");
+    holds(&rt, Bounds::new(1, 1).is_some(), "a Watch");
 }
 
 /// Connections and the Watches that are asked for, and how many Watches may be open, if these are bounds.

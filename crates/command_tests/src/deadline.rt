@@ -1,4 +1,4 @@
-use crate::same::same;
+use crate::same::{holds, same};
 use commands::deadline::{Deadline, TimedStream};
 use std::io;
 use std::io::{ErrorKind, Read, Write};
@@ -28,9 +28,9 @@ fn expect_late<R: Abort + Clock>(rt: &R, stream: &TcpStream) {
     let mut timed = TimedStream::new(rt, stream, deadline);
     let written = timed.write(b"a").expect(rt, "a write in time");
     same(rt, &written, &1, &"a write in time");
-    assert!(rt; !timed.is_late(), "before the deadline");
+    holds(rt, !timed.is_late(), "before the deadline");
     expect_timed_out(rt, timed.read(&mut [0]), "a read that waits");
-    assert!(rt; timed.is_late(), "after the deadline");
+    holds(rt, timed.is_late(), "after the deadline");
     expect_timed_out(rt, timed.write(b"a"), "a write that comes late");
     let waited = start.elapsed(rt).expect(rt, "the time").as_millis();
     assert!(rt; (150..5_000).contains(&waited), "{waited} milliseconds");

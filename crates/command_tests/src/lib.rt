@@ -6,8 +6,6 @@ mod ask;
 #[cfg(test)]
 mod ask_watch;
 #[cfg(test)]
-mod beside;
-#[cfg(test)]
 mod bodies;
 #[cfg(test)]
 mod bounds;

@@ -1,5 +1,5 @@
 use crate::command_line::{matches_of, matches_with};
-use crate::same::same;
+use crate::same::{holds, same};
 use commands::tell::{line_in, place_in, tell_line, tell_lines, timeout_in};
 use commands::timed_control::{AnswerTime, TimedControl};
 use control::{ControlClient, Place, connect_within, is_one_line};
@@ -164,7 +164,7 @@ fn makes_one_line_of_its_words(rt: HostRuntime) {
     expect_line(&rt, alloc, &words, Some("check -"));
     let words = ["healthd", "tell", "--control", "/run/healthd", "up a\nup b"];
     expect_line(&rt, alloc, &words, Some("up a\nup b"));
-    assert!(rt; !is_one_line(b"up a\nup b"), "two lines in a word");
+    holds(&rt, !is_one_line(b"up a\nup b"), "two lines in a word");
 }
 
 /// A client of a server of this test's own, and the server's end.

@@ -10,11 +10,11 @@ use crate::fault::Fault;
 use crate::status_printer::{StatusPrinter, put_status};
 use clap::ArgMatches;
 use clap::parser::ValueSource;
-use client::{Ended, Lent, Listener, Told, ask, watch_through};
+use client::{AskFault, Ended, Lent, Listener, Told, ask, watch_through};
 use std::alloc::{AllocError, Global};
 use std::fmt::Write as _;
 use std::io;
-use std::io::{BufReader, ErrorKind, Write};
+use std::io::{BufReader, ErrorKind, Read, Write};
 use std::net::{IpAddr, Net, SocketAddr, TcpStream};
 use std::time::{Clock, Duration};
 use web_call::Method;
@@ -52,67 +52,33 @@ where
         return Err(AskFailure::Plain(Fault::NameTooLong));
     }
     let (method, most) = call_in(matches);
-    if method == Method::Watch {
-        return watch_and_print(rt, matches, addr, name, most);
-    }
-    let told = match timeout_in(matches) {
-        Some(timeout) => ask_within(rt, alloc, addr, timeout, method, name, most)?,
-        None => ask_for_good(rt, alloc, addr, method, name, most)?,
-    };
-    let expected = expected_in(matches);
-    Ok(print_told(alloc, &mut io::writer(rt), method, expected, &told)?)
-}
-
-/// Watches the service, prints each status as it comes, and then how the Watch ended. It tells the exit status.
-fn watch_and_print<R>(
-    rt: &R,
-    matches: &ArgMatches<'_>,
-    addr: SocketAddr,
-    name: &str,
-    most: u32,
-) -> Result<u8, AskFailure>
-where
-    R: Print + Clock + AllocGlobal + Net<Stream = TcpStream>,
-    requires name { length name.now ≤ 1048576 }
-    requires most { 1 ≤ most }
-    ensures one_of_two { IfOk result (λ status. (status ≡ 0) ⊎ (status ≡ 3)) }
-{
-    let alloc = rt.alloc();
+    let question = Question { method, name, most };
     let mut output = io::writer(rt);
-    let told = watch_aloud(
-        rt,
-        alloc,
-        addr,
-        timeout_in(matches),
-        name,
-        most,
-        &mut output,
-    )?;
+    let told = ask_aloud(rt, alloc, addr, timeout_in(matches), &question, &mut output)?;
     let expected = expected_in(matches);
-    Ok(print_end(alloc, &mut output, expected, &told)?)
+    Ok(match method {
+        Method::Check => print_told(alloc, &mut output, method, expected, &told)?,
+        Method::Watch => print_end(alloc, &mut output, expected, &told)?,
+    })
 }
 
-/// Watches the service, and prints each status as it comes.
-fn watch_aloud<R: Clock + Net<Stream = TcpStream>, O: Write>(
+/// Asks the server that listens there, and prints each status of a Watch as it comes.
+fn ask_aloud<R: Clock + Net<Stream = TcpStream>, O: Write>(
     rt: &R,
     alloc: Global,
     addr: SocketAddr,
     timeout: Option<Duration>,
-    name: &str,
-    most: u32,
+    question: &Question<'_>,
     output: &mut O,
-) -> Result<Told, AskFailure>
-    requires name { length name.now ≤ 1048576 }
-    requires most { 1 ≤ most }
-{
+) -> Result<Told, AskFailure> {
     let mut printer = StatusPrinter::new(alloc, output);
-    let watched = match timeout {
-        Some(timeout) => watch_within(rt, alloc, addr, timeout, name, most, &mut printer),
-        None => watch_for_good(rt, alloc, addr, name, most, &mut printer),
+    let told = match timeout {
+        Some(timeout) => ask_within(rt, alloc, addr, timeout, question, &mut printer),
+        None => ask_for_good(rt, alloc, addr, question, &mut printer),
     };
     match printer.fault() {
         Some(fault) => Err(AskFailure::Plain(fault)),
-        None => watched,
+        None => told,
     }
 }
 
@@ -191,100 +157,72 @@ pub fn timeout_in(matches: &ArgMatches<'_>) -> Option<Duration> {
     Some(Duration::from_secs(u64::from(seconds)))
 }
 
-/// Asks the server that listens there, and waits without limit.
-pub fn ask_for_good<R: Net<Stream = TcpStream>>(
-    rt: &R,
-    alloc: Global,
-    addr: SocketAddr,
-    method: Method,
-    name: &str,
-    most: u32,
-) -> Result<Told, AskFailure>
-    requires name { length name.now ≤ 1048576 }
-    requires most { 1 ≤ most }
-{
-    let stream = connect_for_good(rt, addr)?;
-    let Ok(mut reader) = BufReader::new(alloc, &stream) else {
-        return Err(AskFailure::Plain(Fault::OutOfMemory));
-    };
-    let mut writer = &stream;
-    Ok(ask(alloc, &mut reader, &mut writer, method, name, most)?)
+/// What a server is asked: a Check of a service, or a Watch of at most so many of its statuses.
+#[derive(Drop)]
+pub struct Question<'a> {
+    pub method: Method,
+    pub name: &'a str,
+    pub most: u32,
+    ghost short: { length name.now ≤ 1048576 },
+    ghost some: { 1 ≤ most },
 }
 
-/// Asks by a Watch in the same way, and tells a listener each status as it comes.
-pub fn watch_for_good<R: Net<Stream = TcpStream>, L: Listener>(
-    rt: &R,
+/// Asks over a stream, and tells a listener each status of a Watch as it comes.
+fn put<I: Read, O: Write, L: Listener>(
     alloc: Global,
-    addr: SocketAddr,
-    name: &str,
-    most: u32,
+    reader: &mut I,
+    writer: &mut O,
+    question: &Question<'_>,
     listener: &mut L,
-) -> Result<Told, AskFailure>
-    requires name { length name.now ≤ 1048576 }
-    requires most { 1 ≤ most }
+) -> Result<Told, AskFault>
     requires wants { L.has_enough listener.old ≡ false }
 {
-    let stream = connect_for_good(rt, addr)?;
+    let Question {
+        method,
+        name,
+        most,
+        ..
+    } = *question;
+    match method {
+        Method::Check => ask(alloc, reader, writer, method, name, most),
+        Method::Watch => {
+            let mut reader = Lent::new(reader);
+            let mut writer = Lent::new(writer);
+            watch_through(alloc, &mut reader, &mut writer, name, most, listener)
+        },
+    }
+}
+
+/// Asks the server that listens there, and waits without limit.
+pub fn ask_for_good<R: Net<Stream = TcpStream>, L: Listener>(
+    rt: &R,
+    alloc: Global,
+    addr: SocketAddr,
+    question: &Question<'_>,
+    listener: &mut L,
+) -> Result<Told, AskFailure>
+    requires wants { L.has_enough listener.old ≡ false }
+{
+    let stream = match TcpStream::connect(rt, addr) {
+        Ok(stream) => stream,
+        Err(error) => return Err(AskFailure::Connect(addr, Cause::from(error))),
+    };
     let Ok(mut reader) = BufReader::new(alloc, &stream) else {
         return Err(AskFailure::Plain(Fault::OutOfMemory));
     };
     let mut writer = &stream;
-    let mut reader = Lent::new(&mut reader);
-    let mut writer = Lent::new(&mut writer);
-    Ok(watch_through(alloc, &mut reader, &mut writer, name, most, listener)?)
-}
-
-fn connect_for_good<R: Net<Stream = TcpStream>>(
-    rt: &R,
-    addr: SocketAddr,
-) -> Result<TcpStream, AskFailure> {
-    match TcpStream::connect(rt, addr) {
-        Ok(stream) => Ok(stream),
-        Err(error) => Err(AskFailure::Connect(addr, Cause::from(error))),
-    }
+    Ok(put(alloc, &mut reader, &mut writer, question, listener)?)
 }
 
 /// Asks the server that listens there, and gives up where the whole call takes longer.
-pub fn ask_within<R: Clock + Net<Stream = TcpStream>>(
+pub fn ask_within<R: Clock + Net<Stream = TcpStream>, L: Listener>(
     rt: &R,
     alloc: Global,
     addr: SocketAddr,
     timeout: Duration,
-    method: Method,
-    name: &str,
-    most: u32,
-) -> Result<Told, AskFailure>
-    requires name { length name.now ≤ 1048576 }
-    requires most { 1 ≤ most }
-{
-    let late = AskFailure::TimedOut(timeout.as_secs());
-    let Ok(deadline) = Deadline::after(rt, timeout) else {
-        return Err(late);
-    };
-    let stream = connect_by(rt, addr, deadline, late)?;
-    let Ok(mut reader) = BufReader::new(alloc, TimedStream::new(rt, &stream, deadline)) else {
-        return Err(AskFailure::Plain(Fault::OutOfMemory));
-    };
-    let mut writer = TimedStream::new(rt, &stream, deadline);
-    match ask(alloc, &mut reader, &mut writer, method, name, most) {
-        Ok(told) => Ok(told),
-        Err(_) if reader.get_ref().is_late() || writer.is_late() => Err(late),
-        Err(fault) => Err(AskFailure::Plain(Fault::Ask(fault))),
-    }
-}
-
-/// Asks by a Watch in the same way, and tells a listener each status as it comes.
-pub fn watch_within<R: Clock + Net<Stream = TcpStream>, L: Listener>(
-    rt: &R,
-    alloc: Global,
-    addr: SocketAddr,
-    timeout: Duration,
-    name: &str,
-    most: u32,
+    question: &Question<'_>,
     listener: &mut L,
 ) -> Result<Told, AskFailure>
-    requires name { length name.now ≤ 1048576 }
-    requires most { 1 ≤ most }
     requires wants { L.has_enough listener.old ≡ false }
 {
     let late = AskFailure::TimedOut(timeout.as_secs());
@@ -296,15 +234,7 @@ pub fn watch_within<R: Clock + Net<Stream = TcpStream>, L: Listener>(
         return Err(AskFailure::Plain(Fault::OutOfMemory));
     };
     let mut writer = TimedStream::new(rt, &stream, deadline);
-    let watched = watch_through(
-        alloc,
-        &mut Lent::new(&mut reader),
-        &mut Lent::new(&mut writer),
-        name,
-        most,
-        listener,
-    );
-    match watched {
+    match put(alloc, &mut reader, &mut writer, question, listener) {
         Ok(told) => Ok(told),
         Err(_) if reader.get_ref().is_late() || writer.is_late() => Err(late),
         Err(fault) => Err(AskFailure::Plain(Fault::Ask(fault))),

@@ -2,7 +2,9 @@ use crate::help_texts::{
     HISTORY_HELP, JOURNAL_HELP, OBSERVE_HELP, SCRIPT_HELP, STATUS_HELP, TELL_HELP,
 };
 use crate::observe_options::BadObserve;
-use crate::options;
+use crate::options::{
+    ASK, BODY, HISTORY, JOURNAL, OBSERVE, RUN, SERVE, STATUS, TELL, asked_place, with_options,
+};
 use crate::run_options::BadOption;
 use clap::error::ErrorKind;
 use clap::{ArgMatches, Command};
@@ -16,22 +18,22 @@ pub const CONTROL_VARIABLE: &str = "HEALTHD_CONTROL";
 /// The command line. A command that is not listed here is refused with clap's text. A running server is asked at this place, if there is
 /// one, where a command is told no other.
 pub fn command<'a>(alloc: Global, control: Option<&'a str>) -> Result<Command<'a>, AllocError> {
-    let healthd = with_scripts(alloc)?;
-    let healthd = add(healthd, run(alloc))?;
-    let healthd = add(healthd, ask(alloc))?;
-    let healthd = add(healthd, tell(alloc, control))?;
-    let healthd = add(healthd, status(alloc, control))?;
-    let healthd = add(healthd, history(alloc, control))?;
-    let healthd = add(healthd, journal(alloc))?;
+    let healthd = with_scripts(alloc);
+    let healthd = add(healthd, run(alloc));
+    let healthd = add(healthd, ask(alloc));
+    let healthd = add(healthd, tell(alloc, control));
+    let healthd = add(healthd, status(alloc, control));
+    let healthd = add(healthd, history(alloc, control));
+    let healthd = add(healthd, journal(alloc));
     add(healthd, observe(alloc, control))
 }
 
 /// The program with one command more, once there is one.
 fn add<'a>(
-    program: Command<'a>,
+    program: Result<Command<'a>, AllocError>,
     made: Result<Command<'a>, AllocError>,
 ) -> Result<Command<'a>, AllocError> {
-    program.subcommand(made?)
+    program?.subcommand(made?)
 }
 
 /// The program, with the commands that read all that they are told from their words and from standard input.
@@ -43,45 +45,28 @@ fn with_scripts<'a>(alloc: Global) -> Result<Command<'a>, AllocError> {
     let replay = Command::new(alloc, "replay").about(
         "Run the script on standard input, and print what each of its lines comes to",
     );
-    let healthd = add(healthd, body(alloc))?;
-    add(healthd.subcommand(replay)?, serve(alloc))
+    add(add(add(Ok(healthd), body(alloc)), Ok(replay)), serve(alloc))
 }
 
 fn body<'a>(alloc: Global) -> Result<Command<'a>, AllocError> {
-    let words = vec![in alloc; options::hex(alloc), options::services(alloc)]?;
-    Command::new(alloc, "body")
-        .about("Answer the body of a Check's request with the body of its response")
-        .args(words)
+    let body = Command::new(alloc, "body").about(
+        "Answer the body of a Check's request with the body of its response",
+    );
+    with_options(alloc, body, &BODY)
 }
 
 fn serve<'a>(alloc: Global) -> Result<Command<'a>, AllocError> {
-    let options = vec![in alloc;
-        options::port(alloc),
-        options::workers(alloc),
-        options::calls(alloc),
-    ]?;
-    Command::new(alloc, "serve")
-        .about("Serve calls on 127.0.0.1 by the script on standard input, and print how each ended")
-        .args(options)
+    let serve = Command::new(alloc, "serve").about(
+        "Serve calls on 127.0.0.1 by the script on standard input, and print how each ended",
+    );
+    with_options(alloc, serve, &SERVE)
 }
 
 fn run<'a>(alloc: Global) -> Result<Command<'a>, AllocError> {
-    let options = vec![in alloc;
-        options::listen(alloc),
-        options::plain(alloc),
-        options::control(alloc),
-        options::report(alloc),
-        options::script(alloc),
-        options::journal(alloc),
-        options::threads(alloc),
-        options::connections(alloc),
-        options::watches(alloc),
-        options::quiet(alloc),
-    ]?;
-    Command::new(alloc, "run")
+    let run = Command::new(alloc, "run")
         .about("Serve calls, with services that a script sets up, until told to stop")
-        .after_help(SCRIPT_HELP)
-        .args(options)
+        .after_help(SCRIPT_HELP);
+    with_options(alloc, run, &RUN)
 }
 
 /// The command line of a run that is refused, with the text that clap has for such.
@@ -93,17 +78,8 @@ pub fn bad_option(alloc: Global, bad: BadOption<'_>) -> Result<clap::Error, Allo
 }
 
 fn ask<'a>(alloc: Global) -> Result<Command<'a>, AllocError> {
-    let options = vec![in alloc;
-        options::port(alloc),
-        options::host(alloc),
-        options::name(alloc),
-        options::watch(alloc),
-        options::call_timeout(alloc),
-        options::expect(alloc),
-    ]?;
-    Command::new(alloc, "ask")
-        .about("Ask for the status of a service, and print it")
-        .args(options)
+    let ask = Command::new(alloc, "ask").about("Ask for the status of a service, and print it");
+    with_options(alloc, ask, &ASK)
 }
 
 /// The command line of an `ask` whose host is refused, with the text that clap has for such.
@@ -116,42 +92,51 @@ pub fn bad_host(alloc: Global, host: &str) -> Result<clap::Error, AllocError> {
         .error(ErrorKind::ValueValidation, &message)
 }
 
+/// A command that asks a running server.
+fn asking<'a>(
+    alloc: Global,
+    control: Option<&'a str>,
+    name: &'static str,
+    about: &'static str,
+    after: &'static str,
+) -> Result<Command<'a>, AllocError> {
+    Command::new(alloc, name)
+        .about(about)
+        .after_help(after)
+        .arg(asked_place(alloc, control))
+}
+
 fn tell<'a>(alloc: Global, control: Option<&'a str>) -> Result<Command<'a>, AllocError> {
-    let options = vec![in alloc;
-        options::asked_place(alloc, control),
-        options::answer_timeout(alloc),
-        options::words(alloc),
-    ]?;
-    Command::new(alloc, "tell")
-        .about("Send lines to a server that takes changes while it runs, and print its answers")
-        .after_help(TELL_HELP)
-        .args(options)
+    let tell = asking(
+        alloc,
+        control,
+        "tell",
+        "Send lines to a server that takes changes while it runs, and print its answers",
+        TELL_HELP,
+    )?;
+    with_options(alloc, tell, &TELL)
 }
 
 fn status<'a>(alloc: Global, control: Option<&'a str>) -> Result<Command<'a>, AllocError> {
-    let options = vec![in alloc;
-        options::asked_place(alloc, control),
-        options::answer_timeout(alloc),
-        options::json_of_services(alloc),
-    ]?;
-    Command::new(alloc, "status")
-        .about("Show each service's status, since when, and why")
-        .after_help(STATUS_HELP)
-        .args(options)
+    let status = asking(
+        alloc,
+        control,
+        "status",
+        "Show each service's status, since when, and why",
+        STATUS_HELP,
+    )?;
+    with_options(alloc, status, &STATUS)
 }
 
 fn history<'a>(alloc: Global, control: Option<&'a str>) -> Result<Command<'a>, AllocError> {
-    let options = vec![in alloc;
-        options::asked_place(alloc, control),
-        options::answer_timeout(alloc),
-        options::last(alloc),
-        options::follow(alloc),
-        options::json_of_entries(alloc),
-    ]?;
-    Command::new(alloc, "history")
-        .about("Print the changes that a server has made, the oldest first")
-        .after_help(HISTORY_HELP)
-        .args(options)
+    let history = asking(
+        alloc,
+        control,
+        "history",
+        "Print the changes that a server has made, the oldest first",
+        HISTORY_HELP,
+    )?;
+    with_options(alloc, history, &HISTORY)
 }
 
 /// The command line of a `tell` that is refused for this reason, with the text that clap has for such.
@@ -202,18 +187,14 @@ pub fn port_in(matches: &ArgMatches<'_>) -> u16 {
 }
 
 fn observe<'a>(alloc: Global, control: Option<&'a str>) -> Result<Command<'a>, AllocError> {
-    let options = vec![in alloc;
-        options::asked_place(alloc, control),
-        options::every(alloc),
-        options::look_timeout(alloc),
-        options::once(alloc),
-        options::verbose(alloc),
-        options::targets(alloc),
-    ]?;
-    Command::new(alloc, "observe")
-        .about("Look at targets, and report what each look found to a server")
-        .after_help(OBSERVE_HELP)
-        .args(options)
+    let observe = asking(
+        alloc,
+        control,
+        "observe",
+        "Look at targets, and report what each look found to a server",
+        OBSERVE_HELP,
+    )?;
+    with_options(alloc, observe, &OBSERVE)
 }
 
 /// The command line of an `observe` that is refused, with the text that clap has for such.
@@ -225,9 +206,8 @@ pub fn bad_observe(alloc: Global, bad: BadObserve<'_>) -> Result<clap::Error, Al
 }
 
 fn journal<'a>(alloc: Global) -> Result<Command<'a>, AllocError> {
-    let options = vec![in alloc; options::path(alloc), options::json_of_entries(alloc)]?;
-    Command::new(alloc, "journal")
+    let journal = Command::new(alloc, "journal")
         .about("Print the changes in a journal's file, the oldest first")
-        .after_help(JOURNAL_HELP)
-        .args(options)
+        .after_help(JOURNAL_HELP);
+    with_options(alloc, journal, &JOURNAL)
 }

@@ -1,4 +1,4 @@
-use crate::same::same;
+use crate::same::{holds, same};
 use desk_core::{Catalogue, CatalogueFault, Slot};
 use std::alloc::Global;
 use std::process::Abort;
@@ -111,5 +111,5 @@ fn refuses_each_growth_of_a_catalogue(rt: HostRuntime) {
             }
         }
     }
-    assert!(rt; 0 < refused && refused < 512, "the refused");
+    holds(&rt, 0 < refused && refused < 512, "the refused");
 }

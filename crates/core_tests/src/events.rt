@@ -1,4 +1,4 @@
-use crate::same::same;
+use crate::same::{holds, same};
 use probe_core::tracked::Tracked;
 use probe_core::{Depends, Event, Manual, Probe, Rule, Start, Threshold};
 use std::alloc::Global;
@@ -145,6 +145,6 @@ fn counts_a_dropped_probe_once(rt: HostRuntime) {
         Tracked::new(drops.clone().expect(&rt, "memory")),
     ).expect(&rt, "memory");
     same(&rt, &drops.load(Ordering::SeqCst), &0, &"before the drop");
-    assert!(rt; drop_down(probe), "a setting");
+    holds(&rt, drop_down(probe), "a setting");
     same(&rt, &drops.load(Ordering::SeqCst), &1, &"after the drop");
 }

@@ -4,13 +4,19 @@
 #[cfg(test)]
 mod asked;
 #[cfg(test)]
+mod base;
+#[cfg(test)]
 mod book;
 #[cfg(test)]
 mod catalogues;
 #[cfg(test)]
+mod chronicles;
+#[cfg(test)]
 mod events;
 #[cfg(test)]
 mod given_back;
+#[cfg(test)]
+mod handed;
 #[cfg(test)]
 mod histories;
 #[cfg(test)]
@@ -30,6 +36,8 @@ mod rows;
 #[cfg(test)]
 mod same;
 #[cfg(test)]
+mod script_texts;
+#[cfg(test)]
 mod scripts;
 #[cfg(test)]
 mod sixteen;
@@ -39,3 +47,5 @@ mod stored;
 mod tails;
 #[cfg(test)]
 mod thresholds;
+#[cfg(test)]
+mod wire;

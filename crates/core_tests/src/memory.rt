@@ -1,6 +1,6 @@
 use crate::asked::{Asked, ask};
 use crate::rows::Answer;
-use crate::same::same;
+use crate::same::{holds, same};
 use desk_core::{Capacity, Desk, Finding, Refusal, Reply, Setting, Slot};
 use probe_core::Manual;
 use std::alloc::Global;
@@ -118,5 +118,5 @@ fn refuses_each_growth_of_each_change(rt: HostRuntime) {
 fn refuses_each_growth_of_a_first_registration(rt: HostRuntime) {
     let mut desk = Desk::new(rt.alloc(), 100);
     let refused = refusals_of(&rt, rt.alloc(), &mut desk, Asked::Register, Reply::Done);
-    assert!(rt; 0 < refused, "the refused");
+    holds(&rt, 0 < refused, "the refused");
 }

@@ -3,7 +3,7 @@
 use crate::asked::{Asked, ask};
 use crate::book::Book;
 use crate::rows::Answer;
-use crate::same::same;
+use crate::same::{holds, same};
 use desk_core::{Call, Desk, Entry, Finding, Refusal, Reply, Setting, Slot, board_entries};
 use health_wire::Serving;
 use probe_core::{Manual, Rule};
@@ -82,7 +82,7 @@ fn does_what_its_store_takes_and_nothing_else(rt: HostRuntime) {
         same(&rt, &desk.check(Some(first)), status, &asked);
         same(&rt, &board_entries(desk.board()), entries, &asked);
     }
-    assert!(rt; desk.is_stored(), "a store");
+    holds(&rt, desk.is_stored(), "a store");
     match desk.into_store() {
         Some(book) => expect_stored(&rt, &book, first),
         None => panic!(rt; "no store"),
@@ -92,6 +92,6 @@ fn does_what_its_store_takes_and_nothing_else(rt: HostRuntime) {
 #[test]
 fn a_new_desk_has_no_store(rt: HostRuntime) {
     let desk: Desk<Manual> = Desk::new(rt.alloc(), 5);
-    assert!(rt; !desk.is_stored(), "a store");
-    assert!(rt; desk.into_store().is_none(), "none");
+    holds(&rt, !desk.is_stored(), "a store");
+    holds(&rt, desk.into_store().is_none(), "none");
 }

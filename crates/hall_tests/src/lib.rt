@@ -30,4 +30,8 @@ mod rows;
 #[cfg(test)]
 mod same;
 #[cfg(test)]
+mod sockets;
+#[cfg(test)]
 mod stores;
+#[cfg(test)]
+mod watchdogs;

@@ -4,7 +4,7 @@ ghost use Rattle.std.specs.Prelude.{None};
 ghost use Rattle.hall.specs.Seats.{IsOf};
 
 use crate::guest::{manuals, two_seats};
-use crate::same::same;
+use crate::same::{holds, same};
 use desk_core::{Entry, Keep, NotStored, Refusal, Reply, Setting};
 use hall::{Hall, Seat};
 use health_wire::Serving;
@@ -76,15 +76,15 @@ fn stored_by<R: Wait + Abort>(
     ensures second { IsOf hall.now second.new }
 {
     let before = hall.check(second, "a").at;
-    assert!(rt; register(rt, hall, first, "a"), "a");
-    assert!(rt; register(rt, hall, first, "b"), "b");
+    holds(rt, register(rt, hall, first, "a"), "a");
+    holds(rt, register(rt, hall, first, "b"), "b");
     let pile = Pile { taken: 0, most: 1 };
     let Err(pile) = hall.store_in(rt, second, before, pile) else {
         panic!(rt; "a store without the entries of another seat")
     };
     let seen = hall.check(first, "a").at;
     let is_stored = hall.store_in(rt, first, seen, pile).is_ok();
-    assert!(rt; is_stored, "the first seat's store");
+    holds(rt, is_stored, "the first seat's store");
     let down = (Ok(Reply::Done), Some(Serving::NotServing));
     same(rt, &set_down(rt, hall, first, "a"), &down, &"one entry");
     let refused = (Err(Refusal::NotStored), Some(Serving::Serving));

@@ -34,6 +34,3 @@ mod number;
 
 pub use crate::handed_over::{HandedOver, sockets_for};
 pub use crate::notifier::Notifier;
-
-#[cfg(test)]
-mod tests;

@@ -2,7 +2,7 @@
 
 use super::crashes::{Store, store_over};
 use super::histories::{Manuals, Random, Sessions, history, preface};
-use crate::same::same;
+use crate::same::{holds, same};
 use desk_core::{Entry, Keep, board_entries};
 use journal_store::{batch_of, restore};
 use probe_core::Manual;
@@ -41,8 +41,8 @@ fn a_journal_of_16_mib_is_written_anew(rt: HostRuntime) {
     let file = file_of(&rt, alloc, &entries);
     let (mut store, _) = store_over(&rt, alloc, &file, usize::MAX, &[]);
     let more = history(&rt, alloc, &mut Random(8), 1, 1);
-    assert!(rt; store.store(&more).is_ok(), "stored");
-    assert!(rt; store.written().len() < 4 << 20, "its length");
+    holds(&rt, store.store(&more).is_ok(), "stored");
+    holds(&rt, store.written().len() < 4 << 20, "its length");
     let (base, short) = (store.preface().base(), store.preface().condensed());
     assert!(rt; short <= 5, "{short}");
     let older = base.saturating_add(u64::from(short));

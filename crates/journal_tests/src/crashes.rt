@@ -5,7 +5,7 @@ ghost use Rattle.desk_core.specs.Left.{Holds};
 ghost use Rattle.journal_store.specs.Record.{restored_of};
 
 use super::histories::{Manuals, OPENING, Random, Replacing, Sessions, Spare, history, preface};
-use crate::same::same;
+use crate::same::{holds, same};
 use desk_core::{Call, Entry, Keep, Reply};
 use entry_record::Stored;
 use journal_store::{JournalStore, Witness, restore};
@@ -57,7 +57,7 @@ fn expect_file(rt: &impl Abort, alloc: Global, file: &[u8], entries: &[Entry], c
     let (store, stored) = store_over(rt, alloc, file, usize::MAX, &[]);
     let desk = restore::<Manual, Store, Manuals>(alloc, 1_000, store, &stored, &Manuals);
     let desk = desk.expect(rt, "a desk");
-    assert!(rt; desk.is_stored(), "a store");
+    holds(rt, desk.is_stored(), "a store");
     same(rt, &stored.len(), &count, &"entries");
     same(rt, &desk.journal_kept().len(), &count, &"restored");
     for number in 0..stored.len() {
@@ -173,7 +173,7 @@ fn a_store_that_failed_refuses_another_file(rt: HostRuntime) {
     let (mut store, _) = store_over(&rt, alloc, &[], OPENING + ENTRY, b"\x02 of another");
     same(&rt, &store_all(&mut store, &entries), &1, &"stored");
     same(&rt, &store_all(&mut store, &entries), &0, &"another file");
-    assert!(rt; store.device().is_none(), "no device");
+    holds(&rt, store.device().is_none(), "no device");
 }
 
 fn shutdown() -> Entry {
@@ -190,9 +190,9 @@ fn a_batch_is_stored_whole(rt: HostRuntime) {
     let alloc = rt.alloc();
     let three = [shutdown(), shutdown(), shutdown()];
     let (mut store, _) = store_over(&rt, alloc, &[], OPENING + ENTRY, &[]);
-    assert!(rt; store.store(&[]).is_ok(), "nothing");
-    assert!(rt; store.store(&three).is_ok(), "three");
-    assert!(rt; store.store(&three[..2]).is_err(), "two more");
+    holds(&rt, store.store(&[]).is_ok(), "nothing");
+    holds(&rt, store.store(&three).is_ok(), "three");
+    holds(&rt, store.store(&three[..2]).is_err(), "two more");
     let file = left(&rt, &store, &[]);
     expect_file(&rt, alloc, &file, &three, 3);
 }

@@ -9,7 +9,7 @@ ghost use Rattle.desk_core.specs.Past.{past};
 ghost use Rattle.digest.specs.Alike.{AreAlike};
 ghost use Rattle.probe_core.specs.Made.{IsAsked};
 
-use crate::same::same;
+use crate::same::{holds, same};
 use desk_core::{Call, Desk, Entry, Finding, Made, Refusal, Reply, Setting, Slot};
 use digest::Digest;
 use probe_core::{Depends, FnMaker, Maker, Manual, Probe, ProbeFn, Rule, Start, Threshold};
@@ -327,8 +327,8 @@ fn out_of_memory_is_an_error(rt: HostRuntime) {
     let is_filled = filler.is_ok();
     drop(filler);
     drop(scarcity);
-    assert!(rt; is_filled, "a filler");
-    assert!(rt; refused, "no memory");
+    holds(&rt, is_filled, "a filler");
+    holds(&rt, refused, "no memory");
     let entries = digest.entries(alloc).expect(&rt, "memory");
     same(&rt, &entries.len(), &1_000, &"memory");
 }

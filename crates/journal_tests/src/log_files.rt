@@ -2,7 +2,7 @@
 
 ghost use Rattle.std.specs.Prelude.{◌<◌, All, length};
 
-use crate::same::same;
+use crate::same::{holds, same};
 use record_log::{
     FileDevice, FileError, HeldFile, OpenError, RecordLog, blocks_of, write_anew, write_text_anew,
 };
@@ -72,7 +72,7 @@ fn make<R: Files<File = File> + AllocGlobal + Abort>(rt: &R, path: &str) {
     log.append(alloc, &second).expect(rt, "an append");
     let in_use = log_at(rt, path).map(drop);
     let is_in_use = matches!(in_use, Err(FileError::InUse));
-    assert!(rt; is_in_use, "in use");
+    holds(rt, is_in_use, "in use");
 }
 
 /// Opens that file, adds to it and makes it anew.
@@ -163,10 +163,10 @@ fn a_text_is_put_in_the_place_of_a_file(rt: HostRuntime) {
     make_two(&rt, path);
     let before = bytes_at(&rt, path);
     fs::create_dir(&rt, beside).expect(&rt, "a folder");
-    assert!(rt; !put_three(&rt, path), "a folder is there");
+    holds(&rt, !put_three(&rt, path), "a folder is there");
     same(&rt, &bytes_at(&rt, path), &before, &"as it was");
     fs::remove_dir(&rt, beside).expect(&rt, "the folder");
-    assert!(rt; put_three(&rt, path), "put");
+    holds(&rt, put_three(&rt, path), "put");
     remove(&rt, path);
 }
 
@@ -195,16 +195,16 @@ fn a_file_that_is_not_replaced_stays_locked(rt: HostRuntime) {
     make_two(&rt, path);
     fs::create_dir(&rt, beside).expect(&rt, "a folder");
     let held = held_at(&rt, path);
-    assert!(rt; is_in_use(&rt, path), "held");
-    assert!(rt; held.is_at(&rt, path), "at its path");
-    assert!(rt; !held.is_at(&rt, "/tmp"), "at another");
+    holds(&rt, is_in_use(&rt, path), "held");
+    holds(&rt, held.is_at(&rt, path), "at its path");
+    holds(&rt, !held.is_at(&rt, "/tmp"), "at another");
     let mut log = RecordLog::new(held.open(&rt, path).expect(&rt, "a device"));
     let found = log.open(rt.alloc()).expect(&rt, "its entries");
     same(&rt, &found.len(), &2, &"its entries");
     drop(held);
-    assert!(rt; is_in_use(&rt, path), "opened");
+    holds(&rt, is_in_use(&rt, path), "opened");
     drop(log);
-    assert!(rt; !is_in_use(&rt, path), "let go");
+    holds(&rt, !is_in_use(&rt, path), "let go");
     fs::remove_dir(&rt, beside).expect(&rt, "the folder");
     remove(&rt, path);
 }
@@ -213,8 +213,8 @@ fn a_file_that_is_not_replaced_stays_locked(rt: HostRuntime) {
 fn what_is_no_file_is_not_opened(rt: HostRuntime) {
     let folder = log_at(&rt, "/tmp").map(drop);
     let is_refused = matches!(folder, Err(FileError::NotAFile));
-    assert!(rt; is_refused, "a folder");
+    holds(&rt, is_refused, "a folder");
     let missing = log_at(&rt, "/tmp/record-log-missing/log").map(drop);
     let is_refused = matches!(missing, Err(FileError::Io(_)));
-    assert!(rt; is_refused, "missing");
+    holds(&rt, is_refused, "missing");
 }

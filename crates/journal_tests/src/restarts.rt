@@ -2,7 +2,7 @@
 
 use super::crashes::{Store, store_over};
 use super::histories::{Manuals, Random, Replacing, Sessions, Spare, history, preface};
-use crate::same::same;
+use crate::same::{holds, same};
 use chronicle::Who;
 use desk_core::{Call, Desk, Entry, Refusal, Reply, Setting, Slot};
 use entry_record::Stored;
@@ -32,7 +32,7 @@ fn an_entry_that_is_not_stored_is_refused(rt: HostRuntime) {
         let mut desk = new_desk(&rt, alloc, 100, calls + 4, b"\x02 of another");
         let slot = Slot::new(0).expect(&rt, "a slot");
         let first = desk.register(1, slot, Manual::new());
-        assert!(rt; first.is_ok(), "registered");
+        holds(&rt, first.is_ok(), "registered");
         let shows = desk.check(Some(slot));
         for _ in 0..2 {
             let refused = desk.set(2, slot, Setting::Down);

@@ -3,7 +3,7 @@
 use super::crashes::{Store, store_over};
 use super::histories::{Manuals, Random, Replacing, Sessions, Spare, history, preface};
 use super::restarts::stored_as;
-use crate::same::same;
+use crate::same::{holds, same};
 use desk_core::{Call, Desk, Entry, Keep, KeepAll, Reply, Slot};
 use journal_store::{FileMedium, FileStore, JournalStore, Medium, restore};
 use probe_core::{Maker, Manual};
@@ -223,8 +223,8 @@ fn a_real_file_stays_locked(rt: HostRuntime) {
         &1,
         &"not replaced",
     );
-    assert!(rt; !is_in_use(&rt, "held"), "let go");
+    holds(&rt, !is_in_use(&rt, "held"), "let go");
     fs::remove_dir(&rt, "held.new").expect(&rt, "the folder");
     same(&rt, &store_alone(&rt, "put", &entries), &0, &"replaced");
-    assert!(rt; !is_in_use(&rt, "put"), "let go");
+    holds(&rt, !is_in_use(&rt, "put"), "let go");
 }

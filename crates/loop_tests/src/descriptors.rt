@@ -1,4 +1,4 @@
-use crate::same::same;
+use crate::same::{holds, same};
 use crate::scenes::{ANSWERED, OneLoop, Scene, client, expect_rest, sent};
 use desk_core::Setting;
 use std::alloc::Global;
@@ -35,7 +35,7 @@ fn run_out_of_descriptors<R: Net<Stream = TcpStream> + Clock + Abort>(
     place.news.change();
     place.expect_held(rt, scene, (1, 1));
     let found = sent(rt, place.alloc, watcher);
-    assert!(rt; found.ends_with(b"\x08\x02\r\n"), "a change");
+    holds(rt, found.ends_with(b"\x08\x02\r\n"), "a change");
     drop(copies);
     place.rounds(rt, scene);
     expect_rest(rt, place.alloc, waiting, ANSWERED);

@@ -1,6 +1,6 @@
 //! How conversations end one by one.
 
-use crate::same::same;
+use crate::same::{holds, same};
 use crate::scenes::{ANSWERED, OneLoop, Scene, client, expect_rest, rest, sent};
 use std::io::Write;
 use std::net::{Net, Shutdown, TcpStream};
@@ -92,9 +92,9 @@ pub(crate) fn stay_behind_the_end<R: Net<Stream = TcpStream> + Clock + Abort>(
     let mut refused = client(rt, place, b"GET / HTTP/1.1\r\nhost: a\r\n\r\n");
     place.rounds(rt, scene);
     let found = rest(rt, place.alloc, &mut refused);
-    assert!(rt; found.starts_with(b"HTTP/1.1 4"), "refused");
+    holds(rt, found.starts_with(b"HTTP/1.1 4"), "refused");
     place.rounds(rt, scene);
     same(rt, &place.server.connections(), &1, &"the Watch is left");
     let found = sent(rt, place.alloc, &mut watcher);
-    assert!(rt; !found.is_empty(), "its status");
+    holds(rt, !found.is_empty(), "its status");
 }

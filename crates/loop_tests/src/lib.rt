@@ -14,7 +14,11 @@ mod entrances;
 #[cfg(test)]
 mod full;
 #[cfg(test)]
+mod live_runs;
+#[cfg(test)]
 mod looks;
+#[cfg(test)]
+mod machines;
 #[cfg(test)]
 mod order;
 #[cfg(test)]

@@ -1,7 +1,7 @@
 //! How much a round tells its Watches.
 
 use crate::recorder::asked_in_round;
-use crate::same::same;
+use crate::same::{holds, same};
 use crate::scenes::{OneLoop, Scene, client, rest, sent};
 use crate::watches::{ENDED, WATCHERS};
 use desk_core::Setting;
@@ -40,7 +40,7 @@ fn watchers<R: Net<Stream = TcpStream> + Clock + Abort>(
     same(rt, &place.server.watches(), &WATCHERS, &"all are open");
     for stream in &mut streams {
         let is_told = sent(rt, place.alloc, stream).ends_with(b"\x08\x01\r\n");
-        assert!(rt; is_told, "its status");
+        holds(rt, is_told, "its status");
     }
     streams
 }
@@ -89,8 +89,8 @@ fn expect_flips(rt: &impl Abort, alloc: Global, streams: &mut [TcpStream], flips
 fn expect_ended(rt: &impl Abort, alloc: Global, streams: &mut [TcpStream]) {
     for stream in streams {
         let found = rest(rt, alloc, stream);
-        assert!(rt; found.starts_with(b"2f\r\n\x80"), "no more");
-        assert!(rt; found.ends_with(ENDED), "the end");
+        holds(rt, found.starts_with(b"2f\r\n\x80"), "no more");
+        holds(rt, found.ends_with(ENDED), "the end");
     }
 }
 

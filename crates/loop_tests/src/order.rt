@@ -1,5 +1,5 @@
 use crate::recorder::{MOST, asked_in_round};
-use crate::same::same;
+use crate::same::{holds, same};
 use crate::scenes::{OneLoop, Scene, client, sent};
 use desk_core::Setting;
 use std::alloc::Global;
@@ -10,7 +10,7 @@ use std::time::Clock;
 use test_support::requests::{CHECK_OF_EMPTY, WATCH_OF_EMPTY};
 
 fn is_sent_some(rt: &impl Abort, alloc: Global, stream: &mut TcpStream) {
-    assert!(rt; !sent(rt, alloc, stream).is_empty(), "what was sent");
+    holds(rt, !sent(rt, alloc, stream).is_empty(), "what was sent");
 }
 
 /// More changes than a Watch is told in one turn.

@@ -1,6 +1,6 @@
 //! Two loops over one socket, which share the places.
 
-use crate::same::same;
+use crate::same::{holds, same};
 use crate::scenes::{
     ANSWERED, OneLoop, Scene, client, expect_rest, news_of, places_of, rest, scene_of, sent,
 };
@@ -213,7 +213,7 @@ where
     let mut stream = client(rt, &pair.place, WATCH_OF_EMPTY);
     pair.rounds(rt, scene, is_other);
     let is_ended = sent(rt, pair.place.alloc, &mut stream).ends_with(ENDED);
-    assert!(rt; !is_ended, "a Watch");
+    holds(rt, !is_ended, "a Watch");
     stream
 }
 

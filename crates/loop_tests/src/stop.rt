@@ -1,6 +1,6 @@
 //! What is left at a loop once all is to end.
 
-use crate::same::same;
+use crate::same::{holds, same};
 use crate::scenes::{ANSWERED, OneLoop, Scene, client, expect_rest, rest, scene_of, sent};
 use crate::watches::{DOWN, ENDED, UP};
 use desk_core::Setting;
@@ -99,7 +99,7 @@ fn end_beside_silence<R: Net<Stream = TcpStream> + Clock + Abort>(
         same(rt, &found, &is_past, &millis);
     }
     let found = rest(rt, place.alloc, &mut left.silent);
-    assert!(rt; found.is_empty(), "closed");
+    holds(rt, found.is_empty(), "closed");
     let told = "the Watch, the Check, and who was silent";
     same(rt, &place.ends(), &(3, 1, 0), &told);
 }
@@ -112,20 +112,20 @@ fn end_in_order<R: Net<Stream = TcpStream> + Clock + Abort>(
     left: &mut Left,
 ) {
     let found = sent(rt, place.alloc, &mut left.watcher);
-    assert!(rt; found.ends_with(UP), "open");
+    holds(rt, found.ends_with(UP), "open");
     let expected = set_often(rt, place.alloc, scene);
     left.watcher.write_all(b"x").expect(rt, "a write");
     end_beside_silence(rt, place, scene, left);
     let is_late = TcpStream::connect(rt, place.addr).is_err();
-    assert!(rt; is_late, "a client that comes late");
+    holds(rt, is_late, "a client that comes late");
     left.half
         .write_all(&CHECK_OF_EMPTY[SENT..])
         .expect(rt, "a write");
     place.rounds(rt, scene);
     expect_rest(rt, place.alloc, &mut left.half, ANSWERED);
     let found = rest(rt, place.alloc, &mut left.watcher);
-    assert!(rt; found.starts_with(&expected), "each change");
-    assert!(rt; found.ends_with(ENDED), "the end");
+    holds(rt, found.starts_with(&expected), "each change");
+    holds(rt, found.ends_with(ENDED), "the end");
 }
 
 fn end_at_a_loop<R: Net<Stream = TcpStream> + Clock + Abort>(rt: &R, alloc: Global) {

@@ -10,7 +10,7 @@ ghost use Rattle.server.specs.CrewServer.{HasServedOrders};
 use crate::serve_fault::ServeFault;
 use crate::served::Served;
 use crate::setup::SetUpHall;
-use crate::socket::Accept;
+use call_socket::Accept;
 use crew::{OpenTurnstile, Report, serve_all};
 use desk_core::{Order, Refusal, Reply};
 use hall::Closed;

@@ -46,7 +46,6 @@ mod crew_server;
 mod serve_fault;
 mod served;
 mod setup;
-mod socket;
 mod storing;
 
 pub use again::hall_again;

@@ -1,12 +1,10 @@
-//! What tests share: a comparison that tells where it failed, a process without memory, a reader and a writer that fail at a
-//! chosen call, and sample requests. No program uses it.
+//! What tests share: a process without memory, a reader and a writer that fail at a chosen call, and sample requests. No program
+//! uses it.
 #![tactic(auto)]
 
-mod comparison;
 mod faulty;
 pub mod requests;
 mod scarcity;
 
-pub use comparison::same;
 pub use faulty::{Fault, FaultyReader, FaultyWriter};
 pub use scarcity::Scarcity;

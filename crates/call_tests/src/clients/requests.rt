@@ -1,5 +1,6 @@
 use super::responses::{SERVING, padded};
 use super::*;
+use crate::same::holds;
 
 pub(super) const CHECK_OF_EMPTY: &[u8] = b"POST /grpc.health.v1.Health/Check HTTP/1.1\r\n\
     host: localhost\r\n\
@@ -64,7 +65,7 @@ fn expect_request(
     name: &str,
     expected: &[u8],
 ) {
-    assert!(rt; name.len() <= 1_048_576, "the name is too long");
+    holds(rt, name.len() <= 1_048_576, "the name is too long");
     let mut rest = input;
     let mut written = Vec::new(alloc);
     let result = ask(alloc, &mut rest, &mut written, method, name, 1);

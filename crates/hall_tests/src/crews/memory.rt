@@ -1,5 +1,5 @@
 use crate::crews::plans::{Found, ROOM, Taken, Wish, plan_of, serve_notes};
-use crate::same::same;
+use crate::same::{holds, same};
 use crew::{CallEnd, CrewWhy, OpenTurnstile};
 use desk_core::{Refusal, Setting};
 use grpc_frame::Code;
@@ -110,7 +110,7 @@ fn made_by_all(made: &[Option<u64>], count: u16) -> Option<usize> {
 /// The journal has the two registrations and the orders that were made: as many as a report tells, and none where nothing began.
 fn expect_entries(rt: &impl Abort, found: &Found, count: u16, has_begun: bool) {
     let made = made_by_all(&found.made, count);
-    assert!(rt; made.is_some(), "all seats are in their places");
+    holds(rt, made.is_some(), "all seats are in their places");
     if found.calls.is_ok() || !has_begun {
         let told = made_in_all(&found.orders);
         let all = told.map(|told| told.saturating_add(2));

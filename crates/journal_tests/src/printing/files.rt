@@ -1,7 +1,7 @@
 //! Files, also one that a server has.
 
 use super::samples::{TWO_LINES, file_of, two_entries};
-use crate::same::same;
+use crate::same::{holds, same};
 use journal_lines::{PrintingFault, print_journal};
 use record_log::{Device, FileDevice};
 use std::fs;
@@ -49,7 +49,7 @@ fn a_file_that_is_missing_is_told(rt: HostRuntime) {
         Err(PrintingFault::Read(error)) => error.kind() == ErrorKind::NotFound,
         _ => false,
     };
-    assert!(rt; is_missing, "missing");
+    holds(&rt, is_missing, "missing");
 }
 
 #[test]

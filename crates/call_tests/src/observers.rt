@@ -1,0 +1,9 @@
+//! Tests of the crates that observe targets, `observation` and `observing`. They see public calls alone.
+
+mod answers;
+mod days;
+mod long;
+mod looks;
+mod once;
+mod servers;
+mod targets;

@@ -1,0 +1,172 @@
+//! What is known of entries, and who sits where.
+
+use crate::same::{holds, same};
+use chronicle::{Chronicle, Newest, Note, Who, time_text};
+use std::process::Abort;
+use std::sync::atomic::{AtomicU64, Ordering};
+use std::thread;
+use test_support::Scarcity;
+
+fn note_of(micros: u64, who: Who) -> Option<Note> {
+    Some(Note {
+        time: time_text(micros),
+        who,
+    })
+}
+
+fn expect(rt: &impl Abort, chronicle: &Chronicle, place: u32, expected: &Option<Note>) {
+    same(rt, &chronicle.noted(place), expected, &place);
+}
+
+#[test]
+fn tells_when_entries_were_made_and_who_asked(rt: HostRuntime) {
+    let chronicle = Chronicle::new(rt.alloc()).expect(&rt, "memory");
+    let entries = [
+        (2, 1_795_657_509_123_456, Who::Session(7)),
+        (0, 0, Who::Setup),
+        (4, 4_294_967_296, Who::Expiry),
+        (70_000, 4_294_967_295, Who::Session(u32::MAX)),
+        (u32::MAX, u64::MAX, Who::Session(0)),
+    ];
+    for (place, micros, who) in entries {
+        expect(&rt, &chronicle, place, &None);
+        chronicle.note(place, micros, who);
+    }
+    for (place, micros, who) in entries {
+        expect(&rt, &chronicle, place, &note_of(micros, who));
+    }
+    for place in [1, 3, 65_536, 65_538, 4_464, 135_536, 65_535] {
+        expect(&rt, &chronicle, place, &None);
+    }
+}
+
+#[test]
+fn tells_who_sits_at_a_seat(rt: HostRuntime) {
+    let chronicle = Chronicle::new(rt.alloc()).expect(&rt, "memory");
+    same(&rt, &chronicle.sitting(7), &None, &"nobody");
+    let sitting = [
+        (0, 1, Who::Expiry),
+        (1, 0, Who::Setup),
+        (7, u64::MAX, Who::Session(3)),
+        (1_023, 2, Who::Session(u32::MAX)),
+        (7, 3, Who::Session(4)),
+    ];
+    for (seat, micros, who) in sitting {
+        chronicle.sit(seat, micros, who);
+        same(&rt, &chronicle.sitting(seat), &Some((micros, who)), &seat);
+    }
+    same(&rt, &chronicle.sitting(0), &Some((1, Who::Expiry)), &"0");
+    same(&rt, &chronicle.sitting(8), &None, &"8");
+    // There is no such seat.
+    chronicle.sit(1_024, 1, Who::Expiry);
+    same(&rt, &chronicle.sitting(1_024), &None, &"1_024");
+}
+
+#[test]
+fn a_note_gives_way_to_that_of_an_entry_65536_later(rt: HostRuntime) {
+    let chronicle = Chronicle::new(rt.alloc()).expect(&rt, "memory");
+    chronicle.note(9, 1, Who::Setup);
+    chronicle.note(65_545, 2, Who::Session(2));
+    expect(&rt, &chronicle, 9, &None);
+    // A slow writer of an older place.
+    chronicle.note(9, 1, Who::Setup);
+    expect(&rt, &chronicle, 9, &None);
+    expect(&rt, &chronicle, 65_545, &note_of(2, Who::Session(2)));
+}
+
+/// How many entries setup made, and then the first and the last place whose note is kept, if one is.
+static SETUPS: [(u32, Option<(u32, u32)>); 6] = [
+    (0, None),
+    (1, Some((0, 0))),
+    (65_536, Some((0, 65_535))),
+    (65_537, Some((1, 65_536))),
+    (200_000, Some((134_464, 199_999))),
+    (u32::MAX, Some((4_294_901_759, 4_294_967_294))),
+];
+
+#[test]
+fn setup_notes_all_of_its_entries(rt: HostRuntime) {
+    for (places, kept) in &SETUPS {
+        let chronicle = Chronicle::new(rt.alloc()).expect(&rt, "memory");
+        chronicle.note_all(*places, 5, Who::Setup);
+        expect(&rt, &chronicle, *places, &None);
+        let Some((first, last)) = *kept else {
+            continue;
+        };
+        let setup = note_of(5, Who::Setup);
+        let middle = first + (last - first) / 2;
+        for place in [first, middle, last] {
+            expect(&rt, &chronicle, place, &setup);
+        }
+        if let Some(before) = first.checked_sub(1) {
+            expect(&rt, &chronicle, before, &None);
+        }
+    }
+}
+
+// Far more entries come than are kept.
+#[test]
+fn the_newest_of_a_service_stays_known(rt: HostRuntime) {
+    let chronicle = Chronicle::new(rt.alloc()).expect(&rt, "memory");
+    for place in 0..9 {
+        chronicle.note(place, u64::from(place), Who::Session(place));
+    }
+    chronicle.keep(3, Newest::Change, 4);
+    chronicle.keep(3, Newest::Report, 5);
+    chronicle.keep(15, Newest::Report, 6);
+    chronicle.keep(15, Newest::Report, 7);
+    // an older one, and one that is not known
+    chronicle.keep(15, Newest::Report, 6);
+    chronicle.keep(15, Newest::Report, 9);
+    chronicle.note_all(100_000, 9, Who::Setup);
+    for (place, is_known) in [
+        (3, false),
+        (4, true),
+        (5, true),
+        (6, false),
+        (7, true),
+        (8, false),
+    ] {
+        let note = note_of(u64::from(place), Who::Session(place));
+        let expected = if is_known { note } else { None };
+        expect(&rt, &chronicle, place, &expected);
+    }
+}
+
+#[test]
+fn a_chronicle_is_refused_without_memory(rt: HostRuntime) {
+    let scarcity = Scarcity::with_small_room(rt.alloc()).expect(&rt, "memory");
+    let refused = Chronicle::new(rt.alloc()).is_err();
+    drop(scarcity);
+    holds(&rt, refused, "2 MiB in a room of 16 KiB");
+    let chronicle = Chronicle::new(rt.alloc()).expect(&rt, "memory");
+    expect(&rt, &chronicle, 0, &None);
+}
+
+/// The entries of a thread: those of a slot are made by all threads, one round apart.
+fn note_or_look(chronicle: &Chronicle, thread: u32, wrong: &AtomicU64) {
+    for turn in 0..20_000 {
+        let place = thread % 4 * 65_536 + turn % 8;
+        chronicle.note(place, u64::from(place), Who::Session(place));
+        let other = thread.wrapping_add(1) % 4 * 65_536 + turn % 8;
+        let found = chronicle.noted(other);
+        if found.is_some() && found != note_of(u64::from(other), Who::Session(other)) {
+            wrong.store(u64::from(other), Ordering::SeqCst);
+        }
+    }
+}
+
+#[test]
+fn threads_see_no_note_of_another_entry(rt: HostRuntime) {
+    let chronicle = Chronicle::new(rt.alloc()).expect(&rt, "memory");
+    let wrong = AtomicU64::new(u64::MAX);
+    let run = |thread: usize| note_or_look(&chronicle, thread as u32, &wrong);
+    thread::map_indices(&rt, rt.alloc(), 4, &run).expect(&rt, "memory");
+    same(&rt, &wrong.load(Ordering::SeqCst), &u64::MAX, &"wrong");
+    for slot in 0..8 {
+        let place = 3 * 65_536 + slot;
+        let newest = note_of(u64::from(place), Who::Session(place));
+        expect(&rt, &chronicle, place, &newest);
+        expect(&rt, &chronicle, slot, &None);
+    }
+}

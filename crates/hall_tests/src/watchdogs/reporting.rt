@@ -1,0 +1,128 @@
+//! A report that comes while the watchdog reads the clock.
+
+ghost use Rattle.hall.specs.Seats.{IsOf};
+
+use crate::same::same;
+use crate::watchdogs::begun::{catalogue_of, watchdog_of};
+use crate::watchdogs::reading::At;
+use desk_core::{Finding, KeepMany};
+use hall::{Hall, Seat};
+use probe_core::{Start, Threshold};
+use std::alloc::Global;
+use std::cell::RefCell;
+use std::io;
+use std::process::Abort;
+use std::sync::Wait;
+use std::time::{Clock, Duration};
+use watchdog::{Watchdog, Wish};
+
+/// Whoever reports a pass of `a`, by a seat of its own.
+#[derive(Drop)]
+struct Reporter<'a, R> {
+    rt: &'a R,
+    hall: &'a Hall<Threshold, KeepMany>,
+    seat: Seat<Threshold, KeepMany>,
+    ghost fits: { IsOf hall.now seat },
+}
+
+impl<R: Wait> Reporter<'_, R> {
+    fn report(&mut self) {
+        let _ = self
+            .hall
+            .observe(self.rt, &mut self.seat, "a", Finding::Pass);
+    }
+}
+
+/// A clock that stands still at so many milliseconds, and while it is read a report comes.
+#[derive(Drop)]
+struct Reporting<'a, R> {
+    millis: u64,
+    reporter: RefCell<Reporter<'a, R>>,
+}
+
+impl<R: Wait> Clock for Reporting<'_, R> {
+    fn monotonic(&self) -> io::Result<Duration> {
+        if let Ok(mut reporter) = self.reporter.try_borrow_mut() {
+            reporter.report();
+        }
+        Ok(Duration::from_millis(self.millis))
+    }
+
+    fn since_1970(&self) -> io::Result<Duration> {
+        self.monotonic()
+    }
+}
+
+/// Has a round by this clock, and compares whether it changes a status.
+fn expect_round<R: Wait + Abort, C: Clock>(
+    rt: &R,
+    hall: &Hall<Threshold, KeepMany>,
+    watchdog: &mut Watchdog,
+    own: &mut Seat<Threshold, KeepMany>,
+    clock: &C,
+    shows: bool,
+)
+    requires own { IsOf hall.now own.old }
+    ensures own { IsOf hall.now own.new }
+{
+    let round = watchdog.round(rt, clock, hall, own).expect(rt, "a round");
+    same(rt, &round.shows, &shows, &round.at);
+}
+
+/// The report counts from the round behind it on.
+fn play_over<R: Wait + Abort>(
+    rt: &R,
+    hall: &Hall<Threshold, KeepMany>,
+    own: &mut Seat<Threshold, KeepMany>,
+    others: Seat<Threshold, KeepMany>,
+    watchdog: &mut Watchdog,
+)
+    requires own { IsOf hall.now own.old }
+    requires others { IsOf hall.now others }
+{
+    expect_round(rt, hall, watchdog, own, &At(Some(0)), false);
+    let clock = Reporting {
+        millis: 500,
+        reporter: RefCell::new(Reporter {
+            rt,
+            hall,
+            seat: others,
+        }),
+    };
+    expect_round(rt, hall, watchdog, own, &clock, false);
+    expect_round(rt, hall, watchdog, own, &At(Some(900)), false);
+    expect_round(rt, hall, watchdog, own, &At(Some(1_500)), false);
+    expect_round(rt, hall, watchdog, own, &At(Some(1_899)), false);
+    expect_round(rt, hall, watchdog, own, &At(Some(1_900)), true);
+}
+
+/// Registers `a`.
+fn register<R: Wait>(rt: &R, hall: &Hall<Threshold, KeepMany>, seat: &mut Seat<Threshold, KeepMany>)
+    requires { IsOf hall.now seat.old }
+    ensures { IsOf hall.now seat.new }
+{
+    let _ = hall.register(rt, seat, "a", Threshold::new(3, 1, Start::Up));
+}
+
+/// Has `a` be expected every second, over a new hall.
+fn play<R: Wait + Abort>(rt: &R, alloc: Global) {
+    let catalogue = catalogue_of(rt, alloc, &["a", ""]);
+    let slot = catalogue.slot("a").expect(rt, "a slot");
+    let (expectations, mut watchdog) = watchdog_of(rt, alloc);
+    let made = Hall::<Threshold, KeepMany>::new(alloc, catalogue, 100, 2);
+    let (hall, mut seats) = made.expect(rt, "a hall");
+    let mut others = seats.pop().expect(rt, "a seat");
+    let mut own = seats.pop().expect(rt, "a seat");
+    let wish = Wish {
+        seconds: 1,
+        behind: 1,
+    };
+    expectations.expect(slot, wish);
+    register(rt, &hall, &mut others);
+    play_over(rt, &hall, &mut own, others, &mut watchdog);
+}
+
+#[test]
+fn a_report_while_the_clock_is_read_counts_from_the_next_round_on(rt: HostRuntime) {
+    play(&rt, rt.alloc());
+}

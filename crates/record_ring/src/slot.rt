@@ -1,0 +1,53 @@
+use crate::packing::{halves, joined};
+use crate::record::{Missing, Record};
+use crate::word::Word;
+
+/// Room for one record, which threads share. All parts that are read of a lap were put in that lap.
+///
+/// Contracts see nothing of it.
+#[derive(Drop)]
+pub struct Slot {
+    low: Word,
+    high: Word,
+    session: Word,
+    sort: Word,
+}
+
+impl Slot {
+    /// A slot in which nothing was put.
+    pub fn new() -> Slot {
+        Slot {
+            low: Word::new(),
+            high: Word::new(),
+            session: Word::new(),
+            sort: Word::new(),
+        }
+    }
+
+    /// Its words, in the order in which a writer puts the parts of a record in.
+    pub fn words(&self) -> [&Word; 4] {
+        [&self.low, &self.high, &self.session, &self.sort]
+    }
+
+    /// Puts a record here, unless a later lap has one here.
+    pub fn put(&self, lap: u32, record: Record) {
+        let (high, low) = halves(record.micros);
+        self.low.put(lap, low);
+        self.high.put(lap, high);
+        self.session.put(lap, record.session);
+        self.sort.put(lap, record.sort);
+    }
+
+    /// The record that was put here in this lap.
+    pub fn record(&self, lap: u32) -> Result<Record, Missing> {
+        let low = self.low.part(lap)?;
+        let high = self.high.part(lap)?;
+        let session = self.session.part(lap)?;
+        let sort = self.sort.part(lap)?;
+        Ok(Record {
+            micros: joined(high, low),
+            session,
+            sort,
+        })
+    }
+}
