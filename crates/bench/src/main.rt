@@ -1,16 +1,21 @@
 //! Times the registry.
 //!
-//! - `bench desk ROUNDS` prints the nanoseconds of a call on the registry of one thread, and how many times longer one takes than
-//!   another. `bench desk ROUNDS kept` makes so many changes on a registry that keeps the last 65,536, and nothing else.
-//! - `bench hall MILLISECONDS` lets each of its runs take so long, and prints what a Check of the registry that threads share takes,
-//!   and how many changes go through.
+//! `bench MILLISECONDS` lets each of its runs take so long, and prints what a Check and a change of the registry take that threads
+//! share, beside the registry of one thread behind a lock. A call's time is that of its thread, in picoseconds.
 //!
 //! Asked for anything else, it prints nothing. The servers are timed by integration/measure.py, on the program.
 #![tactic(auto)]
 
-mod desk;
-mod halls;
+mod client;
+mod figures;
+mod names;
+mod plan;
+mod runs;
+mod timing;
 
+use crate::figures::Figures;
+use crate::plan::{Plan, Task};
+use crate::runs::{run_hall, run_lock};
 use std::env;
 use std::process::ExitCode;
 use std::rt::Env;
@@ -18,39 +23,55 @@ use std::sync::Wait;
 use std::thread::Threads;
 use std::time::{Clock, Duration};
 
-/// What the command line asks for.
-enum Run {
-    Desk(desk::Run),
-    Halls(Duration),
-}
-
 fn main(rt: HostRuntime) -> ExitCode {
-    let Some(run) = asked(&rt) else {
+    let Some(limit) = asked(&rt) else {
         return ExitCode::SUCCESS;
     };
-    match bench(&rt, run) {
+    match bench(&rt, limit) {
         Some(()) => ExitCode::SUCCESS,
         None => ExitCode::FAILURE,
     }
 }
 
-fn asked<R: Env + AllocGlobal>(rt: &R) -> Option<Run> {
+/// How long each run takes.
+fn asked<R: Env + AllocGlobal>(rt: &R) -> Option<Duration> {
     let words: Vec<String> = env::args(rt).ok()?.collect(rt.alloc()).ok()?;
-    run_of(&words)
+    let milliseconds: u32 = words.get(1)?.parse().ok()?;
+    Some(Duration::from_millis(u64::from(milliseconds)))
 }
 
-fn run_of(words: &[String]) -> Option<Run> {
-    let asked = words.get(2..)?;
-    match words.get(1)?.as_str() {
-        "desk" => Some(Run::Desk(desk::asked(asked)?)),
-        "hall" => Some(Run::Halls(halls::asked(asked)?)),
-        _ => None,
+fn bench<R: Print + Clock + AllocGlobal + Threads + Wait + Sync>(
+    rt: &R,
+    limit: Duration,
+) -> Option<()> {
+    for threads in [1, 2, 4] {
+        report(rt, "check", Plan::new(Task::Check, threads, 0, limit))?;
+        report(
+            rt,
+            "check beside a change",
+            Plan::new(Task::Check, threads, 1, limit),
+        )?;
     }
+    for threads in [1, 2, 4, 8, 16, 64] {
+        report(rt, "change", Plan::new(Task::Change, threads, 0, limit))?;
+    }
+    Some(())
 }
 
-fn bench<R: Print + Clock + AllocGlobal + Threads + Wait + Sync>(rt: &R, run: Run) -> Option<()> {
-    match run {
-        Run::Desk(run) => desk::measure(rt, run),
-        Run::Halls(limit) => halls::measure(rt, limit),
-    }
+/// A run at a hall, and one at a registry behind a lock.
+fn report<R: Print + Clock + AllocGlobal + Threads + Wait + Sync>(
+    rt: &R,
+    what: &str,
+    plan: Plan,
+) -> Option<()> {
+    let hall = run_hall(rt, rt.alloc(), plan)?;
+    print(rt, what, plan.threads, "hall", hall)?;
+    let lock = run_lock(rt, rt.alloc(), plan)?;
+    print(rt, what, plan.threads, "lock", lock)
+}
+
+fn print(rt: &impl Print, what: &str, threads: u16, at: &str, figures: Figures) -> Option<()> {
+    let each = figures.per_call()?;
+    let worst = figures.worst.as_micros();
+    println!(rt; "{what}, {threads} threads, {at}: {each} ps, at most {worst} us").ok()
 }

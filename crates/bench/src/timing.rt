@@ -1,7 +1,7 @@
-use crate::halls::client::Client;
-use crate::halls::figures::Figures;
-use crate::halls::names::NAMES;
-use crate::halls::plan::Task;
+use crate::client::Client;
+use crate::figures::Figures;
+use crate::names::NAMES;
+use crate::plan::Task;
 use desk_core::Setting;
 use std::sync::Wait;
 use std::time::{Clock, Duration, Instant};
