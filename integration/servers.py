@@ -6,6 +6,7 @@ import socket
 import subprocess
 import sys
 import tempfile
+import threading
 import time
 
 HERE = os.path.dirname(os.path.realpath(__file__))
@@ -41,10 +42,39 @@ def fails(name, why):
     sys.exit(1)
 
 
+class Pauses:
+    """How long this machine runs nothing: on each processor a thread sleeps again and again, and takes down where it woke too late."""
+
+    NAP = 0.02
+
+    def __init__(self):
+        self.seen = []
+        for processor in os.sched_getaffinity(0):
+            threading.Thread(target=self.nap, args=(processor,), daemon=True).start()
+
+    def nap(self, processor):
+        os.sched_setaffinity(0, {processor})  # of this thread alone
+        while True:
+            begins = time.monotonic()
+            time.sleep(self.NAP)
+            ends = time.monotonic()
+            if ends - begins > 2 * self.NAP:
+                self.seen.append((ends, ends - begins - self.NAP))
+
+    def since(self, begins):
+        """The longest that has ended since then."""
+        return max((seconds for ended, seconds in list(self.seen) if ended >= begins), default=0.0)
+
+
+PAUSES = Pauses()
+
+
 def measured(name, seconds, most):
-    """Holds where it took no longer, and tells how long it took."""
-    holds(f"{name}, within {most:g} s", seconds <= most, f"it took {seconds:.2f} s")
-    print(f"measured {CHECK} {name}: {seconds:.3f} s", flush=True)
+    """Holds where what is over now took no longer, but for a pause of the whole machine, and tells how long it took."""
+    pause = PAUSES.since(time.monotonic() - seconds)
+    told = f"{seconds:.3f} s" + (f", with a pause of the machine of {pause:.3f} s" if pause else "")
+    holds(f"{name}, within {most:g} s", seconds <= most + pause, f"it took {told}")
+    print(f"measured {CHECK} {name}: {told}", flush=True)
 
 
 def timed(act, *args):

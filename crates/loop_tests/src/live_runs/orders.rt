@@ -176,7 +176,7 @@ fn tells_what_was_made_when_out_of_memory(rt: HostRuntime) {
     let first = replies_in(&rt, alloc, ROOM / 2);
     same(&rt, &first, &Some(2), &"half the room");
     let (mut untold, mut fewer, mut all) = (0u32, 0u32, 0u32);
-    for steps in 0..ROOM / 32 {
+    for steps in 0..ROOM / STEP {
         match replies_in(&rt, alloc, steps * STEP) {
             None => untold = untold.wrapping_add(1),
             Some(2) => {

@@ -232,7 +232,7 @@ fn replies_in<R: Abort + Wait>(rt: &R, alloc: Global, script: &Script, left: usi
 fn goes_on_behind_each_growth_that_is_refused(rt: HostRuntime) {
     let script = script_of(&rt, rt.alloc(), &LINES_OF_A);
     let mut tally = Tally::new();
-    for steps in 0..128usize {
+    for steps in 0..64usize {
         tally.count(replies_in(&rt, rt.alloc(), &script, steps * STEP));
     }
     assert!(rt;
@@ -268,7 +268,7 @@ fn hall_in<R: Abort + Wait>(rt: &R, alloc: Global, left: usize) -> Option<u64> {
 #[test]
 fn refuses_each_growth_of_a_hall(rt: HostRuntime) {
     let mut tally = Tally::new();
-    for steps in 0..256usize {
+    for steps in 0..128usize {
         tally.count(hall_in(&rt, rt.alloc(), steps * STEP));
     }
     assert!(rt; tally.unmet > 1 && tally.all > 0, "{tally:?}");

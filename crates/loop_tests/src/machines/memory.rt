@@ -115,7 +115,7 @@ const REFUSED: &[u8] = b"refused no memory\nnot found\n";
 const PAIRS: usize = 256;
 
 /// So often each line is answered, with more and more room, once there is enough.
-const ENOUGH: usize = 8;
+const ENOUGH: usize = 3;
 
 /// In the first turn nothing has come yet, and in the second one the first line.
 const FIRST_TURNS: u32 = 2;
