@@ -18,6 +18,7 @@
 #![tactic(auto)]
 
 mod chronicle;
+mod laws;
 mod newest;
 mod refusals;
 mod refused;
@@ -27,6 +28,7 @@ mod time;
 mod who;
 
 pub use crate::chronicle::{Chronicle, Note};
+pub use crate::laws::spots_tell_places_apart;
 pub use crate::newest::Newest;
 pub use crate::refusals::Refusals;
 pub use crate::refused::Refused;

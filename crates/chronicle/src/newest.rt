@@ -1,11 +1,16 @@
+ghost use Rattle.std.specs.Prelude.{◌≡◌, ◌+◌, ◌*◌, ◌^◌, ◌<◌};
+
 use record_ring::{Record, Slot};
 use std::alloc::{AllocError, Global};
 
 /// How many services there can be.
 const SERVICES: u32 = 16;
 
-/// The lap of a slot in which nothing was put yet. No entry has this place: there are at most as many entries.
-const NO_PLACE: u32 = u32::MAX;
+/// How many places there are in a quarter of all.
+const QUARTER: u32 = 0x4000_0000;
+
+/// A slot for each quarter of the places: the laps of a slot are less than half a round apart, however far apart the entries are.
+type Quarters = [Slot; 4];
 
 /// What an entry is the newest of, for a service.
 #[derive(Clone, Copy, Debug, PartialEq, Eq)]
@@ -21,8 +26,8 @@ pub enum Newest {
 /// Contracts see nothing of it.
 #[derive(Drop)]
 pub(crate) struct NewestRecords {
-    changes: Vec<Slot>,
-    reports: Vec<Slot>,
+    changes: Vec<Quarters>,
+    reports: Vec<Quarters>,
 }
 
 impl NewestRecords {
@@ -35,20 +40,18 @@ impl NewestRecords {
 
     /// Keeps the record of the entry at a place for the service of this number, unless a later one is kept.
     pub(crate) fn keep(&self, service: u8, newest: Newest, place: u32, record: Record) {
-        let slots = match newest {
+        let services = match newest {
             Newest::Change => &self.changes,
             Newest::Report => &self.reports,
         };
-        if let Some(slot) = slots.get(usize::from(service)) {
-            slot.put(place, record);
+        let (quarter, lap) = in_quarters(place);
+        if let Some(quarters) = services.get(usize::from(service)) {
+            quarters[quarter].put(lap, record);
         }
     }
 
     /// The record of the entry at a place, if it is kept for some service.
     pub(crate) fn record(&self, place: u32) -> Option<Record> {
-        if place == NO_PLACE {
-            return None;
-        }
         match record_in(&self.changes, place) {
             Some(record) => Some(record),
             None => record_in(&self.reports, place),
@@ -56,18 +59,28 @@ impl NewestRecords {
     }
 }
 
-/// A slot for each service. What is put there has its place for a lap.
-fn slots(alloc: Global) -> Result<Vec<Slot>, AllocError> {
-    let mut slots = Vec::with_capacity(alloc, SERVICES as usize)?;
+/// The slots of each service.
+fn slots(alloc: Global) -> Result<Vec<Quarters>, AllocError> {
+    let mut services = Vec::with_capacity(alloc, SERVICES as usize)?;
     for _ in 0..SERVICES {
-        slots.push(Slot::new())?;
+        services.push([Slot::new(), Slot::new(), Slot::new(), Slot::new()])?;
     }
-    Ok(slots)
+    Ok(services)
 }
 
-fn record_in(slots: &[Slot], place: u32) -> Option<Record> {
-    for slot in slots {
-        if let Ok(record) = slot.record(place) {
+/// The quarter that a place lies in, and how far behind its first place, which is its lap there.
+fn in_quarters(place: u32) -> (usize, u32)
+    ensures place { place ≡ result.0 * 2 ^ 30 + result.1 }
+    ensures quarter { result.0 < 4 }
+    ensures lap { result.1 < 2 ^ 30 }
+{
+    ((place / QUARTER) as usize, place % QUARTER)
+}
+
+fn record_in(services: &[Quarters], place: u32) -> Option<Record> {
+    let (quarter, lap) = in_quarters(place);
+    for quarters in services {
+        if let Ok(record) = quarters[quarter].record(lap) {
             return Some(record);
         }
     }

@@ -1,10 +1,11 @@
-ghost use Rattle.std.specs.Prelude.{◌≡◌, ◌^◌, ◌%◌, ◌<◌, ℕ};
-ghost use Rattle.record_ring.specs.Spot.{spot_of};
+ghost use Rattle.std.specs.Prelude.{◌+◌, ◌^◌, ◌%◌, ◌<◌, ℕ};
+ghost use Rattle.record_ring.specs.Laps.{IsBefore};
 
-/// A slot and a lap tell which place it is: of all entries, and of refusals of all that are less than 2^42 apart.
-pub fn spots_tell_places_apart()
-    ensures entries { (place other : ℕ) → place < 2 ^ 32 → other < 2 ^ 32
-        → spot_of 65536 place ≡ spot_of 65536 other → place ≡ other }
-    ensures refusals { (place other : ℕ) → spot_of 1024 place ≡ spot_of 1024 other
-        → place % 2 ^ 42 ≡ other % 2 ^ 42 }
+/// Of two laps that are less than half a round apart the earlier one comes first, also where their number goes round, and the later one
+/// does not.
+pub fn laps_come_in_their_order()
+    ensures before { (lap step : ℕ) → 0 < step → step < 2 ^ 31
+        → IsBefore (lap % 2 ^ 32) ((lap + step) % 2 ^ 32) }
+    ensures behind { (lap step : ℕ) → step < 2 ^ 31
+        → ¬ (IsBefore ((lap + step) % 2 ^ 32) (lap % 2 ^ 32)) }
 {}

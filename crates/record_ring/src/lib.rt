@@ -21,7 +21,7 @@ mod ring;
 mod slot;
 mod word;
 
-pub use crate::laws::spots_tell_places_apart;
+pub use crate::laws::laps_come_in_their_order;
 pub use crate::packing::{halves, joined};
 pub use crate::record::{Missing, Record};
 pub use crate::ring::Ring;

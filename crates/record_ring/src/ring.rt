@@ -15,7 +15,8 @@ fn spot_of(count: u64, place: u64) -> Option<(u64, u32)>
     Some((at, lap as u32))
 }
 
-/// The records of the newest places, one in each slot, which threads share.
+/// The records of the newest places, one in each slot, which threads share. Places are put in about in their order, from 0 on: those that
+/// meet in a slot are less than 2^31 laps apart.
 ///
 /// Contracts see nothing of it.
 #[derive(Drop)]

@@ -4,6 +4,9 @@ use crate::word::Word;
 
 /// Room for one record, which threads share. All parts that are read of a lap were put in that lap.
 ///
+/// The number of laps goes round at 2^32, so laps that meet in a slot have to be less than 2^31 apart: of two such the later one is known.
+/// Nothing was put into a new slot but, as it were, zeros in lap 2^32 − 1, the one before the first.
+///
 /// Contracts see nothing of it.
 #[derive(Drop)]
 pub struct Slot {
@@ -29,7 +32,7 @@ impl Slot {
         [&self.low, &self.high, &self.session, &self.sort]
     }
 
-    /// Puts a record here, unless a later lap has one here.
+    /// Puts a record here, unless a later lap, or the same, has one here.
     pub fn put(&self, lap: u32, record: Record) {
         let (high, low) = halves(record.micros);
         self.low.put(lap, low);

@@ -45,7 +45,7 @@ fn part_at(word: u64, lap: u32) -> Result<u32, Missing>
 }
 
 impl Word {
-    /// Nothing was put here yet: it has the lap before the first one.
+    /// Nothing was put here yet: it has 0 in the lap before the first one, 2^32 − 1.
     pub fn new() -> Word {
         Word {
             word: AtomicU64::new(joined(u32::MAX, 0)),

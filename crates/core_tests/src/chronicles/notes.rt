@@ -133,6 +133,23 @@ fn the_newest_of_a_service_stays_known(rt: HostRuntime) {
     }
 }
 
+/// Places far behind one another, of which each is the newest of its service when it is kept.
+const FAR: [u32; 4] = [10, 0x7fff_ffff, 0x8000_0014, 0xfffe_fffe];
+
+#[test]
+fn the_newest_is_known_however_far_behind_the_one_before(rt: HostRuntime) {
+    let chronicle = Chronicle::new(rt.alloc()).expect(&rt, "memory");
+    for place in FAR {
+        let who = Who::Session(place);
+        chronicle.note(place, u64::from(place), who);
+        chronicle.keep(3, Newest::Change, place);
+        // It has the place of its slot among the newest entries.
+        chronicle.note(place.saturating_add(65_536), 0, Who::Setup);
+        expect(&rt, &chronicle, place, &note_of(u64::from(place), who));
+    }
+    expect(&rt, &chronicle, u32::MAX, &None);
+}
+
 #[test]
 fn a_chronicle_is_refused_without_memory(rt: HostRuntime) {
     let scarcity = Scarcity::with_small_room(rt.alloc()).expect(&rt, "memory");

@@ -152,3 +152,28 @@ fn threads_never_see_a_record_of_another_place(rt: HostRuntime) {
         expect(&rt, &ring, place, Ok(record_at(place)));
     }
 }
+
+/// Where a search in a ring of three slots starts and ends, and the place that it finds: that of 1 is written over, and that of 5 awaited.
+static SEARCHES: [(u64, u64, Option<u64>); 8] = [
+    (0, 7, Some(2)),
+    (0, 5, Some(2)),
+    (0, 2, None),
+    (2, 2, None),
+    (2, 3, Some(2)),
+    (3, 7, Some(4)),
+    (5, 7, None),
+    (6, 7, Some(6)),
+];
+
+#[test]
+fn finds_the_first_place_that_is_kept(rt: HostRuntime) {
+    let ring = Ring::new(rt.alloc(), 3).expect(&rt, "memory");
+    for place in [0, 1, 2, 3, 4, 6] {
+        ring.put(place, record_at(place));
+    }
+    for (start, end, found) in SEARCHES {
+        let expected = found.map(|place| (place, record_at(place)));
+        let found = ring.first_kept(start, end);
+        same(&rt, &found, &expected, &(start, end));
+    }
+}
