@@ -20,7 +20,7 @@ pub struct RequestReader {
 
 impl RequestReader {
     /// Reads from this stream, through a buffer.
-    pub fn new(alloc: Global, stream: TcpStream) -> io::Result<RequestReader> {
+    pub(crate) fn new(alloc: Global, stream: TcpStream) -> io::Result<RequestReader> {
         Ok(RequestReader {
             reader: BufReader::new(alloc, stream)?,
         })

@@ -9,7 +9,7 @@ pub struct ResponseWriter {
 
 impl ResponseWriter {
     /// Writes to this stream.
-    pub fn new(stream: TcpStream) -> ResponseWriter {
+    pub(crate) fn new(stream: TcpStream) -> ResponseWriter {
         ResponseWriter { stream }
     }
 
