@@ -1,11 +1,9 @@
 -- The entries of a journal that a run begins with.
-use Rattle.std.proofs.Common.{◌≡◌, ◌≤◌, ℕ, List, [], ◌∷◌, ◌++◌, map, refl, sym, ap, subst, ◌∙◌}
-use Rattle.std.specs.List.{All}
+use Rattle.std.proofs.Common.{◌≡◌, ◌≤◌, ℕ, List, [], ◌∷◌, ◌++◌, refl, sym, ap, subst, ◌∙◌}
 use Rattle.std.proofs.lemmas.List.Elements.{All-head, All-tail, All-map}
 use Rattle.desk_core.specs.declared.entry.Entry.{Entry}
 use Rattle.desk_core.specs.Left.{Left, Holds, HasLeft, LeavesJournal}
 use Rattle.desk_core.specs.Mutation.{entry_of}
-use Rattle.desk_core.specs.Past.{past}
 use Rattle.desk_core.proofs.LeftLemmas.{holds_all, holds_on}
 use Rattle.entry_record.specs.declared.stored.Stored.{Stored}
 use Rattle.hall.specs.CarriedOut.{replied}

@@ -1,6 +1,9 @@
-ghost use Rattle.std.specs.Prelude.{◌≡◌, true, IfOk};
+ghost use Rattle.std.specs.Prelude.{◌≡◌, ◌≤◌, true, max, length, IfOk};
+ghost use Rattle.hall.specs.Seats.{new_seats};
 ghost use Rattle.record_log.specs.Log.{texts};
 ghost use Rattle.journal_store.specs.Record.{restored_of};
+ghost use Rattle.server.specs.Again.{changes_of, replies_of};
+ghost use Rattle.server.specs.Setup.{AreSetUp};
 ghost use Rattle.server.specs.Storing.{HasItsEntries};
 ghost use Rattle.durable.specs.Journal.{FirstHasSeenIts};
 
@@ -187,21 +190,54 @@ impl<'a, R: Files<File = File> + AllocGlobal, W: Witness> Journal<'a, R, W> {
             found,
         } = self;
         new_file.keep();
-        let Ok(len) = u32::try_from(entries.len()) else {
-            return Err(OpeningFault::TooLong);
-        };
-        let most = max_entries.max(len);
-        let front = catalogue.len() + 1;
-        let again = match hall_again(rt, alloc, catalogue, most, &entries, maker, seats) {
-            Ok(again) => again,
-            Err(AgainFault::Memory) => return Err(OpeningFault::Memory),
-            Err(AgainFault::Illegal(number)) => {
-                let place = place_of(&found, front.saturating_add(number));
-                return Err(OpeningFault::Damaged(place));
-            }
-        };
+        let again = made_again(
+            rt,
+            alloc,
+            catalogue,
+            entries,
+            found,
+            max_entries,
+            maker,
+            seats,
+        )?;
         let made = stored_in(rt, again, store)?;
         Ok(made)
+    }
+}
+
+/// A hall of this catalogue with so many seats, of which the first has made the entries again that were found in the file. It takes at
+/// most so many entries, or those alone where they are more.
+fn made_again<S: Wait, P: Probe, K: Keep, M: Maker<P>>(
+    rt: &S,
+    alloc: Global,
+    catalogue: Catalogue,
+    entries: Vec<Entry>,
+    found: Vec<Vec<u8>>,
+    max_entries: u32,
+    maker: &M,
+    seats: u16,
+) -> Result<SetUpHall<P, K>, OpeningFault>
+    requires some { 1 ≤ seats }
+    requires not_too_many { seats ≤ 1024 }
+    ensures hall { IfOk result (λ made. (made.hall.names ≡ catalogue)
+        × (made.hall.most ≡ max max_entries (length entries.items))
+        × (made.hall.seats ≡ seats)) }
+    ensures seats { IfOk result (λ made. AreSetUp (changes_of entries.items) made.results
+        (new_seats made.hall.table made.hall.most seats) made.seats) }
+    ensures replies { IfOk result (λ made. made.results ≡ replies_of entries.items) }
+{
+    let Ok(len) = u32::try_from(entries.len()) else {
+        return Err(OpeningFault::TooLong);
+    };
+    let most = max_entries.max(len);
+    let front = catalogue.len() + 1;
+    match hall_again(rt, alloc, catalogue, most, &entries, maker, seats) {
+        Ok(again) => Ok(again),
+        Err(AgainFault::Memory) => Err(OpeningFault::Memory),
+        Err(AgainFault::Illegal(number)) => {
+            let place = place_of(&found, front.saturating_add(number));
+            Err(OpeningFault::Damaged(place))
+        }
     }
 }
 

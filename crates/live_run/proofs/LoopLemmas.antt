@@ -17,7 +17,7 @@ use Rattle.control.specs.declared.terms.Terms.{Terms}
 use Rattle.live_run.specs.Sitting.{terms_by}
 use Rattle.live_run.specs.Watched.{IsWatchedBy}
 use Rattle.live_run.specs.declared.watchdog_loop.WatchdogLoop.{WatchdogLoop}
-use Rattle.std.specs.Prelude.{Bool, true, false, Option, None, Some}
+use Rattle.std.specs.Prelude.{Option}
 use Rattle.live_run.proofs.WatchLemmas.{watched_ours}
 use Rattle.live_run.specs.Loops.{EndedEmpty, AllLookedAndEnded, AllEndedEmpty, SeatsHaveLooked, SeatsAfterRun}
 

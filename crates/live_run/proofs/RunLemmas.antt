@@ -1,9 +1,10 @@
 -- The history of a hall that was run, where its first seat alone has made changes.
-use Rattle.std.proofs.Common.{◌≡◌, ℕ, zero, suc, ◌+◌, ◌-◌, ◌<◌, ◌≤◌, ◌≢◌, List, [], length, get_or, sym, refl, ap, subst, ◌∙◌, arith}
-use Rattle.std.specs.Prelude.{min, reverse, Option, None, Some, IfNone, Result, vec_len}
+use Rattle.std.proofs.Common.{◌≡◌, ℕ, suc, ◌+◌, ◌-◌, ◌<◌, ◌≢◌, List, [], length, get_or, sym, ap, subst, ◌∙◌, arith}
+use Rattle.std.specs.Prelude.{min, reverse, Option, None, Some, IfSome, IfNone, Result, Ok, Err, IfOk, IfErr, vec_len}
 use Rattle.std.specs.List.{All, slice_index_or, sum_by}
 use Rattle.std.proofs.lemmas.List.{length-map, length-reverse, reverse-reverse}
 use Rattle.std.proofs.lemmas.List.Elements.{All-get_or}
+use Rattle.std.proofs.lemmas.Result.{IfOk-weaker}
 use Rattle.desk_core.specs.declared.call.Call.{Call}
 use Rattle.desk_core.specs.declared.entry.Entry.{Entry}
 use Rattle.desk_core.specs.declared.refusal.Refusal.{Refusal}
@@ -21,13 +22,14 @@ use Rattle.server.proofs.OwnLemmas.{made, alone, own_alone, own_setup}
 use Rattle.live_run.specs.declared.loops_fault.LoopsFault.{LoopsFault}
 use Rattle.live_run.specs.declared.loops_fault.LoopsFault.TheVariants as faults
 use Rattle.live_server.specs.Loop.{EventServer}
+use Rattle.live_run.specs.declared.ran.Ran.{Ran}
 use Rattle.live_run.specs.declared.ran.SessionPlaces.{SessionPlaces}
 use Rattle.live_run.specs.declared.seated_loop.SeatedLoop.{SeatedLoop}
 use Rattle.live_run.specs.declared.seating.Seating.{Seating}
 use Rattle.live_run.specs.declared.watchdog_loop.WatchdogLoop.{WatchdogLoop}
 use Rattle.live_run.specs.Loops.{SeatsHaveLooked, SeatsAfterRun}
 use Rattle.live_run.specs.Seating.{IsSeatingOf, seats_of}
-use Rattle.live_run.specs.WholeRun.{HasRun, HasRunLoops, IsLaterFault, NoMemory, SeatsMissing}
+use Rattle.live_run.specs.WholeRun.{HasRun, HasRunLoops, IsClosedBy, IsLaterFault, NoMemory, SeatsMissing, loops_fault}
 use Rattle.live_run.proofs.LoopLemmas.{made_nothing}
 use Rattle.live_run.proofs.WatchLemmas.{watched_begins}
 
@@ -113,12 +115,81 @@ has_run_beside kept places places_now hall own loops controlled seats after desk
 pub entries_are : (hall : HallState) (loops : ℕ) (seats : List SeatState) (journal : List Entry) → HasRunLoops hall loops seats (past journal) → length journal ≡ sum_by made seats
 entries_are hall loops seats journal ran = sym (length-reverse journal) ∙ (ran.counted ∙ made_nothing loops seats ran.after ran.looked)
 
--- why loops that have seats did not run the hall to its end
-pub no_memory_later : (found : Option LoopsFault) (made : SetUpState) → IfNone found (IsLaterFault made faults.NoMemory)
-no_memory_later None made = NoMemory
-no_memory_later (Some fault) made = tt
+-- what holds of a value of which two facts hold
+by_both : {X E : Type 0} (result : Result X E) (P Q R : X → Type 0) → ((x : X) → P x → Q x → R x) → IfOk result P → IfOk result Q → IfOk result R
+by_both (Ok x) P Q R together first second = together x first second
+by_both (Err fault) P Q R together first second = tt
 
-pub missing_later : (found : Option LoopsFault) (made : SetUpState) (own : HallState) (after : List SeatState) → own ≡ made.hall → length after ≡ length made.seats
-    → length after ≢ own.seats → IfNone found (IsLaterFault made faults.SeatsMissing)
-missing_later None made own after same back missing = SeatsMissing (λ all. missing (back ∙ (all ∙ ap (λ (one : HallState). one.seats) (sym same))))
-missing_later (Some fault) made own after same back missing = tt
+abbrev result_of : (X : Type 0) → LoopsFault → Result X LoopsFault
+result_of X fault = Err fault
+
+abbrev made_of : {X : Type 0} → X → Result X LoopsFault
+made_of x = Ok x
+
+-- why loops that have no seats did not run the hall: the fault of their number, or memory ran out
+pub refused_by : (X Y : Type 0) (loops : ℕ) (seats places : List SeatState) (fault : LoopsFault) → places ≡ seats
+    → IfSome (loops_fault loops (length places)) (λ other. result_of X fault ≡ Err other) → IfSome (loops_fault loops (length seats)) (λ other. result_of Y fault ≡ Err other)
+refused_by X Y loops seats places fault same refused =
+    same_fault (loops_fault loops (length seats)) (subst (λ (all : List SeatState). IfSome (loops_fault loops (length all)) (λ other. result_of X fault ≡ Err other)) same refused)
+  where
+    same_fault : (found : Option LoopsFault) → IfSome found (λ other. result_of X fault ≡ Err other) → IfSome found (λ other. result_of Y fault ≡ Err other)
+    same_fault None met = tt
+    same_fault (Some other) met = cc
+
+pub later_by_memory : (loops : ℕ) (made : SetUpState) (places : List SeatState) (fault : LoopsFault) → places ≡ made.seats → IfNone (loops_fault loops (length places)) (fault ≡ faults.NoMemory)
+    → IfNone (loops_fault loops (length made.seats)) (IsLaterFault made fault)
+later_by_memory loops made places fault same is =
+    later (loops_fault loops (length made.seats)) (subst (λ (all : List SeatState). IfNone (loops_fault loops (length all)) (fault ≡ faults.NoMemory)) same is)
+  where
+    later : (found : Option LoopsFault) → IfNone found (fault ≡ faults.NoMemory) → IfNone found (IsLaterFault made fault)
+    later None is = subst (IsLaterFault made) (sym is) NoMemory
+    later (Some other) is = tt
+
+-- loops that got their seats were not refused
+pub not_refused : {X Y : Type 0} (loops : ℕ) (seats places : List SeatState) (seating : X) (result : Result Y LoopsFault) → places ≡ seats
+    → IfSome (loops_fault loops (length places)) (λ fault. made_of seating ≡ Err fault) → IfSome (loops_fault loops (length seats)) (λ fault. result ≡ Err fault)
+not_refused {X} {Y} loops seats places seating result same refused =
+    none (loops_fault loops (length seats)) (subst (λ (all : List SeatState). IfSome (loops_fault loops (length all)) (λ fault. made_of seating ≡ Err fault)) same refused)
+  where
+    none : (found : Option LoopsFault) → IfSome found (λ fault. made_of seating ≡ Err fault) → IfSome found (λ fault. result ≡ Err fault)
+    none None met = tt
+    none (Some fault) met = let no : ⊥ = cc in absurd no
+
+-- what is said of a hall once it is closed with the seats that came back
+module _ {P K : Type 0} (result : Result (Ran P K) LoopsFault) (made : SetUpState) (own : HallState) (after : List SeatState) (same : own ≡ made.hall) where
+  pub closed_late : (found : Option LoopsFault) → length after ≡ length made.seats → IfErr result (λ fault. (fault ≡ faults.SeatsMissing) × (length after ≢ own.seats)) → IfNone found (IfErr result (IsLaterFault made))
+  closed_late found back missing = later found result missing
+    where
+      later : (found : Option LoopsFault) (result : Result (Ran P K) LoopsFault) → IfErr result (λ fault. (fault ≡ faults.SeatsMissing) × (length after ≢ own.seats)) → IfNone found (IfErr result (IsLaterFault made))
+      later None (Ok ran) missing = tt
+      later None (Err fault) missing = subst (IsLaterFault made) (sym missing.0) (SeatsMissing (λ all. missing.1 (back ∙ (all ∙ ap (λ (one : HallState). one.seats) (sym same)))))
+      later (Some other) result missing = tt
+
+  pub closed_most : IfOk result (λ ran. IsClosedBy own after ran.desk) → IfOk result (λ ran. ran.desk.max_entries ≡ made.hall.most)
+  closed_most = IfOk-weaker result (λ ran. IsClosedBy own after ran.desk) (λ ran. ran.desk.max_entries ≡ made.hall.most) (λ ran closed. closed.most ∙ ap (λ (one : HallState). one.most) same)
+
+  pub closed_alone : (loops : ℕ) → SeatsHaveLooked loops made.seats after → IfOk result (λ ran. IsClosedBy own after ran.desk)
+      → IfOk result (λ ran. HasRunLoops made.hall loops made.seats (past ran.desk.journal))
+  closed_alone loops looked =
+      IfOk-weaker result (λ ran. IsClosedBy own after ran.desk) (λ ran. HasRunLoops made.hall loops made.seats (past ran.desk.journal))
+      (λ ran closed. has_run made.hall own loops made.seats after ran.desk.journal same looked closed.all closed.legal closed.seen closed.counted)
+
+  pub closed_entries : (loops : ℕ) → IfOk result (λ ran. HasRunLoops made.hall loops made.seats (past ran.desk.journal)) → IfOk result (λ ran. length ran.desk.journal ≡ sum_by (λ seat. length (own_calls seat)) made.seats)
+  closed_entries loops =
+      IfOk-weaker result (λ ran. HasRunLoops made.hall loops made.seats (past ran.desk.journal)) (λ ran. length ran.desk.journal ≡ sum_by (λ seat. length (own_calls seat)) made.seats)
+      (λ ran alone. entries_are made.hall loops made.seats ran.desk.journal alone)
+
+  pub closed_setup : (loops : ℕ) → loops < length made.seats → IfOk result (λ ran. HasRunLoops made.hall loops made.seats (past ran.desk.journal))
+      → IfOk result (λ ran. (calls : List (Option Call)) → AreSetUp calls made.results (new_seats made.hall.table made.hall.most made.hall.seats) made.seats → ran.desk.journal ≡ replied 0 calls made.results)
+  closed_setup loops few =
+      IfOk-weaker result (λ ran. HasRunLoops made.hall loops made.seats (past ran.desk.journal))
+      (λ ran. (calls : List (Option Call)) → AreSetUp calls made.results (new_seats made.hall.table made.hall.most made.hall.seats) made.seats → ran.desk.journal ≡ replied 0 calls made.results)
+      (λ ran alone calls set. journal_set made.hall loops made.seats ran.desk.journal calls made.results alone few set)
+
+  pub closed_ran : (kept : Option ℕ) (places back : SessionPlaces) (loops controlled : ℕ) → loops < length made.seats → controlled ≡ min 32 (length made.seats - (1 + loops))
+      → SeatsAfterRun kept places.watchdog back.watchdog own.most own.names loops controlled made.seats after → IfOk result (λ ran. ran.places ≡ back) → IfOk result (λ ran. IsClosedBy own after ran.desk)
+      → IfOk result (λ ran. HasRun kept places ran.places made.hall loops made.seats ran.desk)
+  closed_ran kept places back loops controlled few split served =
+      by_both result (λ ran. ran.places ≡ back) (λ ran. IsClosedBy own after ran.desk) (λ ran. HasRun kept places ran.places made.hall loops made.seats ran.desk)
+      (λ ran are closed. subst (λ (now : SessionPlaces). HasRun kept places now made.hall loops made.seats ran.desk) (sym are)
+      (has_run_beside kept places back made.hall own loops controlled made.seats after ran.desk same few split served closed.all closed.legal closed.seen closed.taken_back closed.counted))

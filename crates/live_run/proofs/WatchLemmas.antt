@@ -1,5 +1,5 @@
 -- Rounds of a watchdog, and the seat that it makes its fails by.
-use Rattle.std.proofs.Common.{◌≡◌, ℕ, List, [], ◌∷◌, get_or, refl, sym, subst}
+use Rattle.std.proofs.Common.{ℕ, List, [], ◌∷◌, get_or, refl, sym, subst}
 use Rattle.std.specs.Prelude.{Bool, true, false, Option, None, Some, Result}
 use Rattle.std.specs.declared.time.Instant.{Instant}
 use Rattle.desk_core.specs.declared.call.Call.{Call}
@@ -15,7 +15,7 @@ use Rattle.live_run.specs.Watched.{IsWatchedBy, guards_at, guards_in}
 use Rattle.live_run.specs.declared.watchdog_loop.WatchdogLoop.{WatchdogLoop}
 use Rattle.watchdog.specs.Falling.{HaveFailed, NoFail, OneMore, HasFallen, Down, WasRefused}
 use Rattle.watchdog.specs.Guard.{GuardState}
-use Rattle.watchdog.specs.Watching.{HasWatched, HaveWished, NoWish, HasMissedRound, NoRound, OneRound, Misses, HaveStepped, NoStep, OneStep, IsStep, Stays, Follows, PassesBy, Skips, Waits, Expires, IsRefused}
+use Rattle.watchdog.specs.Watching.{HasWatched, NoWish, NoRound, OneRound, Misses, HaveStepped, NoStep, OneStep, IsStep, Stays, Follows, PassesBy, Skips, Waits, Expires, IsRefused}
 use Rattle.watchdog.proofs.FallLemmas.{carried_of}
 
 -- rounds behind rounds

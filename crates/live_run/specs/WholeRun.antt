@@ -26,6 +26,17 @@ pub data IsLaterFault (made : SetUpState) : LoopsFault → Type 0 where
   NoMemory : IsLaterFault made faults.NoMemory
   SeatsMissing : length made.seats ≢ made.hall.seats → IsLaterFault made faults.SeatsMissing
 
+-- this hall was closed with these seats, all that it has, and this is what was left of it: its history is legal, it goes on from what each
+-- seat has seen, with no more entries of that seat, its entries are as many as those that the seats have made, and no crash takes back
+-- anything of it that was told
+pub record IsClosedBy (hall : HallState) (seats : List SeatState) (desk : State) : Type 0 where
+  pub all : length seats ≡ hall.seats
+  pub most : desk.max_entries ≡ hall.most
+  pub legal : IsLegal (past desk.journal)
+  pub seen : All (IsSeenIn (past desk.journal)) seats
+  pub taken_back : NothingTakenBack desk seats
+  pub counted : length desk.journal ≡ sum_by (λ seat. length (own_calls seat)) seats
+
 -- At most so many loops have looked at this hall, by the seats behind the first. Then all seats came back, and the hall had this
 -- history: it is legal, it goes on from what each seat has seen, with no more entries of that seat, and its entries are as many as
 -- those that the seats have made

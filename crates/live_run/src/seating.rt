@@ -5,13 +5,14 @@ ghost use Rattle.live_run.specs.Loops.{AllLookedAndEnded};
 ghost use Rattle.live_run.specs.Seating.{AreDivided};
 
 use crate::counters::Counters;
-use crate::ran::SessionPlaces;
+use crate::loops_fault::LoopsFault;
+use crate::ran::{Ran, SessionPlaces};
 use crate::seated_loop::{SeatedLoop, serve_loops};
 use crate::sitting::Sitting;
 use crate::watched::{Watch, serve_watched};
 use control_server::SESSION_SEATS;
 use desk_core::Keep;
-use hall::{Hall, Seat};
+use hall::{Closed, Hall, Seat};
 use live_server::{EventServer, News};
 use probe_core::{Maker, Probe};
 use std::alloc::{AllocError, Global};
@@ -39,12 +40,69 @@ pub(crate) struct Back<P: Probe, K: Keep> {
     pub(crate) places: SessionPlaces,
 }
 
+impl<P: Probe, K: Keep> Back<P, K> {
+    ghost use Rattle.std.specs.Prelude.{◌≡◌, ◌≢◌, length, IfOk, IfErr};
+    ghost use Rattle.std.specs.List.{All};
+    ghost use Rattle.hall.specs.Seats.{IsOf};
+    ghost use Rattle.live_run.specs.declared.loops_fault.LoopsFault.TheVariants as faults;
+    ghost use Rattle.live_run.specs.WholeRun.{IsClosedBy};
+
+    /// Closes the hall that these seats are of.
+    pub(crate) fn close(self, hall: Hall<P, K>) -> Result<Ran<P, K>, LoopsFault>
+        requires ours { All (IsOf hall) self.seats.items }
+        ensures missing { IfErr result (λ fault. (fault ≡ faults.SeatsMissing)
+            × (length self.seats.items ≢ hall.seats)) }
+        ensures servers { IfOk result (λ ran. ran.servers ≡ self.servers) }
+        ensures places { IfOk result (λ ran. ran.places ≡ self.places) }
+        ensures closed { IfOk result (λ ran. IsClosedBy hall self.seats.items ran.desk) }
+    {
+        let Back {
+            servers,
+            seats,
+            places,
+        } = self;
+        let Ok(Closed { desk, .. }) = hall.close(seats) else {
+            return Err(LoopsFault::SeatsMissing);
+        };
+        Ok(Ran {
+            servers,
+            places,
+            desk,
+        })
+    }
+}
+
 impl<P: Probe, K: Keep> Seating<P, K> {
-    ghost use Rattle.std.specs.Prelude.{◌≡◌, ◌<◌, vec_len, IfOk};
+    ghost use Rattle.std.specs.Prelude.{◌≡◌, ◌<◌, vec_len, length, Err, IfSome, IfNone, IfOk, IfErr};
+    ghost use Rattle.live_run.specs.declared.loops_fault.LoopsFault.TheVariants as faults;
     ghost use Rattle.live_run.specs.Seating.{HasRoom, IsSeatingOf, IsUndivided, seats_of, servers_of};
+    ghost use Rattle.live_run.specs.WholeRun.{loops_fault};
 
     /// Gives each loop one of the seats behind the first, and divides those behind theirs. It takes all memory.
     pub(crate) fn new(
+        alloc: Global,
+        servers: Vec<EventServer>,
+        seats: Vec<Seat<P, K>>,
+        counters: &Arc<Counters>,
+    ) -> Result<Seating<P, K>, LoopsFault>
+        ensures refused { IfSome (loops_fault (vec_len servers) (length seats.items))
+            (λ fault. result ≡ Err fault) }
+        ensures failed { IfNone (loops_fault (vec_len servers) (length seats.items))
+            (IfErr result (λ fault. fault ≡ faults.NoMemory)) }
+        ensures enough { IfOk result (λ seating. vec_len servers < length seats.items) }
+        ensures seated { IfOk result (IsSeatingOf servers.items seats.items) }
+    {
+        if let Some(fault) = LoopsFault::of(servers.len(), seats.len()) {
+            return Err(fault);
+        }
+        match Seating::with_room(alloc, servers, seats, counters) {
+            Ok(seating) => Ok(seating),
+            Err(AllocError) => Err(LoopsFault::NoMemory),
+        }
+    }
+
+    /// The same, where there is a seat for each loop and one more.
+    fn with_room(
         alloc: Global,
         servers: Vec<EventServer>,
         seats: Vec<Seat<P, K>>,

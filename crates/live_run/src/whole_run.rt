@@ -11,9 +11,8 @@ ghost use Rattle.live_run.specs.WholeRun.{AreNone, HasRun, HasRunLoops, HaveEnde
 use crate::counters::Counters;
 use crate::loops_fault::LoopsFault;
 use crate::ran::{Ran, SessionPlaces};
-use crate::seating::{Back, Seating};
+use crate::seating::Seating;
 use desk_core::Keep;
-use hall::Closed;
 use live_server::{EventServer, News};
 use probe_core::{Maker, Probe};
 use server::SetUpHall;
@@ -69,23 +68,11 @@ where
         → ran.desk.journal ≡ replied 0 calls made.results) }
 {
     let (hall, seats) = made.into_hall();
-    if let Some(fault) = LoopsFault::of(servers.len(), seats.len()) {
-        return Err(fault);
+    match Seating::new(alloc, servers, seats, counters) {
+        Ok(seating) => {
+            let back = seating.serve(rt, &hall, places, maker, news);
+            back.close(hall)
+        }
+        Err(fault) => Err(fault),
     }
-    let Ok(seating) = Seating::new(alloc, servers, seats, counters) else {
-        return Err(LoopsFault::NoMemory);
-    };
-    let Back {
-        servers,
-        seats,
-        places,
-    } = seating.serve(rt, &hall, places, maker, news);
-    let Ok(Closed { desk, .. }) = hall.close(seats) else {
-        return Err(LoopsFault::SeatsMissing);
-    };
-    Ok(Ran {
-        servers,
-        places,
-        desk,
-    })
 }
