@@ -5,5 +5,6 @@ mod reading;
 mod reporting;
 mod rows;
 mod scene;
+mod sixteen;
 mod telling;
 mod watching;

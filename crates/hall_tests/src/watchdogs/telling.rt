@@ -5,8 +5,9 @@ ghost use Rattle.hall.specs.Seats.{IsOf};
 
 use crate::same::same;
 use crate::watchdogs::begun::{catalogue_of, handle_of, watchdog_of};
+use crate::watchdogs::sixteen::KeepSixteen;
 use chronicle::Who;
-use desk_core::{Entry, Finding, Keep, KeepMany, NotStored, Refusal};
+use desk_core::{Finding, Keep, KeepMany, Refusal};
 use diary::{Diary, Held, Setup};
 use hall::{Hall, Seat};
 use log_lines::Outlet;
@@ -32,24 +33,6 @@ impl Clock for At {
 
     fn since_1970(&self) -> io::Result<Duration> {
         self.monotonic()
-    }
-}
-
-/// The last sixteen.
-#[derive(Drop)]
-struct KeepSixteen;
-
-impl Keep for KeepSixteen {
-    ghost use Rattle.std.specs.Prelude.{Some};
-
-    ghost kept = { Some 16 };
-
-    fn kept() -> Option<u32> {
-        Some(16)
-    }
-
-    fn store(&mut self, entries: &[Entry]) -> Result<(), NotStored> {
-        Ok(())
     }
 }
 

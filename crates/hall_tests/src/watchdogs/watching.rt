@@ -8,31 +8,14 @@ use crate::watchdogs::rows::{
     FAR_BEHIND, FORGETTING, FORGETTING_ASLEEP, FULL, HEARING_AGAIN, MANY, ROWS, Step, TOLD, TWO,
 };
 use crate::watchdogs::scene::Scene;
-use desk_core::{Entry, Keep, KeepMany, NotStored};
+use crate::watchdogs::sixteen::KeepSixteen;
+use desk_core::{Keep, KeepMany};
 use hall::{Hall, Seat};
 use probe_core::{Start, Threshold};
 use std::alloc::Global;
 use std::process::Abort;
 use std::sync::{Arc, Wait};
 use watchdog::{Expectations, Watchdog};
-
-/// The last sixteen.
-#[derive(Drop)]
-struct KeepSixteen;
-
-impl Keep for KeepSixteen {
-    ghost use Rattle.std.specs.Prelude.{Some};
-
-    ghost kept = { Some 16 };
-
-    fn kept() -> Option<u32> {
-        Some(16)
-    }
-
-    fn store(&mut self, entries: &[Entry]) -> Result<(), NotStored> {
-        Ok(())
-    }
-}
 
 /// As many names as there are slots.
 const NAMES: [&str; 16] = [
