@@ -8,7 +8,7 @@ use Rattle.desk_core.specs.declared.entry.Entry.{Entry}
 use Rattle.desk_core.specs.declared.refusal.Refusal.{Refusal}
 use Rattle.desk_core.specs.declared.reply.Reply.{Reply}
 use Rattle.desk_core.specs.Mutation.{AreAnswered, Ends, Then, IsAnswered, Taken, NotListed, BadRule, Full, NoMemory, NotStored, entry_of}
-use Rattle.hall.specs.Seats.{HallState, SeatState, IsCarriedOut, new_seats}
+use Rattle.hall.specs.Seats.{SeatState, IsCarriedOut, new_seats}
 use Rattle.hall.specs.CarriedOut.{replied}
 use Rattle.server.specs.Again.{changes_of, replies_of}
 use Rattle.server.specs.Setup.{SetUpState, AreSetUp}

@@ -1,5 +1,5 @@
 -- How the command `run` sets its hall up over a journal in a file. Journals have their oldest entry first.
-use Rattle.std.specs.Prelude.{ℕ, ◌≡◌, List, max, length, Option, Result}
+use Rattle.std.specs.Prelude.{ℕ, ◌≡◌, List, max, length, Result}
 use Rattle.std.specs.List.{All}
 use Rattle.desk_core.specs.declared.entry.Entry.{Entry}
 use Rattle.desk_core.specs.declared.refusal.Refusal.{Refusal}

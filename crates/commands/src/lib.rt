@@ -26,6 +26,7 @@ pub mod answer;
 pub mod ask;
 pub mod ask_failure;
 pub mod asking_place;
+pub mod begun;
 pub mod body;
 pub mod bounds;
 pub mod cause;

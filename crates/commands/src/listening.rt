@@ -52,10 +52,7 @@ where
     let calls = listener_of(rt, made, options.listen, sockets)?;
     let address = address_of(&calls, options.listen)?;
     let plain = plain_of(rt, made, options.plain, sockets)?;
-    let plain_address = match &plain {
-        Some(plain) => Some(address_of(plain, options.plain.unwrap_or(options.listen))?),
-        None => None,
-    };
+    let plain_address = plain_address_of(&plain, options)?;
     let control = sessions_at(rt, alloc, made, options.control, Access::Owner)?;
     let report = sessions_at(rt, alloc, made, options.report, Access::Group)?;
     Ok(Listening {
@@ -148,6 +145,20 @@ pub fn sessions_at<'a, R: Files + Net, P: Probe, K: Keep>(
     match ControlListener::bind(rt, alloc, place, access) {
         Ok(listener) => Ok(Some(listener)),
         Err(error) => Err(bind_failure(error, place)),
+    }
+}
+
+/// Where the socket of plain requests listens, if there is one.
+fn plain_address_of<'a>(
+    plain: &Option<TcpListener>,
+    options: RunOptions<'a>,
+) -> Result<Option<SocketAddr>, RunFailure<'a>> {
+    match plain {
+        Some(plain) => {
+            let asked = options.plain.unwrap_or(options.listen);
+            Ok(Some(address_of(plain, asked)?))
+        }
+        None => Ok(None),
     }
 }
 

@@ -3,6 +3,7 @@ ghost use Rattle.std.specs.Prelude.{◌≡◌, ◌++◌, IfOk, codes, string_byt
 ghost use Rattle.control.specs.Place.{place_text};
 
 use crate::listening::Listening;
+use crate::run::print_line;
 use crate::run_failure::{RunFailure, failure_by};
 use control::{ControlListener, Place};
 use std::alloc::{AllocError, Global};
@@ -21,6 +22,17 @@ pub fn lines_of<'a>(
     let control = place_line(alloc, "control", &listening.control)?;
     let report = place_line(alloc, "report", &listening.report)?;
     Ok([Some(calls), plain, control, report])
+}
+
+/// Prints the lines that there are, in their order.
+pub(crate) fn print_lines<'a, R: Print>(
+    rt: &R,
+    lines: &ListeningLines,
+) -> Result<(), RunFailure<'a>> {
+    for line in lines.iter().flatten() {
+        print_line(rt, line)?;
+    }
+    Ok(())
 }
 
 /// The line that tells where calls are answered.

@@ -1,11 +1,13 @@
 ghost use Rattle.std.specs.Prelude.{◌≡◌, ◌↔◌, IfOk, IfSome, IsSome, vec_len};
 ghost use Rattle.control.specs.declared.terms.Terms.{Terms};
 ghost use Rattle.control_server.specs.Server.{terms_of};
+ghost use Rattle.live_run.specs.Sitting.{terms_by};
 ghost use Rattle.commands.specs.Run.{AreLoopsOf};
 
+use crate::listening::Listening;
 use crate::run_failure::{RunFailure, failure_by};
 use crate::tallies::tallies_of;
-use control::{ControlListener, Terms};
+use control::{ControlListener, Rights, Terms};
 use control_server::ControlServer;
 use handover::Notifier;
 use live_server::{Acceptor, EventServer, News, Places, ServerLimits};
@@ -15,6 +17,65 @@ use std::net::{Net, TcpListener, TcpStream};
 use std::sync::Arc;
 use std::time::Clock;
 use watchdog::Expectations;
+
+/// The loops of a run: those over calls, and those over the sessions of each place that it has.
+#[derive(Drop)]
+pub struct Loops {
+    pub servers: Vec<EventServer>,
+    pub news: News,
+    pub control: Option<ControlServer>,
+    pub report: Option<ControlServer>,
+}
+
+/// Loops at these sockets, so many of them over calls, for a history of at most so many entries. Each has the sockets too, and closes them
+/// at the end, so that clients which come late are refused.
+pub fn loops_at<'a, R>(
+    rt: &R,
+    alloc: Global,
+    listening: Listening,
+    limits: ServerLimits,
+    loops: u16,
+    most: u32,
+    expectations: &Arc<Expectations>,
+) -> Result<Loops, RunFailure<'a>>
+where
+    R: Clock + Net<Listener = TcpListener, Stream = TcpStream>,
+    ensures each { IfOk result (λ made. vec_len made.servers ≡ loops) }
+    ensures limits { IfOk result (λ made. AreLoopsOf limits made.servers.items) }
+    ensures controlled { IfOk result (λ made. IsSome made.control ↔ IsSome listening.control) }
+    ensures reported { IfOk result (λ made. IsSome made.report ↔ IsSome listening.report) }
+    ensures all { IfOk result (λ made. IfSome made.control
+        (λ server. terms_of server ≡ terms_by Rights.All most)) }
+    ensures reports { IfOk result (λ made. IfSome made.report
+        (λ server. terms_of server ≡ terms_by Rights.Reports most)) }
+{
+    let Listening {
+        calls,
+        address: _,
+        plain,
+        plain_address: _,
+        control,
+        report,
+    } = listening;
+    let (servers, news) = event_loops(rt, alloc, &calls, &plain, limits, loops)?;
+    let all = terms_with(Rights::All, most);
+    let control = session_loop(rt, alloc, control, &servers, all, expectations)?;
+    let reports = terms_with(Rights::Reports, most);
+    let report = session_loop(rt, alloc, report, &servers, reports, expectations)?;
+    Ok(Loops {
+        servers,
+        news,
+        control,
+        report,
+    })
+}
+
+/// The terms of sessions with these rights, over a history of at most so many entries.
+fn terms_with(rights: Rights, most: u32) -> Terms
+    ensures { result ≡ terms_by rights most }
+{
+    Terms { rights, most }
+}
 
 /// So many loops, which share places for these limits, and what tells them news.
 pub fn event_loops<'a, R>(

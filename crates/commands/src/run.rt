@@ -1,32 +1,26 @@
-ghost use Rattle.std.specs.Prelude.{◌≡◌, ◌↔◌, ◌≤◌, ◌<◌, ◌+◌, ◌++◌, [], List, Option, None, Some, IfOk, IfErr, IfSome, IsSome, true, codes, decimal, length, string_bytes, vec_len};
+ghost use Rattle.std.specs.Prelude.{◌≡◌, ◌≤◌, ◌<◌, ◌+◌, ◌++◌, List, Option, None, Some, IfOk, IfErr, IfSome, IsSome, true, codes, decimal, length, string_bytes, vec_len};
 ghost use Rattle.desk_core.specs.declared.call.Call.{Call};
 ghost use Rattle.desk_core.specs.Past.{past};
 ghost use Rattle.hall.specs.Seats.{new_seats};
 ghost use Rattle.server.specs.Setup.{AreSetUp};
-ghost use Rattle.live_run.specs.Sitting.{terms_by};
 ghost use Rattle.live_run.specs.Loops.{AllEndedEmpty};
 ghost use Rattle.live_run.specs.WholeRun.{AreNone, HasRun, HasRunLoops, HaveEnded, HaveTerms};
 ghost use Rattle.live_run.specs.declared.loops_fault.LoopsFault.TheVariants.{NoMemory};
 ghost use Rattle.commands.specs.declared.run_failure.RunFailure.TheVariants.{OutOfMemory, Refused};
-ghost use Rattle.commands.specs.Run.{AreLoopsOf, AreMadeAlone, EndsSetUp, IsSetUpBy, IsWhollySetUp, limits_in};
+ghost use Rattle.commands.specs.Run.{AreMadeAlone, EndsSetUp, IsSetUpBy, IsWhollySetUp};
 
+use crate::begun::{Begun, Setting, begin};
 use crate::bounds::{Bounds, MAX_LOOPS};
-use crate::expected::{entries_of, expected_in, first_failure, waking, watch_over};
+use crate::expected::{entries_of, expected_in, first_failure};
 use crate::files::{bounds_within, reserved};
 use crate::input::read_script_bytes;
 use crate::journaled::set_up_over;
-use crate::listening::{Listening, listen_at_all};
-use crate::listening_lines::{ListeningLines, lines_of};
-use crate::loops::{event_loops, notifying, session_loop};
 use crate::run_failure::{RunFailure, failure_by, script_failure};
 use crate::run_options::{RunOptions, Source};
 use crate::supervisor::Supervisor;
-use crate::tallies::{counters_of, gauges_of};
 use chronicle::{Who, wall_micros};
-use control::{Rights, Terms};
-use control_server::{MAX_SESSIONS, SESSION_SEATS};
+use control_server::SESSION_SEATS;
 use desk_core::{Keep, KeepAll, KeepMany};
-use diary::{Held, Setup};
 use live_run::{Counters, LoopsFault, Ran, RefusedLine, SessionPlaces, first_refused, run_live};
 use live_server::{EventServer, News};
 use open_files::open_files;
@@ -35,7 +29,7 @@ use script::{Expected, Mode, read_script};
 use server::{SetUpHall, hall_of};
 use std::alloc::{AllocError, Global};
 use std::fs::File;
-use std::net::{Net, SocketAddr, TcpListener, TcpStream};
+use std::net::{Net, TcpListener, TcpStream};
 use std::rt::Files;
 use std::sync::{Arc, Wait};
 use std::thread::Threads;
@@ -107,12 +101,8 @@ where
     requires served { loops ≤ options.bounds.connections }
 {
     let alloc = rt.alloc();
-    let made = set_up::<R, P, KeepMany, M>(rt, alloc, maker, bytes, seats_for(loops));
-    let (made, expected) = match expected_in(alloc, bytes)? {
-        Ok(expected) => (made?, expected),
-        Err(line) => return Err(first_failure(made.err(), line)),
-    };
-    let expectations = Arc::new(alloc, Expectations::new(alloc)?)?;
+    let (made, expected) = set_up_expecting(rt, alloc, maker, bytes, seats_for(loops))?;
+    let expectations = new_expectations(alloc)?;
     let chronicle = expectations.chronicle();
     chronicle.note_all(entries_of(&made), wall_micros(rt), Who::Setup);
     let setting = Setting {
@@ -150,14 +140,8 @@ where
     requires served { loops ≤ options.bounds.connections }
 {
     let alloc = rt.alloc();
-    let expected = match expected_in(alloc, bytes)? {
-        Ok(expected) => expected,
-        Err(line) => {
-            let made = set_up::<R, P, KeepAll, M>(rt, alloc, maker, bytes, 1);
-            return Err(first_failure(made.err(), line));
-        }
-    };
-    let expectations = Arc::new(alloc, Expectations::new(alloc)?)?;
+    let expected = expected_first(rt, alloc, maker, bytes)?;
+    let expectations = new_expectations(alloc)?;
     let seats = seats_for(loops);
     let made = set_up_over(rt, alloc, maker, bytes, seats, path, &expectations)?;
     let setting = Setting {
@@ -169,14 +153,44 @@ where
     run_set_up(rt, alloc, maker, made, setting, supervisor)
 }
 
-/// What a server is told that runs over a hall that is set up.
-#[derive(Drop)]
-pub struct Setting<'a, 'b> {
-    pub options: RunOptions<'a>,
-    pub loops: u16,
-    /// What the script expects.
-    pub expected: &'b [Expected],
-    pub expectations: Arc<Expectations>,
+/// A hall that the script has set up, with so many seats, and what it expects. What was refused first is the failure.
+fn set_up_expecting<'a, R: Wait, P: Probe, M: Maker<P>>(
+    rt: &R,
+    alloc: Global,
+    maker: &M,
+    bytes: &[u8],
+    seats: u16,
+) -> Result<(SetUpHall<P, KeepMany>, Vec<Expected>), RunFailure<'a>>
+    requires some { 1 ≤ seats }
+    requires not_too_many { seats ≤ 1024 }
+    ensures { IfOk result (λ made. IsSetUpBy bytes.now seats made.0) }
+{
+    let made = set_up::<R, P, KeepMany, M>(rt, alloc, maker, bytes, seats);
+    match expected_in(alloc, bytes)? {
+        Ok(expected) => Ok((made?, expected)),
+        Err(line) => Err(first_failure(made.err(), line)),
+    }
+}
+
+/// What the script expects. Where some of it does not stand, and its setup has an earlier failure, that one is told.
+fn expected_first<'a, R: Wait, P: Probe, M: Maker<P>>(
+    rt: &R,
+    alloc: Global,
+    maker: &M,
+    bytes: &[u8],
+) -> Result<Vec<Expected>, RunFailure<'a>> {
+    match expected_in(alloc, bytes)? {
+        Ok(expected) => Ok(expected),
+        Err(line) => {
+            let made = set_up::<R, P, KeepAll, M>(rt, alloc, maker, bytes, 1);
+            Err(first_failure(made.err(), line))
+        }
+    }
+}
+
+/// Nothing is expected yet.
+fn new_expectations(alloc: Global) -> Result<Arc<Expectations>, AllocError> {
+    Ok(Arc::new(alloc, Expectations::new(alloc)?)?)
 }
 
 /// Runs a server over a hall that is set up, until it is told to end.
@@ -201,13 +215,41 @@ where
     requires enough { setting.loops < made.hall.seats }
     requires served { setting.loops ≤ setting.options.bounds.connections }
 {
+    let begun = begin(rt, alloc, &made, setting, supervisor)?;
+    let ran = serve_begun(rt, alloc, made, begun, maker)?;
+    tell_end(rt, alloc, ran)
+}
+
+/// Serves by what has begun until it is told to end, and gives back what is left of the hall then.
+fn serve_begun<'a, R, P: Probe + Send, K: Keep + Send, M: Maker<P> + Sync>(
+    rt: &R,
+    alloc: Global,
+    made: SetUpHall<P, K>,
+    begun: Begun,
+    maker: &M,
+) -> Result<Ran<P, K>, RunFailure<'a>>
+where
+    R: Clock + Wait + Threads + Sync,
+    requires set_up { (calls : List (Option Call)) × IsWhollySetUp calls made }
+    requires some { 1 ≤ vec_len begun.servers }
+    requires enough { vec_len begun.servers < made.hall.seats }
+    requires terms { HaveTerms made.hall.most begun.places }
+{
     let Begun {
         servers,
         news,
         places,
         counters,
-    } = begin(rt, alloc, &made, setting, supervisor)?;
-    let ran = serve_to_end(rt, alloc, made, servers, places, maker, &counters, &news)?;
+    } = begun;
+    serve_to_end(rt, alloc, made, servers, places, maker, &counters, &news)
+}
+
+/// Tells how many entries a run leaves, once the files of its sockets are taken away.
+fn tell_end<'a, R: Print + Files, P: Probe, K: Keep>(
+    rt: &R,
+    alloc: Global,
+    ran: Ran<P, K>,
+) -> Result<(), RunFailure<'a>> {
     remove_sockets(rt, &ran);
     let line = journal_line(alloc, &ran)?;
     // Whoever reads the line may have the journal's file.
@@ -267,100 +309,6 @@ fn bounded<'a, R: Files + Eprint>(
         );
     }
     Ok(within)
-}
-
-/// What listens, and has told where.
-#[derive(Drop)]
-pub struct Begun {
-    pub servers: Vec<EventServer>,
-    pub news: News,
-    pub places: SessionPlaces,
-    /// What plain requests are told of the server.
-    pub counters: Arc<Counters>,
-}
-
-/// Listens at all places with so many loops, for a hall that is set up, and prints the lines that tell so.
-pub fn begin<'a, R, P: Probe, K: Keep>(
-    rt: &R,
-    alloc: Global,
-    made: &SetUpHall<P, K>,
-    setting: Setting<'a, '_>,
-    supervisor: Supervisor,
-) -> Result<Begun, RunFailure<'a>>
-where
-    R: Print + Files + Clock + Net<Listener = TcpListener, Stream = TcpStream>,
-    requires set_up { (calls : List (Option Call)) × IsWhollySetUp calls made.now }
-    requires some { 1 ≤ setting.loops }
-    requires served { setting.loops ≤ setting.options.bounds.connections }
-    ensures each { IfOk result (λ begun. vec_len begun.servers ≡ setting.entry.loops) }
-    ensures limits { IfOk result (λ begun. AreLoopsOf (limits_in setting.entry.options.bounds)
-        begun.servers.items) }
-    ensures controlled { IfOk result (λ begun. IsSome begun.places.control ↔ IsSome
-        setting.entry.options.control) }
-    ensures reported { IfOk result (λ begun. IsSome begun.places.report ↔ IsSome
-        setting.entry.options.report) }
-    ensures terms { IfOk result (λ begun. HaveTerms made.now.hall.most begun.places) }
-    // where there are no sessions and nothing is expected, no watchdog makes changes
-    ensures unwatched { setting.entry.options.control ≡ None
-        → setting.entry.options.report ≡ None → setting.entry.expected.now ≡ []
-        → IfOk result (λ begun. begun.places.watchdog ≡ None) }
-{
-    let Setting {
-        options,
-        loops,
-        expected,
-        expectations,
-    } = setting;
-    let Supervisor {
-        mut sockets,
-        notifier,
-        outlet,
-    } = supervisor;
-    let listening = listen_at_all(rt, alloc, made, options, &mut sockets)?;
-    let lines = lines_of(alloc, &listening)?;
-    let Listening {
-        calls,
-        address,
-        plain,
-        plain_address: _,
-        control,
-        report,
-    } = listening;
-    // Each loop has the socket too, and closes it at the end, so that clients which come late are refused.
-    let (servers, news) = event_loops(rt, alloc, &calls, &plain, options.bounds.limits(), loops)?;
-    let watching = watch_over(rt, alloc, made, expected, expectations)?;
-    let news = waking(news, &watching)?;
-    let most = made.most();
-    let told = &watching.expectations;
-    let all = terms_with(Rights::All, most);
-    let control = session_loop(rt, alloc, control, &servers, all, told)?;
-    let reports = terms_with(Rights::Reports, most);
-    let report = session_loop(rt, alloc, report, &servers, reports, told)?;
-    let has_sessions = options.control.is_some() || options.report.is_some();
-    let gauges = gauges_of(alloc, &servers, &control, &report)?;
-    let counters = counters_of(alloc, most, &gauges, told)?;
-    let setup = setup_of(made, address, options.bounds);
-    let outlet = if options.is_quiet { None } else { outlet };
-    let watching = watching.telling(alloc, outlet, setup, gauges)?;
-    print_lines(rt, &lines)?;
-    let _ = notifier.ready();
-    Ok(Begun {
-        servers,
-        news,
-        places: SessionPlaces {
-            watchdog: watching.needed(has_sessions || !expected.is_empty()),
-            control: notifying(control, notifier),
-            report,
-        },
-        counters,
-    })
-}
-
-/// The terms of sessions with these rights, over a history of at most so many entries.
-fn terms_with(rights: Rights, most: u32) -> Terms
-    ensures { result ≡ terms_by rights most }
-{
-    Terms { rights, most }
 }
 
 /// As many as the system lets this process use, and no more than a server has loops.
@@ -434,24 +382,6 @@ fn refused<'a, P: Probe, K: Keep>(made: SetUpHall<P, K>, line: RefusedLine) -> R
     }
 }
 
-/// What a diary is told of a hall that is set up, and serves here within these bounds.
-fn setup_of<P: Probe, K: Keep>(
-    made: &SetUpHall<P, K>,
-    address: SocketAddr,
-    bounds: Bounds,
-) -> Setup {
-    Setup {
-        address,
-        entries: entries_of(made),
-        most: made.most(),
-        room: Held {
-            connections: bounds.connections(),
-            watches: bounds.watches(),
-            sessions: u32::from(MAX_SESSIONS),
-        },
-    }
-}
-
 /// The line that tells how many entries the history has.
 fn journal_line<P: Probe, K: Keep>(alloc: Global, ran: &Ran<P, K>) -> Result<String, AllocError>
     ensures { IfOk result (λ line. string_bytes line ≡ codes "journal " ++ decimal
@@ -461,15 +391,7 @@ fn journal_line<P: Probe, K: Keep>(alloc: Global, ran: &Ran<P, K>) -> Result<Str
     format!(in alloc; "journal {entries}")
 }
 
-/// Prints the lines that there are, in their order.
-fn print_lines<'a, R: Print>(rt: &R, lines: &ListeningLines) -> Result<(), RunFailure<'a>> {
-    for line in lines.iter().flatten() {
-        print_line(rt, line)?;
-    }
-    Ok(())
-}
-
-fn print_line<'a, R: Print>(rt: &R, line: &str) -> Result<(), RunFailure<'a>> {
+pub(crate) fn print_line<'a, R: Print>(rt: &R, line: &str) -> Result<(), RunFailure<'a>> {
     match println!(rt; "{line}") {
         Ok(()) => Ok(()),
         Err(error) => Err(failure_by(error, RunFailure::Write)),

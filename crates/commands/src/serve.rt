@@ -5,7 +5,7 @@ use crate::options::{HOST, MAX_WORKERS};
 use clap::ArgMatches;
 use probe_core::{Maker, Probe};
 use script::{Mode, read_script};
-use server::{Capacity, hall_of, serve};
+use server::{Capacity, Served, SetUpHall, hall_of, serve};
 use std::alloc::Global;
 use std::io;
 use std::io::Write;
@@ -70,11 +70,25 @@ where
     let script = read_script(alloc, bytes, Mode::Serve)?;
     let seats = capacity.workers.min(MAX_WORKERS) + MORE_SEATS;
     let made = hall_of(rt, alloc, script, maker, seats)?;
-    let listener = listen(rt, port)?;
-    let served = serve(rt, alloc, made, &listener, capacity)?;
+    let served = serve_at(rt, alloc, made, port, capacity)?;
     let mut output = String::new(alloc);
     served.put(&mut output)?;
     Ok(output)
+}
+
+/// Serves at the port over a hall that is set up.
+fn serve_at<R, P: Probe + Send>(
+    rt: &R,
+    alloc: Global,
+    made: SetUpHall<P>,
+    port: u16,
+    capacity: Capacity,
+) -> Result<Served<P>, Fault>
+where
+    R: Print + Wait + Threads + Sync + Net<Listener = TcpListener, Stream = TcpStream>,
+{
+    let listener = listen(rt, port)?;
+    Ok(serve(rt, alloc, made, &listener, capacity)?)
 }
 
 /// Binds the port, and prints where it listens before a connection is accepted. Standard output keeps nothing back.

@@ -29,7 +29,6 @@ const LIMITS: ServerLimits = ServerLimits {
 };
 
 /// The loop over the sessions of a server, in one thread.
-#[derive(Drop)]
 pub struct ControlServer {
     sessions: EventLoop<ControlAcceptor, ControlStream, Session>,
     tallies: Vec<Arc<Tally>>,
@@ -41,6 +40,19 @@ pub struct ControlServer {
     notifier: Notifier,
     /// What its sessions expect of services.
     expectations: Arc<Expectations>,
+}
+
+impl Drop for ControlServer {
+    fn drop(self) {
+        let ControlServer {
+            sessions: _,
+            tallies: _,
+            stops: _,
+            terms: _,
+            notifier: _,
+            expectations: _,
+        } = self;
+    }
 }
 
 impl ControlServer {

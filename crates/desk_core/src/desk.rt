@@ -33,7 +33,6 @@ use std::marker::Model;
 /// The registry of one thread: it owns the probes of sixteen slots, and the journal of all changes, of which it keeps as many as
 /// `K` says. What it has forgotten shows in `journal_kept` and `step_kept` alone. Where it has a store, each entry is stored before
 /// anything shows it.
-#[derive(Drop)]
 pub struct Desk<P: Probe, K: Keep = KeepAll> {
     slots: Slots<P>,
     is_shut: bool,
@@ -42,6 +41,20 @@ pub struct Desk<P: Probe, K: Keep = KeepAll> {
     latest: LatestOfAll,
     max_entries: u32,
     store: Option<K>,
+}
+
+impl<P: Probe, K: Keep> Drop for Desk<P, K> {
+    fn drop(self) {
+        let Desk {
+            slots: _,
+            is_shut: _,
+            history: _,
+            marks: _,
+            latest: _,
+            max_entries: _,
+            store: _,
+        } = self;
+    }
 }
 
 impl<P: Probe, K: Keep> Model for Desk<P, K> {
@@ -134,7 +147,16 @@ impl<P: Probe, K: Keep> Desk<P, K> {
         ensures left { IfSome result (λ store. K.left store ≡ self.left) }
         ensures some { self.is_stored ≡ true → IsSome result }
     {
-        self.store
+        let Desk {
+            store,
+            slots: _,
+            is_shut: _,
+            history: _,
+            marks: _,
+            latest: _,
+            max_entries: _,
+        } = self;
+        store
     }
 
     /// Whether it has a store.

@@ -41,7 +41,6 @@ pub struct Setup {
 /// is written too.
 ///
 /// It looks by a seat that is lent to it. Contracts see nothing of what it writes.
-#[derive(Drop)]
 pub struct Diary {
     expectations: Arc<Expectations>,
     /// Where the server serves, until that is told.
@@ -56,6 +55,23 @@ pub struct Diary {
     batch: Batch,
     pen: Pen,
     bounds: Bounds,
+}
+
+impl Drop for Diary {
+    fn drop(self) {
+        let Diary {
+            expectations: _,
+            address: _,
+            refusals: _,
+            own_refusals: _,
+            has_more: _,
+            moment: _,
+            story: _,
+            batch: _,
+            pen: _,
+            bounds: _,
+        } = self;
+    }
 }
 
 impl Diary {

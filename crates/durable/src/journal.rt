@@ -1,6 +1,8 @@
 ghost use Rattle.std.specs.Prelude.{◌≡◌, ◌≤◌, true, max, length, IfOk};
 ghost use Rattle.hall.specs.Seats.{new_seats};
-ghost use Rattle.record_log.specs.Log.{texts};
+ghost use Rattle.desk_core.specs.Left.{Holds};
+ghost use Rattle.record_log.specs.FileView.{IsReadyFile};
+ghost use Rattle.record_log.specs.Log.{IsReady, texts};
 ghost use Rattle.journal_store.specs.Record.{restored_of};
 ghost use Rattle.server.specs.Again.{changes_of, replies_of};
 ghost use Rattle.server.specs.Setup.{AreSetUp};
@@ -13,7 +15,7 @@ use crate::place::place_of;
 use chronicle::{Chronicle, Who};
 use desk_core::{Catalogue, Entry, Keep};
 use entry_record::Stored;
-use journal_store::{FileMedium, FileStore, JournalStore, Preface, RecordFault, Witness};
+use journal_store::{FileMedium, FileStore, JournalStore, Medium, Preface, RecordFault, Witness};
 use probe_core::{Maker, Probe};
 use record_log::{FileDevice, RecordLog};
 use server::{AgainFault, SetUpHall, hall_again};
@@ -80,29 +82,13 @@ impl<'a, R: Files<File = File> + AllocGlobal, W: Witness> Journal<'a, R, W> {
         ensures in_file { IfOk result (λ journal. journal.in_file ≡ catalogue) }
     {
         let alloc = rt.alloc();
-        let was_missing = is_missing(rt, path)?;
-        let device = FileDevice::open(rt, path)?;
-        if let Some(fault) = fault_of_file(rt, path) {
-            return Err(fault);
-        }
-        let mut log = RecordLog::new(device);
-        let found = match log.open(alloc) {
-            Ok(found) => found,
-            Err(fault) => return Err(OpeningFault::of_opening(fault, log.device.error())),
-        };
         let named = String::from_str(alloc, path)?;
         let medium = FileMedium::new(rt, String::from_str(alloc, path)?);
         let own = Preface::new(alloc, &catalogue)?;
         let preface = Preface::new(alloc, &catalogue)?;
-        let (store, stored) = match JournalStore::over(
-            alloc, medium, witness, log, &found, preface,
-        ) {
-            Ok(made) => made,
-            Err(fault) => return Err(fault_in(&found, fault)),
-        };
-        if !are_same(store.preface().names(), own.names()) {
-            return Err(OpeningFault::AnotherCatalogue);
-        }
+        let was_missing = is_missing(rt, path)?;
+        let (log, found) = log_at(rt, alloc, path)?;
+        let (store, stored) = store_over(alloc, medium, witness, log, &found, preface, &own)?;
         let entries = entries_of(alloc, &stored)?;
         let was_missing = was_missing && found.is_empty();
         Ok(Journal {
@@ -255,6 +241,49 @@ fn stored_in<S: Wait, P: Probe, K: Keep>(
     match made.store_in(rt, store) {
         Ok(()) => Ok(made),
         Err(_) => Err(OpeningFault::NotStored),
+    }
+}
+
+/// The log in the file at a path, which is made if it is missing, and the records that it has.
+fn log_at<R: Files<File = File> + AllocGlobal>(
+    rt: &R,
+    alloc: Global,
+    path: &str,
+) -> Result<(RecordLog<FileDevice>, Vec<Vec<u8>>), OpeningFault>
+    ensures { IfOk result (λ made. IsReadyFile made.0 (texts made.1.items)) }
+{
+    let device = FileDevice::open(rt, path)?;
+    if let Some(fault) = fault_of_file(rt, path) {
+        return Err(fault);
+    }
+    let mut log = RecordLog::new(device);
+    match log.open(alloc) {
+        Ok(found) => Ok((log, found)),
+        Err(fault) => Err(OpeningFault::of_opening(fault, log.device.error())),
+    }
+}
+
+/// A store over a log that was opened, whose names have to be those of the last preface, and the entries that were found in it.
+fn store_over<M: Medium, W: Witness>(
+    alloc: Global,
+    medium: M,
+    witness: W,
+    log: RecordLog<M::Device>,
+    found: &[Vec<u8>],
+    preface: Preface,
+    own: &Preface,
+) -> Result<(JournalStore<M, W>, Vec<Stored>), OpeningFault>
+    requires ready { IsReady M.Device.contents M.Device.may_leave log (texts found.now) }
+    ensures names { IfOk result (λ made. made.0.front.names ≡ own.now.names) }
+    ensures kept { IfOk result (λ made. made.0.kept.journal ≡ restored_of made.1.items) }
+    ensures holds { IfOk result (λ made. Holds made.0.kept.left (restored_of made.1.items)) }
+{
+    match JournalStore::over(alloc, medium, witness, log, found, preface) {
+        Ok((store, stored)) if are_same(store.preface().names(), own.names()) => Ok((
+            store, stored,
+        )),
+        Ok(_) => Err(OpeningFault::AnotherCatalogue),
+        Err(fault) => Err(fault_in(found, fault)),
     }
 }
 

@@ -24,7 +24,6 @@ const NEWEST: usize = 65_536;
 /// A journal in a file, as records of its entries behind a preface. It keeps the blocks that were acknowledged, and opens a file that
 /// failed anew before the next change, once a second at most. A file that has grown long is written anew, with short entries in place of
 /// the older ones.
-#[derive(Drop)]
 pub struct JournalStore<M: Medium, W: Witness> {
     alloc: Global,
     medium: M,
@@ -38,6 +37,24 @@ pub struct JournalStore<M: Medium, W: Witness> {
     is_open: bool,
     retry: Retry,
     told: Told,
+}
+
+impl<M: Medium, W: Witness> Drop for JournalStore<M, W> {
+    fn drop(self) {
+        let JournalStore {
+            alloc: _,
+            medium: _,
+            witness: _,
+            text: _,
+            other: _,
+            least: _,
+            newest: _,
+            log: _,
+            is_open: _,
+            retry: _,
+            told: _,
+        } = self;
+    }
 }
 
 impl<M: Medium, W: Witness> Model for JournalStore<M, W> {

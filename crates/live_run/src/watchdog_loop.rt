@@ -31,12 +31,22 @@ struct Telling {
 }
 
 /// Lets a watchdog have its rounds until all is to end, and tells a diary, if there is one, what has come about.
-#[derive(Drop)]
 pub struct WatchdogLoop {
     watchdog: Watchdog,
     telling: Option<Telling>,
     poll: Poll,
     events: Events,
+}
+
+impl Drop for WatchdogLoop {
+    fn drop(self) {
+        let WatchdogLoop {
+            watchdog: _,
+            telling: _,
+            poll: _,
+            events: _,
+        } = self;
+    }
 }
 
 impl WatchdogLoop {
@@ -61,9 +71,17 @@ impl WatchdogLoop {
     pub fn with_diary(self, diary: Diary, gauges: Gauges) -> WatchdogLoop
         ensures { guards_in result ≡ guards_in self }
     {
+        let WatchdogLoop {
+            watchdog,
+            telling: _,
+            poll,
+            events,
+        } = self;
         WatchdogLoop {
+            watchdog,
             telling: Some(Telling { diary, gauges }),
-            ..self
+            poll,
+            events,
         }
     }
 

@@ -10,7 +10,6 @@ use std::time::Instant;
 use web_call::Call;
 
 /// A loop of a server, which holds some of the connections that come to a socket, each with its conversation.
-#[derive(Drop)]
 pub struct EventLoop<A, S, M: Machine> {
     pub(crate) poll: Poll,
     pub(crate) events: Events,
@@ -26,6 +25,23 @@ pub struct EventLoop<A, S, M: Machine> {
     pub(crate) ends_at: Option<Instant>,
     pub(crate) conversations: Conversations<S, M>,
     pub(crate) tally: Arc<Tally>,
+}
+
+impl<A: Drop, S: Drop, M: Machine> Drop for EventLoop<A, S, M> {
+    fn drop(self) {
+        let EventLoop {
+            poll: _,
+            events: _,
+            acceptor: _,
+            queue: _,
+            lacks_place: _,
+            swept: _,
+            silence_ends_at: _,
+            ends_at: _,
+            conversations: _,
+            tally: _,
+        } = self;
+    }
 }
 
 /// A loop over the calls that come to a socket, and the plain requests that come to another.

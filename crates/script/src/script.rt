@@ -13,7 +13,7 @@ pub enum Mode {
 }
 
 /// The names of the services, and what is done with them.
-#[derive(Debug, Drop)]
+#[derive(Debug)]
 pub struct Script {
     catalogue: Catalogue,
     max: u32,
@@ -21,6 +21,19 @@ pub struct Script {
     numbers: Vec<u32>,
     expectations: Vec<ScriptExpectation>,
     orders: Vec<Order>,
+}
+
+impl Drop for Script {
+    fn drop(self) {
+        let Script {
+            catalogue: _,
+            max: _,
+            lines: _,
+            numbers: _,
+            expectations: _,
+            orders: _,
+        } = self;
+    }
 }
 
 impl Model for Script {
@@ -84,7 +97,15 @@ impl Script {
         ensures orders { result.3.items ≡ self.orders }
         ensures steps { StepsFollow 0 self.lines }
     {
-        (self.catalogue, self.max, self.lines, self.orders)
+        let Script {
+            catalogue,
+            max,
+            lines,
+            orders,
+            numbers: _,
+            expectations: _,
+        } = self;
+        (catalogue, max, lines, orders)
     }
 
     /// How many entries the journal may have.
