@@ -103,7 +103,7 @@ fn expect_at_each_cut(rt: &impl Abort, alloc: Global, input: &[u8], case: &Case<
 }
 
 /// Responses, and what calls tell over each front of them.
-const ANSWERS: [(&[u8], Case<'static>); 6] = [
+static ANSWERS: [(&[u8], Case<'static>); 6] = [
     (SERVING, (Method::Check, 1, Ok((&[1], Some((0, b"")))), 0)),
     // a Check doesn't look at the most
     (
@@ -151,7 +151,7 @@ fn tells_what_the_response_says_over_each_front_of_it(rt: HostRuntime) {
 }
 
 /// Each fault, and its text on standard error behind the program's name.
-const FAULTS: [(AskFault, &str); 5] = [
+static FAULTS: [(AskFault, &str); 5] = [
     (AskFault::Read, "read"),
     (AskFault::Write, "write"),
     (AskFault::BadResponse, "bad response"),

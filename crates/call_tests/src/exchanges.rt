@@ -28,7 +28,7 @@ fn answers_each_request_and_flushes_it_where_its_reader_waits(rt: HostRuntime) {
 }
 
 /// The most bytes that a writer takes a call, and how many calls a refusal of 77 bytes and its flush are.
-const WRITES: [(usize, usize); 4] = [(7, 12), (76, 3), (77, 2), (1_000, 2)];
+static WRITES: [(usize, usize); 4] = [(7, 12), (76, 3), (77, 2), (1_000, 2)];
 
 #[test]
 fn writes_all_that_is_left_at_once(rt: HostRuntime) {
@@ -91,7 +91,7 @@ const BROKEN: Fault = Fault::Error(ErrorKind::BrokenPipe);
 
 /// A writer's faulty call and how it is faulty, and whether a first write, an empty write and a flush succeed. The tap has failed after all
 /// of them, since an empty write takes no byte; and it was idle.
-const TAPS: [(usize, Fault, (bool, bool, bool)); 4] = [
+static TAPS: [(usize, Fault, (bool, bool, bool)); 4] = [
     (0, BROKEN, (true, true, true)),
     (1, BROKEN, (false, true, true)),
     (2, BROKEN, (true, false, true)),

@@ -44,7 +44,7 @@ fn a_fault_at_any_write_or_flush_is_a_write_fault_at_once(rt: HostRuntime) {
     }
 }
 
-const TURNS: [Turn; 2] = [Turn::Look, Turn::End];
+static TURNS: [Turn; 2] = [Turn::Look, Turn::End];
 
 /// An exchange of a request that comes in two parts.
 fn exchange_in_parts<R: Read>(
@@ -82,7 +82,7 @@ fn expect_whole(rt: &impl Abort, alloc: Global, input: &[u8], len: usize, respon
 }
 
 /// An error of any kind is a fault at once, and a read of no byte is the end of the input.
-const FAULTS: [Fault; 4] = [
+static FAULTS: [Fault; 4] = [
     Fault::Error(ErrorKind::ConnectionReset),
     Fault::Error(ErrorKind::Interrupted),
     Fault::Error(ErrorKind::WouldBlock),
@@ -91,7 +91,7 @@ const FAULTS: [Fault; 4] = [
 
 fn expect_reads(rt: &impl Abort, alloc: Global, input: &[u8], response: &[u8]) {
     for len in 0..input.len() {
-        for fault in FAULTS {
+        for &fault in &FAULTS {
             expect_read(rt, alloc, input, len, fault);
         }
         expect_whole(rt, alloc, input, len, response);

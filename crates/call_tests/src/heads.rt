@@ -52,7 +52,7 @@ fn push_head(rt: &impl Abort, bytes: &mut Vec<u8>, start: &str, lines: &[&str]) 
 }
 
 /// Start lines and header lines, from the last fault that is looked for to the first.
-const HEADS: [(&str, &[&str], Headed); 31] = [
+static HEADS: [(&str, &[&str], Headed); 31] = [
     (CHECK, &[TYPE], CHECKED),
     (
         "POST /grpc.health.v1.Health/Watch HTTP/1.1",
@@ -179,7 +179,7 @@ fn looks_for_the_faults_of_a_head_in_their_order(rt: HostRuntime) {
 }
 
 /// Bytes that are no head, or not a head alone.
-const ENDS: [(&[u8], Headed); 5] = [
+static ENDS: [(&[u8], Headed); 5] = [
     (b"", Headed::Http(400)),
     (b"GET / HTTP/1.1\r\n", Headed::Http(400)),
     (b"GET / HTTP/1.1\n\r\n", Headed::Http(405)),
@@ -198,7 +198,7 @@ const FRONT: &[u8] = b"POST /grpc.health.v1.Health/Check HTTP/1.1\r\n\
     content-type: application/grpc-web+proto\r\nx: ";
 
 /// How many bytes a head has, and the last of them; behind its front it has the byte `a`.
-const SIZES: [(usize, &[u8], Headed); 5] = [
+static SIZES: [(usize, &[u8], Headed); 5] = [
     (8_191, b"\r\n\r\n", CHECKED),
     (8_192, b"\r\n\r\n", CHECKED),
     (8_191, b"aaaa", Headed::Http(400)),
@@ -218,7 +218,7 @@ fn takes_heads_up_to_8192_bytes(rt: HostRuntime) {
 }
 
 /// How many header lines there are beside the first. An empty line before the start line counts as one more.
-const LINES: [(&str, usize, Headed); 4] = [
+static LINES: [(&str, usize, Headed); 4] = [
     (CHECK, 31, CHECKED),
     (CHECK, 32, Headed::Http(431)),
     (

@@ -75,7 +75,7 @@ fn gather(
 
 /// Requests and their responses. Memory is wanted for the head, before anything is read, for the body, of which nothing is read then, and
 /// for the response; a Watch takes none for its response.
-const CASES: [(&[u8], &[u8], &[Want]); 3] = [
+static CASES: [(&[u8], &[u8], &[Want]); 3] = [
     (CHECK_OF_EMPTY, SERVING, &[(112, 0), (5, 0), (0, 1)]),
     (LIST, UNKNOWN_METHOD, &[(111, 0), (5, 0)]),
     (WATCH_OF_ZZ, WATCH_OF_UNKNOWN, &[(116, 0), (9, 0)]),

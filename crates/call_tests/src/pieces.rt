@@ -81,7 +81,7 @@ fn a_call_byte_by_byte_comes_to_the_same(rt: HostRuntime) {
 }
 
 /// A call's state after so many bytes of a request: how many more it wants at least.
-const WANTS: [(usize, usize); 5] = [(0, 1), (106, 1), (107, 5), (110, 2), (112, 0)];
+static WANTS: [(usize, usize); 5] = [(0, 1), (106, 1), (107, 5), (110, 2), (112, 0)];
 
 #[test]
 fn wants_a_byte_of_a_head_and_then_all_of_its_body(rt: HostRuntime) {

@@ -34,7 +34,7 @@ impl Text {
 }
 
 /// Each text, with its bytes.
-const TEXTS: [(Text, &[u8]); 9] = [
+static TEXTS: [(Text, &[u8]); 9] = [
     (Text::BadRequest, BAD_REQUEST),
     (Text::NotAllowed, METHOD_NOT_ALLOWED),
     (Text::NotFound, UNKNOWN_SERVICE),
@@ -123,7 +123,7 @@ fn refuses_each_growth_of_a_checks_body(rt: HostRuntime) {
 }
 
 /// A method and a body, and what they ask.
-const ASKS: [(Method, &[u8], Ask<'static>); 4] = [
+static ASKS: [(Method, &[u8], Ask<'static>); 4] = [
     (Method::Check, b"\0\0\0\0\x03\x0a\x01a", Ask::Check("a")),
     (Method::Watch, b"\0\0\0\0\x03\x0a\x01a", Ask::Watch("a")),
     (

@@ -15,7 +15,7 @@ use web_call::Method;
 /// The statuses, the code and the text of the end, and what is printed.
 type Row = (&'static [u64], Option<(u32, &'static [u8])>, &'static [u8]);
 
-const ROWS: [Row; 6] = [
+static ROWS: [Row; 6] = [
     (&[1], Some((0, b"")), b"SERVING\ngrpc-status 0\n"),
     (
         &[],

@@ -11,7 +11,7 @@ use test_support::{Fault, FaultyWriter};
 use web_call::Method;
 
 /// Words behind `ask --port 1`, and the most statuses that they ask for, if they are taken.
-const WORDS: [(&[&str], Option<(Method, u32)>); 9] = [
+static WORDS: [(&[&str], Option<(Method, u32)>); 9] = [
     (&[], Some((Method::Check, 1))),
     (&["--watch"], Some((Method::Watch, 4_294_967_295))),
     (&["--watch", "1"], Some((Method::Watch, 1))),
@@ -45,7 +45,7 @@ fn expect_call<R: Abort>(rt: &R, alloc: Global, row: (&[&'static str], Option<(M
 
 #[test]
 fn watches_for_as_many_as_are_asked_for_or_for_all(rt: HostRuntime) {
-    for row in WORDS {
+    for &row in &WORDS {
         expect_call(&rt, rt.alloc(), row);
     }
 }

@@ -30,7 +30,7 @@ const COMPRESSED_MESSAGE: &[u8] =
 const TWO_SERVICES: &[u8] = b"\0\0\0\0\x08\x0a\x01a\x48\x05\x0a\x01b";
 
 /// Bodies and their answers, where the empty name and `b` are serving, `a` is not, and `c` is unknown.
-const ANSWERS: [(&[u8], &[u8]); 15] = [
+static ANSWERS: [(&[u8], &[u8]); 15] = [
     (b"\0\0\0\0\0", SERVING),
     (b"\0\0\0\0\x03\x0a\x01a", NOT_SERVING),
     (b"\0\0\0\0\x04\x0a\x02zz", UNKNOWN_SERVICE),
@@ -97,7 +97,7 @@ fn refuses_a_body_of_over_8_192_bytes(rt: HostRuntime) {
 }
 
 /// What is known of the empty name, and the answer: that of the first pair counts.
-const KNOWN: [(&[&str], &[u8]); 2] = [
+static KNOWN: [(&[&str], &[u8]); 2] = [
     (&["=unknown"], UNKNOWN),
     (&["=not_serving", "=serving"], NOT_SERVING),
 ];

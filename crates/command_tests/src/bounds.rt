@@ -2,7 +2,7 @@ use crate::same::{holds, same};
 use commands::bounds::{Bounds, bounds_of};
 
 /// Connections, Watches and threads, and how many loops share places for them.
-const ROWS: [(u32, u32, u16, u16); 6] = [
+static ROWS: [(u32, u32, u16, u16); 6] = [
     (10, 9, 0, 1),
     (10, 9, 3, 3),
     (10, 10, 64, 10),
@@ -36,7 +36,7 @@ fn takes_no_more_watches_than_connections(rt: HostRuntime) {
 }
 
 /// Connections and the Watches that are asked for, and how many Watches may be open, if these are bounds.
-const ASKED: [(u32, Option<u32>, Option<u32>); 9] = [
+static ASKED: [(u32, Option<u32>, Option<u32>); 9] = [
     (10_000, None, Some(9_000)),
     (1_000_000, None, Some(900_000)),
     (19, None, Some(17)),
@@ -61,7 +61,7 @@ fn takes_nine_tenths_where_no_watches_are_asked_for(rt: HostRuntime) {
 }
 
 /// Connections and Watches, how many connections can be held, and the bounds within that, where there are any.
-const WITHIN: [(u32, u32, u32, Option<(u32, u32)>); 9] = [
+static WITHIN: [(u32, u32, u32, Option<(u32, u32)>); 9] = [
     (10_000, 9_000, 20_000, Some((10_000, 9_000))),
     (10_000, 9_000, 10_000, Some((10_000, 9_000))),
     (10_000, 9_000, 960, Some((960, 864))),

@@ -3,7 +3,7 @@ use commands::cause::Cause;
 use std::io;
 
 /// Numbers of errors as Linux has them, and their texts.
-const TEXTS: [(i32, &str); 7] = [
+static TEXTS: [(i32, &str); 7] = [
     (2, "not found"),
     (13, "permission denied"),
     (21, "is a directory"),

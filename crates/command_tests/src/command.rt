@@ -238,7 +238,7 @@ fn takes_and_refuses_command_lines(rt: HostRuntime) {
 }
 
 /// What the help of `run` has to say: each option with its example, and each line of a script.
-const RUN_HELP: [&str; 28] = [
+static RUN_HELP: [&str; 28] = [
     "--listen <ADDR>",
     "e.g. 0.0.0.0:8080 or [::1]:8080",
     "--plain <ADDR>",
@@ -270,7 +270,7 @@ const RUN_HELP: [&str; 28] = [
 ];
 
 /// What the help of `ask` has to say: each option with its example.
-const ASK_HELP: [&str; 13] = [
+static ASK_HELP: [&str; 13] = [
     "--port <P>",
     "e.g. 8080",
     "--host <ADDR>",
@@ -287,7 +287,7 @@ const ASK_HELP: [&str; 13] = [
 ];
 
 /// What the help of `tell` has to say: where it sends, what, and the exit status.
-const TELL_HELP_PARTS: [&str; 9] = [
+static TELL_HELP_PARTS: [&str; 9] = [
     "--control <PLACE>",
     "e.g. 127.0.0.1:8081",
     "e.g. /run/healthd",
@@ -300,7 +300,7 @@ const TELL_HELP_PARTS: [&str; 9] = [
 ];
 
 /// What the help of `status` has to say: where it asks, and how it prints.
-const STATUS_HELP_PARTS: [&str; 6] = [
+static STATUS_HELP_PARTS: [&str; 6] = [
     "--control <PLACE>",
     "e.g. 127.0.0.1:8081",
     "--timeout <S>",
@@ -310,7 +310,7 @@ const STATUS_HELP_PARTS: [&str; 6] = [
 ];
 
 /// What the help of `history` has to say: where it asks, what, and how it ends.
-const HISTORY_HELP_PARTS: [&str; 7] = [
+static HISTORY_HELP_PARTS: [&str; 7] = [
     "--control <PLACE>",
     "--timeout <S>",
     "--last <N>",
@@ -321,7 +321,7 @@ const HISTORY_HELP_PARTS: [&str; 7] = [
 ];
 
 /// What the help of `journal` has to say: what it prints, and of which file.
-const JOURNAL_HELP_PARTS: [&str; 4] = [
+static JOURNAL_HELP_PARTS: [&str; 4] = [
     "<PATH>",
     "--json",
     "also while a server writes",

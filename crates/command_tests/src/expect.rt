@@ -8,7 +8,7 @@ use web_call::Method;
 /// The method, the statuses and the code of the end, and the exit status where SERVING is expected.
 type Row = (Method, &'static [u64], Option<u32>, u8);
 
-const ROWS: [Row; 12] = [
+static ROWS: [Row; 12] = [
     (Method::Check, &[1], Some(0), 0),
     (Method::Check, &[2], Some(0), 3),
     (Method::Check, &[0], Some(0), 3),
@@ -49,7 +49,7 @@ fn tells_what_is_expected_by_the_exit_status(rt: HostRuntime) {
 }
 
 /// The numbers of ServingStatus of health.proto with their names, and the next one, which has none.
-const NAMES: [(u64, Option<&str>); 5] = [
+static NAMES: [(u64, Option<&str>); 5] = [
     (0, Some("UNKNOWN")),
     (1, Some("SERVING")),
     (2, Some("NOT_SERVING")),
@@ -59,7 +59,7 @@ const NAMES: [(u64, Option<&str>); 5] = [
 
 #[test]
 fn names_each_status_that_has_a_name(rt: HostRuntime) {
-    for (number, expected) in NAMES {
+    for &(number, expected) in &NAMES {
         same(&rt, &status_name(number), &expected, &number);
     }
 }

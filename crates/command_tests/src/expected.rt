@@ -12,7 +12,7 @@ use std::process::Abort;
 /// What is read of a script: how many seconds are expected of the first service, if any, or the line that does not stand.
 type Found = Result<Option<u32>, (u32, Result<Reply, Refusal>)>;
 
-const ROWS: [(&[u8], Found); 6] = [
+static ROWS: [(&[u8], Found); 6] = [
     (b"catalogue a -\nregister a threshold 2\n", Ok(None)),
     (
         b"catalogue a -\nregister a threshold 2\nexpect a 5\n",

@@ -6,7 +6,7 @@ use desk_core::CatalogueFault;
 use script::ScriptFault;
 
 /// Each fault, and its text on standard error behind the program's name.
-const TEXTS: [(Fault, &str); 17] = [
+static TEXTS: [(Fault, &str); 17] = [
     (Fault::BadHex, "bad hex"),
     (Fault::BadService, "bad service"),
     (Fault::Script(ScriptFault::BadLine(7)), "script line 7"),

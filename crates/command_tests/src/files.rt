@@ -4,7 +4,7 @@ use commands::files::{bounds_within, reserved};
 use open_files::OpenFiles;
 
 /// Loops, sockets and places for sessions, and how many files they have open beside connections, with those that any server has.
-const RESERVED: [(u16, u16, u16, u32); 8] = [
+static RESERVED: [(u16, u16, u16, u32); 8] = [
     (1, 1, 0, 19),
     (4, 1, 0, 28),
     (4, 1, 1, 64),
@@ -17,14 +17,14 @@ const RESERVED: [(u16, u16, u16, u32); 8] = [
 
 #[test]
 fn reserves_files_for_loops_and_for_places(rt: HostRuntime) {
-    for (loops, sockets, places, expected) in RESERVED {
+    for &(loops, sockets, places, expected) in &RESERVED {
         let found = reserved(loops, sockets, places);
         same(&rt, &found, &expected, &(loops, sockets, places));
     }
 }
 
 /// Connections and Watches, how many files may be open, and the bounds beside four loops and one place, where there are any.
-const WITHIN: [((u32, u32), OpenFiles, Option<(u32, u32)>); 8] = [
+static WITHIN: [((u32, u32), OpenFiles, Option<(u32, u32)>); 8] = [
     ((10_000, 9_000), OpenFiles::Unlimited, Some((10_000, 9_000))),
     (
         (10_000, 9_000),

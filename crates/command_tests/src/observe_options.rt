@@ -9,7 +9,7 @@ use std::alloc::Global;
 use std::process::Abort;
 
 /// Numbers of seconds, and their milliseconds where they are any.
-const SECONDS: [(&str, Option<u32>); 15] = [
+static SECONDS: [(&str, Option<u32>); 15] = [
     ("5", Some(5_000)),
     ("0.5", Some(500)),
     ("0.25", Some(250)),
@@ -48,7 +48,7 @@ fn read_of<'a>(
 }
 
 /// The words behind `observe`, and the first line of the text by which they are refused.
-const BAD: [(&[&str], &str); 6] = [
+static BAD: [(&[&str], &str); 6] = [
     (
         &["--control", "run/healthd", "db=tcp://a:1"],
         "error: invalid value 'run/healthd' for '--control <PLACE>': not a loopback address and a port, nor the path of a socket",

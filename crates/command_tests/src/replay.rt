@@ -133,7 +133,7 @@ fn replays_with_the_rules_of_the_script(rt: HostRuntime) {
 }
 
 /// What ends a run, and its text on standard error behind the program's name.
-const FAULTS: [(&[u8], ScriptFault, &str); 6] = [
+static FAULTS: [(&[u8], ScriptFault, &str); 6] = [
     (b"\xff", ScriptFault::NotText, "script not text"),
     (b"", ScriptFault::BadLine(1), "script line 1"),
     (

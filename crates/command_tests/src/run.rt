@@ -14,7 +14,7 @@ use std::rt::Files;
 use std::sync::Wait;
 
 /// Scripts, and what is told of them where they set up no hall.
-const SCRIPTS: [(&[u8], &str); 9] = [
+static SCRIPTS: [(&[u8], &str); 9] = [
     (b"", "no catalogue line"),
     (b"\xff", "script not text"),
     (
@@ -66,7 +66,7 @@ fn ends_where_a_script_is_none_or_a_change_is_not_made(rt: HostRuntime) {
 }
 
 /// Addresses, and the lines that tell that calls are answered there.
-const LISTENING: [(&str, &str); 3] = [
+static LISTENING: [(&str, &str); 3] = [
     ("127.0.0.1:8080", "listening 127.0.0.1:8080"),
     ("0.0.0.0:80", "listening 0.0.0.0:80"),
     ("[::1]:65535", "listening [::1]:65535"),
@@ -82,7 +82,7 @@ fn tells_where_it_listens(rt: HostRuntime) {
 }
 
 /// Files, and how many bytes are read of each, or the system's number of the error.
-const FILES: [(&str, Result<usize, i32>); 4] = [
+static FILES: [(&str, Result<usize, i32>); 4] = [
     ("/dev/null", Ok(0)),
     // one byte more than a script may have
     ("/dev/zero", Ok(65_537)),

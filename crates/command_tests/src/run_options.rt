@@ -23,7 +23,7 @@ type Row<'a> = (
     ),
 );
 
-const ROWS: [Row<'static>; 10] = [
+static ROWS: [Row<'static>; 10] = [
     (
         &[],
         (
@@ -225,7 +225,7 @@ fn reads_where_plain_requests_are_answered(rt: HostRuntime) {
 }
 
 /// The words behind `run`, and the first line of the text by which they are refused.
-const BAD: [(&[&str], &str); 16] = [
+static BAD: [(&[&str], &str); 16] = [
     (
         &["--listen", "8080"],
         "error: invalid value '8080' for '--listen <ADDR>': not an address and a port",

@@ -18,7 +18,7 @@ type Row = (
     &'static [u8],
 );
 
-const ROWS: [Row; 13] = [
+static ROWS: [Row; 13] = [
     (b"pass db\n", b"done\n", Ok(0), b"done\n"),
     (b"check -", b"serving\n", Ok(0), b"serving\n"),
     (b"", b"", Ok(0), b""),
@@ -116,7 +116,7 @@ fn tells_why_the_session_was_closed(rt: HostRuntime) {
 }
 
 /// Texts, and whether they name a place that can be told.
-const PLACES: [(&str, bool); 7] = [
+static PLACES: [(&str, bool); 7] = [
     ("127.0.0.1:8081", true),
     ("[::1]:8081", true),
     ("/run/healthd", true),

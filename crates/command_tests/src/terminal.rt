@@ -2,7 +2,7 @@ use crate::same::same;
 use commands::terminal::is_terminal_path;
 
 /// Names that Linux has for the file of standard input, and whether that is a terminal.
-const PATHS: [(&str, bool); 11] = [
+static PATHS: [(&str, bool); 11] = [
     ("/dev/pts/0", true),
     ("/dev/pts/12", true),
     ("/dev/tty", true),

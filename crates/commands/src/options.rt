@@ -60,7 +60,7 @@ enum Otherwise {
     Value(&'static str),
 }
 
-pub(crate) const BODY: [CommandOption; 2] = [
+pub(crate) static BODY: [CommandOption; 2] = [
     CommandOption {
         name: "HEX",
         takes: Takes::Word,
@@ -83,7 +83,7 @@ const PORT: CommandOption = CommandOption {
     help: "The port of the server, 1 to 65535, e.g. 8080",
 };
 
-pub(crate) const SERVE: [CommandOption; 3] = [
+pub(crate) static SERVE: [CommandOption; 3] = [
     PORT,
     CommandOption {
         name: "workers",
@@ -99,7 +99,7 @@ pub(crate) const SERVE: [CommandOption; 3] = [
     },
 ];
 
-pub(crate) const RUN: [CommandOption; 10] = [
+pub(crate) static RUN: [CommandOption; 10] = [
     CommandOption {
         name: "listen",
         takes: Takes::Text("ADDR"),
@@ -162,7 +162,7 @@ pub(crate) const RUN: [CommandOption; 10] = [
     },
 ];
 
-pub(crate) const ASK: [CommandOption; 6] = [
+pub(crate) static ASK: [CommandOption; 6] = [
     PORT,
     CommandOption {
         name: "host",
@@ -212,7 +212,7 @@ const JSON_OF_ENTRIES: CommandOption = CommandOption {
     help: "Print an object of JSON for each entry, one a line",
 };
 
-pub(crate) const TELL: [CommandOption; 2] = [
+pub(crate) static TELL: [CommandOption; 2] = [
     ANSWER_TIMEOUT,
     CommandOption {
         name: "WORD",
@@ -222,7 +222,7 @@ pub(crate) const TELL: [CommandOption; 2] = [
     },
 ];
 
-pub(crate) const STATUS: [CommandOption; 2] = [
+pub(crate) static STATUS: [CommandOption; 2] = [
     ANSWER_TIMEOUT,
     CommandOption {
         name: "json",
@@ -232,7 +232,7 @@ pub(crate) const STATUS: [CommandOption; 2] = [
     },
 ];
 
-pub(crate) const HISTORY: [CommandOption; 4] = [
+pub(crate) static HISTORY: [CommandOption; 4] = [
     ANSWER_TIMEOUT,
     CommandOption {
         name: "last",
@@ -249,7 +249,7 @@ pub(crate) const HISTORY: [CommandOption; 4] = [
     JSON_OF_ENTRIES,
 ];
 
-pub(crate) const JOURNAL: [CommandOption; 2] = [
+pub(crate) static JOURNAL: [CommandOption; 2] = [
     CommandOption {
         name: "PATH",
         takes: Takes::Word,
@@ -259,7 +259,7 @@ pub(crate) const JOURNAL: [CommandOption; 2] = [
     JSON_OF_ENTRIES,
 ];
 
-pub(crate) const OBSERVE: [CommandOption; 5] = [
+pub(crate) static OBSERVE: [CommandOption; 5] = [
     CommandOption {
         name: "every",
         takes: Takes::Text("S"),

@@ -13,7 +13,7 @@ const NAME_OF_129: &str = "\
     0123456789abcdef0123456789abcdef0123456789abcdef0123456789abcdefX";
 
 /// Names, and the first fault that they have.
-const NAMES: [(&[&str], Option<CatalogueFault>); 13] = [
+static NAMES: [(&[&str], Option<CatalogueFault>); 13] = [
     (&["a", "b", ""], None),
     (&["", NAME_OF_128], None),
     (

@@ -24,7 +24,7 @@ fn health_of<P: Probe>(probe: &P) -> Health {
 type Heard = (Event, bool, Health);
 
 /// What a probe of each rule hears, one event after the other.
-const HEARD: [(Rule, &[Heard]); 7] = [
+static HEARD: [(Rule, &[Heard]); 7] = [
     (
         Rule::Threshold(2, 1, Start::Up),
         &[

@@ -114,7 +114,7 @@ type Heard = (Row, [u64; 2]);
 
 /// Of services that are set. An event that is of the wrong kind, ignored, or refused by the full journal reaches no probe; one that
 /// leaves the service as it is reaches its probe like any other.
-const SETTINGS: [Heard; 11] = [
+static SETTINGS: [Heard; 11] = [
     (Row::Observe(1, Finding::Fail, WRONG_KIND), [0, 0]),
     (Row::Shutdown(DONE), [0, 0]),
     (Row::Set(1, Setting::Down, IGNORED), [0, 0]),
@@ -129,7 +129,7 @@ const SETTINGS: [Heard; 11] = [
 ];
 
 /// The same of services that are checked, and are down after one failure.
-const FINDINGS: [Heard; 11] = [
+static FINDINGS: [Heard; 11] = [
     (Row::Set(1, Setting::Down, WRONG_KIND), [0, 0]),
     (Row::Shutdown(DONE), [0, 0]),
     (Row::Observe(1, Finding::Fail, IGNORED), [0, 0]),

@@ -41,7 +41,7 @@ impl Env for Variables<'_> {
     }
 }
 
-const SOCKETS: [(&str, &str, Option<u32>); 17] = [
+static SOCKETS: [(&str, &str, Option<u32>); 17] = [
     ("4711", "1", Some(1)),
     ("4711", "3", Some(3)),
     ("4711", "1024", Some(1_024)),
@@ -154,7 +154,7 @@ fn refuses_a_listening_unix_socket(rt: HostRuntime) {
     expect_refused(&rt, unix.into_raw_fd(), "a listening Unix socket");
 }
 
-const NAMES: [(&[u8], bool); 12] = [
+static NAMES: [(&[u8], bool); 12] = [
     (b"/run/notify", true),
     (b"/x", true),
     (b"@notify", true),

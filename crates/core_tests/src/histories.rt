@@ -131,7 +131,7 @@ const TOLD_BY_THE_CHAIN: [Told; 40] = [
     (18, 6, Serving::Serving),
 ];
 
-const HISTORIES: [History; 14] = [
+static HISTORIES: [History; 14] = [
     History {
         name: "a threshold and who depends on it",
         rules: &THREE,
@@ -523,7 +523,7 @@ fn answers_worked_histories(rt: HostRuntime) {
 }
 
 /// The numbers of the refusals are in no clause.
-const REFUSALS: [(Refusal, u8); 5] = [
+static REFUSALS: [(Refusal, u8); 5] = [
     (Refusal::BadRule, 1),
     (Refusal::Full, 2),
     (Refusal::NoMemory, 3),

@@ -6,7 +6,7 @@ use std::alloc::AllocError;
 use std::process::Abort;
 
 /// Rules, and of what is made for each the rule, whether it is up, and whether it is unknown; or nothing is made.
-const MADE: [(Rule, Option<(Rule, bool, bool)>); 4] = [
+static MADE: [(Rule, Option<(Rule, bool, bool)>); 4] = [
     (Rule::Manual, Some((Rule::Manual, true, false))),
     (
         Rule::Threshold(2, 3, Start::Up),

@@ -8,7 +8,7 @@ use std::process::Abort;
 use test_support::Scarcity;
 
 /// The six changes, and what each is answered once there is memory for it.
-const ASKED: [(Asked, Reply); 6] = [
+static ASKED: [(Asked, Reply); 6] = [
     (Asked::Register, Reply::Replaced),
     (Asked::Retire, Reply::Done),
     (Asked::Observe, Reply::WrongKind),

@@ -20,7 +20,7 @@ fn put(tail: &mut Tail<u64>, end: u64) -> Result<(), AllocError> {
 
 /// Of forty numbers, of which sixteen are kept: a place, and how many items there are from it on and the first of them; or one of
 /// them is forgotten.
-const OF_FORTY: [(u64, Option<(usize, Option<u64>)>); 5] = [
+static OF_FORTY: [(u64, Option<(usize, Option<u64>)>); 5] = [
     (0, None),
     (23, None),
     (24, Some((16, Some(24)))),

@@ -15,7 +15,7 @@ pub(crate) fn last_seat_of(
     Ok(seats.last().map(|seat| seat.number()))
 }
 
-const NUMBERS_OF_SEATS: [(u16, Result<Option<u16>, HallFault>); 5] = [
+static NUMBERS_OF_SEATS: [(u16, Result<Option<u16>, HallFault>); 5] = [
     (0, Err(HallFault::NoSeats)),
     (1, Ok(Some(0))),
     (1_024, Ok(Some(1_023))),
@@ -25,7 +25,7 @@ const NUMBERS_OF_SEATS: [(u16, Result<Option<u16>, HallFault>); 5] = [
 
 #[test]
 fn refuses_no_seats_and_too_many(rt: HostRuntime) {
-    for (seats, expected) in NUMBERS_OF_SEATS {
+    for &(seats, expected) in &NUMBERS_OF_SEATS {
         let names = catalogue(&rt, rt.alloc(), &["a", ""]);
         let last = last_seat_of(rt.alloc(), names, seats);
         same(&rt, &last, &expected, &seats);

@@ -18,7 +18,7 @@ fn has_the_checksums_of_zlib(rt: HostRuntime) {
 }
 
 /// The entries `abc` and an empty one, and a closed gate.
-const FILE: [u8; 16] = [
+static FILE: [u8; 16] = [
     1, 3, 97, 98, 99, 0x35, 0x24, 0x41, 0xC2, 1, 0, 0, 0, 0, 0, 0,
 ];
 

@@ -36,7 +36,7 @@ fn a_preface_is_read_back(rt: HostRuntime) {
 }
 
 /// First records, and what is told of them where no name follows.
-const FAULTS: [(&[u8], PrefaceFault); 5] = [
+static FAULTS: [(&[u8], PrefaceFault); 5] = [
     (b"", PrefaceFault::NoPreface),
     (
         b"healthd journal 2\0\0\0\0\0\0\0\0\0\0\0\0\x02",

@@ -95,7 +95,7 @@ fn both_entrances_take_turns(rt: HostRuntime) {
 }
 
 /// Where a request comes in, the request, and how its answer begins and ends.
-const ROWS: [(Entrance, &[u8], &[u8], &[u8]); 7] = [
+static ROWS: [(Entrance, &[u8], &[u8], &[u8]); 7] = [
     (
         Entrance::Plain,
         b"GET /status/ HTTP/1.1\r\nhost: a\r\n\r\n",

@@ -14,7 +14,7 @@ use test_support::requests::WATCH_OF_EMPTY;
 
 /// How often a service goes down and up again before a look. A turn tells 32 changes at most, so that each Watch is told all of them in
 /// one turn, in two and in four.
-const FLIPS: [usize; 3] = [15, 20, 60];
+static FLIPS: [usize; 3] = [15, 20, 60];
 
 /// The most that the looks of a round ask the door: some hundred.
 const MOST_ASKED: usize = 600;
@@ -102,7 +102,7 @@ pub(crate) fn tell_much<R: Net<Stream = TcpStream> + Clock + Abort>(
 ) {
     let (ended, given_up, gone) = place.ends();
     let mut streams = watchers(rt, place, scene);
-    for flips in FLIPS {
+    for &flips in &FLIPS {
         for _ in 0..flips {
             scene.set(Setting::Down);
             scene.set(Setting::Up);

@@ -8,7 +8,7 @@ use std::process::Abort;
 use std::time::{Duration, Instant};
 
 /// What may wait behind an accept that failed so, but for failures that are tried again later.
-const FAILURES: [(ErrorKind, Queue); 3] = [
+static FAILURES: [(ErrorKind, Queue); 3] = [
     (ErrorKind::WouldBlock, Queue::Empty),
     (ErrorKind::Interrupted, Queue::Waiting),
     (ErrorKind::ConnectionAborted, Queue::Waiting),

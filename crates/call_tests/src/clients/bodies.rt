@@ -14,7 +14,7 @@ const TWO_AND_END: &[u8] =
 const OK: Option<(u32, &[u8])> = Some((0, b""));
 
 /// A body, the most statuses of a Watch, what it tells, and how many bytes of the body it leaves.
-const WATCHES: [(&[u8], u32, Seen<'static>, usize); 13] = [
+static WATCHES: [(&[u8], u32, Seen<'static>, usize); 13] = [
     // whole frames behind each other are no frame that was cut
     (TWO_AND_END, 1, (&[1], None), 27),
     (TWO_AND_END, 2, (&[1, 2], None), 20),
@@ -38,7 +38,7 @@ const WATCHES: [(&[u8], u32, Seen<'static>, usize); 13] = [
 ];
 
 /// The body of a Check, and what it tells.
-const CHECKS: [(&[u8], Seen<'static>); 9] = [
+static CHECKS: [(&[u8], Seen<'static>); 9] = [
     (TWO_AND_END, (&[1, 2], OK)),
     // UNKNOWN is no byte, and a status that this program doesn't know is told by its number
     (b"\0\0\0\0\0\x80\0\0\0\x0fgrpc-status:0\r\n", (&[0], OK)),
@@ -72,7 +72,7 @@ const CHECKS: [(&[u8], Seen<'static>); 9] = [
 ];
 
 /// Bodies without trailers, which a Watch may have and a Check may not.
-const WITHOUT_TRAILERS: [&[u8]; 4] = [
+static WITHOUT_TRAILERS: [&[u8]; 4] = [
     b"",
     b"\0\0\0\0\x02\x08\x01",
     b"\0\0\0\0\0\0\0\0\0\0",
@@ -80,7 +80,7 @@ const WITHOUT_TRAILERS: [&[u8]; 4] = [
 ];
 
 /// Bodies that no response to a call has, and how many bytes of each are not read.
-const BAD: [(&[u8], usize); 27] = [
+static BAD: [(&[u8], usize); 27] = [
     // the flag of a compressed message or of compressed trailers, or no flag
     (b"\x01\0\0\0\x02\x08\x01", 6),
     (b"\x81\0\0\0\x0fgrpc-status:0\r\n", 19),

@@ -50,7 +50,7 @@ fn needs_each_byte_of_chunks_up_to_the_trailers(rt: HostRuntime) {
 }
 
 /// Lines of a chunk of 27 bytes. The longest has 64 bytes.
-const LINES: [&[u8]; 8] = [
+static LINES: [&[u8]; 8] = [
     b"1b\r\n",
     b"1B\r\n",
     b"000000000000001b\r\n",
@@ -62,7 +62,7 @@ const LINES: [&[u8]; 8] = [
 ];
 
 /// What comes behind the chunk of the trailers is not read.
-const BEHIND: [&[u8]; 4] = [b"", b"x", b"\r\n1\r\nx", b"\r\n7\r\n\0\0\0\0\x02\x08\x01"];
+static BEHIND: [&[u8]; 4] = [b"", b"x", b"\r\n1\r\nx", b"\r\n7\r\n\0\0\0\0\x02\x08\x01"];
 
 /// A line of a chunk of 27 bytes that is one byte longer.
 const LONG_LINE: &[u8] = b"1b;xxxxxxxxxxxxxxxxxxxxxxxxxxxxxxxxxxxxxxxxxxxxxxxxxxxxxxxxxxxx\r\n";
@@ -92,7 +92,7 @@ fn reads_each_spelling_of_a_chunks_line_and_nothing_behind(rt: HostRuntime) {
 }
 
 /// Chunks of a Watch, the most statuses, what they tell, and how many bytes are not read.
-const WATCHES: [(&[u8], u32, Seen<'static>, usize); 5] = [
+static WATCHES: [(&[u8], u32, Seen<'static>, usize); 5] = [
     // two messages in one chunk
     (
         b"e\r\n\0\0\0\0\x02\x08\x01\0\0\0\0\x02\x08\x02\r\n",
@@ -119,7 +119,7 @@ const WATCHES: [(&[u8], u32, Seen<'static>, usize); 5] = [
 ];
 
 /// Chunks that no body of a response to a call has, and how many bytes of each are not read.
-const BAD: [(&[u8], usize); 22] = [
+static BAD: [(&[u8], usize); 22] = [
     // no size, and more digits than a size may have
     (b"x\r\n", 2),
     (b"\r\n", 1),
@@ -152,7 +152,7 @@ const BAD: [(&[u8], usize); 22] = [
 ];
 
 /// Chunks without trailers, which a Check may not have. Their last line is not read.
-const CHUNKS_WITHOUT_TRAILERS: [&[u8]; 2] = [
+static CHUNKS_WITHOUT_TRAILERS: [&[u8]; 2] = [
     b"0\r\n\r\n",
     b"7\r\n\0\0\0\0\x02\x08\x01\r\n0\r\n\r\n",
 ];

@@ -6,7 +6,7 @@ use std::io::ErrorKind;
 use test_support::{Fault, FaultyReader, FaultyWriter};
 
 /// What a faulty call does: it moves no byte, or returns an error, which ends the call at once, of whatever kind.
-const FAULTS: [Fault; 3] = [
+static FAULTS: [Fault; 3] = [
     Fault::Nothing,
     Fault::Error(ErrorKind::ConnectionReset),
     Fault::Error(ErrorKind::Interrupted),
@@ -41,7 +41,7 @@ fn ask_faulty(
 
 /// Responses that are read whole, each with so many calls: one for each byte of a head, and of a chunk's line, and one for each
 /// flag, length, content and end of a chunk.
-const READS: [(&[u8], Method, usize); 2] = [
+static READS: [(&[u8], Method, usize); 2] = [
     (SERVING, Method::Check, 106),
     (WATCH_OF_UNKNOWN, Method::Watch, 122),
 ];

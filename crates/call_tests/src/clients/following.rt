@@ -13,7 +13,7 @@ const WATCH: &[u8] = b"HTTP/1.1 200 OK\r\ntransfer-encoding: chunked\r\n\r\n\
     2f\r\n\x80\0\0\0\x2agrpc-status:14\r\ngrpc-message:watch ended\r\n\r\n0\r\n\r\n";
 
 /// How many bytes there are to the end of each status.
-const ENDS: [usize; 3] = [57, 69, 81];
+static ENDS: [usize; 3] = [57, 69, 81];
 
 /// Counts the statuses that it hears, and has enough after so many.
 #[derive(Drop)]
@@ -107,7 +107,7 @@ fn tells_each_status_before_it_reads_on(rt: HostRuntime) {
 }
 
 /// The most statuses, after how many the listener has enough, how many are told, and how many bytes are read.
-const LEFT: [(u32, usize, usize, usize); 4] = [
+static LEFT: [(u32, usize, usize, usize); 4] = [
     (1_000, 1, 1, 57),
     (1_000, 2, 2, 69),
     (2, 9, 2, 69),
@@ -126,7 +126,7 @@ fn expect_left<R: Abort>(rt: &R, alloc: Global, row: (u32, usize, usize, usize))
 
 #[test]
 fn leaves_where_the_listener_has_enough(rt: HostRuntime) {
-    for row in LEFT {
+    for &row in &LEFT {
         expect_left(&rt, rt.alloc(), row);
     }
 }

@@ -4,7 +4,7 @@ use super::*;
 const TOLD: Result<Seen<'static>, AskFault> = Ok((&[1], Some((0, b""))));
 
 /// Heads of a response whose body has a length of 27.
-const WITH_LENGTH: [&[u8]; 8] = [
+static WITH_LENGTH: [&[u8]; 8] = [
     b"HTTP/1.1 200 OK\r\ncontent-length: 27\r\n\r\n",
     b"HTTP/1.1 200 OK\r\nContent-Length:\t 27 \t\r\n\r\n",
     b"HTTP/1.1 200 OK\r\ncontent-length: 000000000000000027\r\n\r\n",
@@ -18,7 +18,7 @@ const WITH_LENGTH: [&[u8]; 8] = [
 ];
 
 /// Heads of a response in chunks.
-const WITH_CHUNKS: [&[u8]; 6] = [
+static WITH_CHUNKS: [&[u8]; 6] = [
     b"HTTP/1.1 200 OK\r\ntransfer-encoding: chunked\r\n\r\n",
     b"HTTP/1.1 200 OK\r\nTransfer-Encoding:\tChunked \r\n\r\n",
     b"HTTP/1.1 200 OK\r\ntransfer-encoding: identity\r\ntransfer-encoding: chunked\r\n\r\n",
@@ -41,7 +41,7 @@ fn reads_a_body_by_its_length_or_its_chunks(rt: HostRuntime) {
 }
 
 /// Heads with another status than 200, whatever else they say.
-const OTHER_STATUSES: [(&[u8], u16); 6] = [
+static OTHER_STATUSES: [(&[u8], u16); 6] = [
     (b"HTTP/1.1 404 Not Found\r\n\r\n", 404),
     (
         b"HTTP/1.1 415 Unsupported Media Type\r\nconnection: close\r\ncontent-length: 0\r\n\r\n",
@@ -57,7 +57,7 @@ const OTHER_STATUSES: [(&[u8], u16); 6] = [
 ];
 
 /// What is no head of a response, or one that doesn't tell where its body ends.
-const BAD: [&[u8]; 23] = [
+static BAD: [&[u8]; 23] = [
     b"\r\n\r\n",
     b"GET / HTTP/1.1\r\n\r\n",
     b"SSH-2.0-OpenSSH_9.6\r\n\r\n",
@@ -120,7 +120,7 @@ fn of_lines(rt: &impl Abort, alloc: Global, empty: usize, lines: usize) -> Vec<u
 }
 
 /// How many empty lines and how many lines besides the length, what a head of them tells, and how many bytes are not read.
-const COUNTS: [(usize, usize, Result<Seen<'static>, AskFault>, usize); 4] = [
+static COUNTS: [(usize, usize, Result<Seen<'static>, AskFault>, usize); 4] = [
     (0, 31, TOLD, 0),
     (0, 32, Err(AskFault::BadResponse), 27),
     (31, 0, TOLD, 0),
@@ -136,7 +136,7 @@ fn reads_a_head_of_at_most_32_lines_and_34_line_feeds(rt: HostRuntime) {
 }
 
 /// The end of a head of 8,192 bytes, what comes behind it, what they tell, and how many bytes are not read.
-const ENDS: [(&[u8], &[u8], Result<Seen<'static>, AskFault>, usize); 3] = [
+static ENDS: [(&[u8], &[u8], Result<Seen<'static>, AskFault>, usize); 3] = [
     (b"\r\n\r\n", SERVING_BODY, TOLD, 0),
     (b"c\r\n\r", b"\n", Err(AskFault::BadResponse), 1),
     (b"bbbb", b"more", Err(AskFault::BadResponse), 4),

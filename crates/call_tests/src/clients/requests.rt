@@ -11,7 +11,7 @@ pub(super) const CHECK_OF_EMPTY: &[u8] = b"POST /grpc.health.v1.Health/Check HTT
     \0\0\0\0\0";
 
 /// A method and a name, and the request for it.
-const REQUESTS: [(Method, &str, &[u8]); 4] = [
+static REQUESTS: [(Method, &str, &[u8]); 4] = [
     (Method::Check, "", CHECK_OF_EMPTY),
     (
         Method::Check,
@@ -50,7 +50,7 @@ const REQUESTS: [(Method, &str, &[u8]); 4] = [
 ];
 
 /// Inputs that tell an answer, and that show each fault of one.
-const INPUTS: [&[u8]; 4] = [
+static INPUTS: [&[u8]; 4] = [
     b"",
     SERVING,
     b"HTTP/1.1 404 Not Found\r\n\r\n",

@@ -25,7 +25,7 @@ type Row = (&'static [u8], &'static [u8], Option<(u8, u32, u32)>);
 
 /// Lines one after the other over one registry, with room for four entries. The empty name stands at
 /// slot 1.
-const LINES: [Row; 16] = [
+static LINES: [Row; 16] = [
     (b"expect a 5\n", b"missing\n", None),
     (b"expect b 5\n", b"refused not listed\n", None),
     (b"register a threshold 1\n", b"done\n", None),

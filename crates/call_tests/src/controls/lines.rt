@@ -6,7 +6,7 @@ use std::alloc::Global;
 use std::process::Abort;
 
 /// Lines one after the other, and what is answered.
-const LINES: [(&[u8], &[u8]); 55] = [
+static LINES: [(&[u8], &[u8]); 55] = [
     (b"list\n", b"a=absent -=absent\n"),
     (b"check a\n", b"not found\n"),
     (b"why a\n", b"absent: never registered\n"),
@@ -206,7 +206,7 @@ fn ends_at_a_line_that_is_too_long(rt: HostRuntime) {
 }
 
 /// What is given before no more bytes come, and what is answered.
-const LAST: [(&[u8], &[u8]); 4] = [
+static LAST: [(&[u8], &[u8]); 4] = [
     (b"", b""),
     (b"list", b"a=absent -=absent\n"),
     (b"list\n", b"a=absent -=absent\n"),
@@ -231,7 +231,7 @@ fn takes_a_last_line_that_has_no_lf(rt: HostRuntime) {
 type Row = (&'static [u8], u32, u32);
 
 /// Lines one after the other, each list over a registry of its own, with room for four entries.
-const WAKES: [&[Row]; 4] = [
+static WAKES: [&[Row]; 4] = [
     &[
         (b"list\n", 0, 0),
         (b"register a manual\n", 1, 0),
@@ -292,7 +292,7 @@ fn expect_told_anew(rt: &impl Abort, alloc: Global, rows: &[Row]) {
 
 #[test]
 fn wakes_the_server_after_each_change_that_shows_and_no_other(rt: HostRuntime) {
-    for rows in WAKES {
+    for &rows in &WAKES {
         expect_told_anew(&rt, rt.alloc(), rows);
     }
 }

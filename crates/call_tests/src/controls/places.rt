@@ -177,7 +177,7 @@ fn refuses_what_is_not_local(rt: HostRuntime) {
 }
 
 /// Who may connect, and the mode of the socket's file.
-const MODES: [(Access, u32); 2] = [(Access::Owner, 0o600), (Access::Group, 0o660)];
+static MODES: [(Access, u32); 2] = [(Access::Owner, 0o600), (Access::Group, 0o660)];
 
 /// The path has a socket's file with this mode, at which a client talks, until it is removed.
 fn talk_at<R: Files + Net<Stream = TcpStream> + AllocGlobal + Abort>(
@@ -222,7 +222,7 @@ fn talk_at<R: Files + Net<Stream = TcpStream> + AllocGlobal + Abort>(
 
 #[test]
 fn talks_over_a_path_that_its_owner_and_maybe_its_group_may_use(rt: HostRuntime) {
-    for (access, mode) in MODES {
+    for &(access, mode) in &MODES {
         let path = path_named(&rt, "talks").expect(&rt, "a path");
         talk_at(&rt, &path, access, mode);
     }

@@ -6,7 +6,7 @@ use std::alloc::Global;
 use std::process::Abort;
 
 /// A request of each kind, and whether who reports may make it.
-const REQUESTS: [(&str, bool); 18] = [
+static REQUESTS: [(&str, bool); 18] = [
     ("pass a", true),
     ("fail a", true),
     ("check a", true),

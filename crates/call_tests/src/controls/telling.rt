@@ -15,7 +15,7 @@ type Row = (
     &'static [u8],
 );
 
-const ANSWERS: [Row; 7] = [
+static ANSWERS: [Row; 7] = [
     (b"pass db", b"done\n", Some(b"done"), b""),
     (b"check db", b"serving\nmore\n", Some(b"serving"), b"more\n"),
     (b"board", b"\n\n", Some(b""), b"\n"),
@@ -61,7 +61,7 @@ fn sends_a_line_and_reads_its_answer_and_no_more(rt: HostRuntime) {
 
 /// The faulty read and the faulty write, counted from 1, what is faulty about it, the text of the fault, how many bytes of a line were
 /// sent by writes of three bytes, and how often was read.
-const FAULTS: [(usize, usize, Fault, &str, usize, usize); 8] = [
+static FAULTS: [(usize, usize, Fault, &str, usize, usize); 8] = [
     (
         1,
         0,
@@ -154,7 +154,7 @@ fn reads_no_answer_of_over_64_kib(rt: HostRuntime) {
 }
 
 /// Each answer of a session, and whether it is a refusal.
-const REFUSALS: [(&[u8], bool); 21] = [
+static REFUSALS: [(&[u8], bool); 21] = [
     (b"refused not listed", true),
     (b"refused bad rule", true),
     (b"refused full", true),

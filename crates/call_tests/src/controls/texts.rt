@@ -2,7 +2,7 @@ use crate::same::same;
 use control::Place;
 
 /// Texts, and which places they are.
-const TEXTS: [(&str, Option<Kind>); 15] = [
+static TEXTS: [(&str, Option<Kind>); 15] = [
     ("127.0.0.1:9000", Some(Kind::Address(9_000))),
     ("[::1]:0", Some(Kind::Address(0))),
     ("/run/healthd.sock", Some(Kind::Path)),

@@ -7,10 +7,10 @@ use std::alloc::{AllocError, Global};
 use std::process::Abort;
 
 /// The names of the catalogue, of which the last is never registered.
-const NAMES: [&str; 5] = ["", "a/b", "50% \"größe\"", "line\nfeed\\", "gone"];
+static NAMES: [&str; 5] = ["", "a/b", "50% \"größe\"", "line\nfeed\\", "gone"];
 
 /// Those that are set down.
-const DOWN: [u8; 2] = [1, 3];
+static DOWN: [u8; 2] = [1, 3];
 
 pub(crate) const FIGURES: Figures = Figures {
     most: 10,

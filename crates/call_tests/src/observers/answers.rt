@@ -15,7 +15,7 @@ const NOT_FOUND: &[u8] =
 
 #[test]
 fn tells_what_whole_answers_are(rt: HostRuntime) {
-    const ROWS: [(Kind, &[u8], Verdict); 15] = [
+    static ROWS: [(Kind, &[u8], Verdict); 15] = [
         (Kind::Tcp, b"", Verdict::Pass),
         (Kind::Http, b"HTTP/1.1 200 OK\r\n", Verdict::Pass),
         (Kind::Http, b"HTTP/1.0 204\r\nx: y\r\n", Verdict::Pass),
@@ -64,7 +64,7 @@ fn tells_what_whole_answers_are(rt: HostRuntime) {
         ),
         (Kind::GrpcWeb, NOT_FOUND, Verdict::Fail(Why::Code(5))),
     ];
-    for (kind, bytes, verdict) in ROWS {
+    for &(kind, bytes, verdict) in &ROWS {
         let found = answer_of(rt.alloc(), kind, bytes);
         same(&rt, &found, &Answer::Told(verdict), &bytes);
     }
@@ -86,12 +86,12 @@ fn tells_what_whole_answers_are(rt: HostRuntime) {
 
 #[test]
 fn waits_for_the_whole_answer(rt: HostRuntime) {
-    const ROWS: [(Kind, &[u8]); 3] = [
+    static ROWS: [(Kind, &[u8]); 3] = [
         (Kind::Http, b"HTTP/1.1 200 OK\r\n"),
         (Kind::GrpcWeb, SERVING),
         (Kind::GrpcWeb, NOT_SERVING),
     ];
-    for (kind, bytes) in ROWS {
+    for &(kind, bytes) in &ROWS {
         for len in 0..bytes.len() {
             let found = answer_of(rt.alloc(), kind, &bytes[..len]);
             same(&rt, &found, &Answer::Open, &(kind, len));

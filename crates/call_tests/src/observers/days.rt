@@ -73,14 +73,14 @@ fn begins_no_look_beside_another(rt: HostRuntime) {
     let terms = Terms::new(1000, 900).expect(&rt, "terms");
     let mut lookout = Lookout::spread(rt.alloc(), Kind::Tcp, terms, 1, 2, DAY);
     same(&rt, &lookout.until(), &(DAY + 500), &"first");
-    const ROWS: [(u64, bool); 5] = [
+    static ROWS: [(u64, bool); 5] = [
         (DAY + 499, false),
         (DAY + 1000, true),
         (DAY + 1500, false),
         (DAY + 1899, false),
         (DAY + 1999, false),
     ];
-    for (now, begins) in ROWS {
+    for &(now, begins) in &ROWS {
         same(&rt, &lookout.begin(rt.alloc(), now), &begins, &now);
     }
     lookout.hear(1, DAY + 1999, Event::Waited);

@@ -26,7 +26,7 @@ const CLOSED: Option<Verdict> = Some(Verdict::Fail(Why::Closed));
 const PASS: Option<Verdict> = Some(Verdict::Pass);
 
 /// Looks of each kind, by the rows that they are told.
-const LOOKS: [(Kind, &[Row<'static>]); 7] = [
+static LOOKS: [(Kind, &[Row<'static>]); 7] = [
     (
         Kind::Tcp,
         &[
@@ -87,7 +87,7 @@ const LOOKS: [(Kind, &[Row<'static>]); 7] = [
 
 #[test]
 fn reports_each_look_once(rt: HostRuntime) {
-    for (kind, rows) in LOOKS {
+    for &(kind, rows) in &LOOKS {
         play(&rt, rt.alloc(), kind, rows);
     }
 }

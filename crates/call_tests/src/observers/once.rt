@@ -7,7 +7,7 @@ use std::process::Abort;
 use std::thread;
 
 /// What each target is asked by, what it answers, and what the look comes to.
-const ROWS: [(&str, &[&str], Verdict); 6] = [
+static ROWS: [(&str, &[&str], Verdict); 6] = [
     ("a=tcp://", &[], Verdict::Pass),
     (
         "b=http://",
@@ -37,7 +37,7 @@ fn looks_once_at_each(rt: HostRuntime) {
     let (place, place_addr) = listen(&rt, 0);
     let mut listeners = Vec::new(alloc);
     let mut targets = Vec::new(alloc);
-    for (name, _, _) in ROWS {
+    for &(name, _, _) in &ROWS {
         let (listener, addr) = listen(&rt, 0);
         listeners.push(listener).expect(&rt, "memory");
         let target = target(&rt, alloc, name, addr);

@@ -3,7 +3,7 @@ use observation::{Kind, Target, TargetFault};
 
 #[test]
 fn reads_targets(rt: HostRuntime) {
-    const ROWS: [(&str, &str, Kind, &str, u16); 7] = [
+    static ROWS: [(&str, &str, Kind, &str, u16); 7] = [
         (
             "db=tcp://localhost:5432",
             "db",
@@ -30,7 +30,7 @@ fn reads_targets(rt: HostRuntime) {
             50052,
         ),
     ];
-    for (text, name, kind, host, port) in ROWS {
+    for &(text, name, kind, host, port) in &ROWS {
         let target = Target::read(rt.alloc(), text).expect(&rt, text);
         same(&rt, &target.name(), &name, &text);
         same(&rt, &target.kind(), &kind, &text);
@@ -41,7 +41,7 @@ fn reads_targets(rt: HostRuntime) {
 
 #[test]
 fn refuses_mistakes(rt: HostRuntime) {
-    const ROWS: [(&str, TargetFault); 19] = [
+    static ROWS: [(&str, TargetFault); 19] = [
         ("", TargetFault::NoUrl),
         ("tcp://localhost:1", TargetFault::NoUrl),
         ("=tcp://localhost:1", TargetFault::NoName),
@@ -62,7 +62,7 @@ fn refuses_mistakes(rt: HostRuntime) {
         ("db=tcp://u@h:1", TargetFault::BadHost),
         ("db=tcp://::1:1", TargetFault::BadHost),
     ];
-    for (text, fault) in ROWS {
+    for &(text, fault) in &ROWS {
         let found = Target::read(rt.alloc(), text).err();
         same(&rt, &found, &Some(fault), &text);
     }
@@ -70,7 +70,7 @@ fn refuses_mistakes(rt: HostRuntime) {
 
 #[test]
 fn writes_requests(rt: HostRuntime) {
-    const ROWS: [(&str, &str); 4] = [
+    static ROWS: [(&str, &str); 4] = [
         ("db=tcp://h:1", ""),
         (
             "a=http://h",
@@ -87,7 +87,7 @@ fn writes_requests(rt: HostRuntime) {
             content-length: 9\r\n\r\n\0\0\0\0\x04\x0a\x02ab",
         ),
     ];
-    for (text, request) in ROWS {
+    for &(text, request) in &ROWS {
         let target = Target::read(rt.alloc(), text).expect(&rt, text);
         let found = target.request(rt.alloc()).expect(&rt, "a request");
         same(&rt, &found.as_slice(), &request.as_bytes(), &text);

@@ -8,7 +8,7 @@ use test_support::Scarcity;
 /// More steps of memory than any of the texts needs.
 const STEPS: usize = 1_000;
 
-const TOLD: [Told; 2] = [
+static TOLD: [Told; 2] = [
     (
         "-",
         "since 4711 2026-11-26T01:45:09.123456Z reported 4 - expected 30 not_serving: depends on db",

@@ -1,7 +1,7 @@
 use crate::same::same;
 use open_files::connections_within;
 
-const CASES: [(u64, u32, u32, Option<u32>); 8] = [
+static CASES: [(u64, u32, u32, Option<u32>); 8] = [
     (1_024, 1_000, 24, Some(1_000)),
     (1_024, 1_001, 24, Some(1_000)),
     (1_024, 10, 24, Some(10)),

@@ -11,7 +11,7 @@ Max locked memory         8388608              8388608              bytes     \n
 Max nice priority         0                    0                    \n\
 ";
 
-const CASES: [(&[u8], Option<OpenFiles>); 16] = [
+static CASES: [(&[u8], Option<OpenFiles>); 16] = [
     (WHOLE, Some(OpenFiles::AtMost(20_000))),
     (
         b"Max open files            unlimited            unlimited            files     \n",

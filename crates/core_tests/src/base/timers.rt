@@ -33,7 +33,7 @@ enum Step {
     Due(Option<u64>),
 }
 
-const CASES: [(&str, &[Step]); 9] = [
+static CASES: [(&str, &[Step]); 9] = [
     (
         "early by a nanosecond, due, and told once",
         &[
@@ -153,7 +153,7 @@ fn take(rt: &impl Abort, timer: &mut Timer, step: Step) -> bool {
 
 #[test]
 fn tells_once_and_when_due(rt: HostRuntime) {
-    for (case, steps) in CASES {
+    for &(case, steps) in &CASES {
         let mut timer = Timer::new();
         for step in steps {
             assert!(rt; take(&rt, &mut timer, *step), "{case}: {step:?}");

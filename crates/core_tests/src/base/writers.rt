@@ -69,7 +69,7 @@ fn read_all(
 }
 
 /// Lines of a few bytes, of hundreds, and longer ones than a pipe takes whole.
-const LENGTHS: [usize; 3] = [3, 700, 10_000];
+static LENGTHS: [usize; 3] = [3, 700, 10_000];
 
 /// Fills a writer to a pipe that nobody reads, and fills it again once the pipe has taken some of it.
 fn fill_twice(
@@ -108,7 +108,7 @@ fn expect_all(
 
 #[test]
 fn a_full_pipe_makes_nobody_wait(rt: HostRuntime) {
-    for more in LENGTHS {
+    for &more in &LENGTHS {
         let (reader, end) = io::pipe(&rt).expect(&rt, "a pipe");
         let mut writer = Writer::new(rt.alloc(), shared(&end)).expect(&rt, "memory");
         expect_all(&rt, rt.alloc(), &mut writer, &reader, more);

@@ -134,12 +134,12 @@ fn the_newest_of_a_service_stays_known(rt: HostRuntime) {
 }
 
 /// Places far behind one another, of which each is the newest of its service when it is kept.
-const FAR: [u32; 4] = [10, 0x7fff_ffff, 0x8000_0014, 0xfffe_fffe];
+static FAR: [u32; 4] = [10, 0x7fff_ffff, 0x8000_0014, 0xfffe_fffe];
 
 #[test]
 fn the_newest_is_known_however_far_behind_the_one_before(rt: HostRuntime) {
     let chronicle = Chronicle::new(rt.alloc()).expect(&rt, "memory");
-    for place in FAR {
+    for &place in &FAR {
         let who = Who::Session(place);
         chronicle.note(place, u64::from(place), who);
         chronicle.keep(3, Newest::Change, place);

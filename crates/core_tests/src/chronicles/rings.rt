@@ -171,7 +171,7 @@ fn finds_the_first_place_that_is_kept(rt: HostRuntime) {
     for place in [0, 1, 2, 3, 4, 6] {
         ring.put(place, record_at(place));
     }
-    for (start, end, found) in SEARCHES {
+    for &(start, end, found) in &SEARCHES {
         let expected = found.map(|place| (place, record_at(place)));
         let found = ring.first_kept(start, end);
         same(&rt, &found, &expected, &(start, end));

@@ -88,7 +88,7 @@ const NEW: [(u32, Result<u32, Missing>); 4] = [
 #[test]
 fn a_new_slot_stands_at_the_lap_before_the_first(rt: HostRuntime) {
     let slot = Slot::new();
-    for (lap, expected) in NEW {
+    for &(lap, expected) in &NEW {
         let expected = expected.map(record_of);
         same(&rt, &slot.record(lap), &expected, &lap);
     }

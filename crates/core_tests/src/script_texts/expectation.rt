@@ -5,7 +5,7 @@ use std::process::Abort;
 use test_support::Scarcity;
 
 /// Texts, and the name and the seconds of the expectation that each gives.
-const TEXTS: [(&str, Option<(&str, u32)>); 29] = [
+static TEXTS: [(&str, Option<(&str, u32)>); 29] = [
     ("expect a 5", Some(("a", 5))),
     ("expect a 1", Some(("a", 1))),
     ("expect a 0", Some(("a", 0))),
@@ -39,7 +39,7 @@ const TEXTS: [(&str, Option<(&str, u32)>); 29] = [
 
 #[test]
 fn reads_a_name_and_up_to_86_400_seconds(rt: HostRuntime) {
-    for (text, expected) in TEXTS {
+    for &(text, expected) in &TEXTS {
         let found = read_expectation(rt.alloc(), text).expect(&rt, "memory");
         let found = found.as_ref().map(|one| (one.name.as_str(), one.seconds));
         same(&rt, &found, &expected, &text);
@@ -51,7 +51,7 @@ fn reads_a_name_and_up_to_86_400_seconds(rt: HostRuntime) {
 type Said<'a> = (u32, usize, &'a str, u32);
 
 /// Scripts to run, the numbers of their lines, and their expectations.
-const SCRIPTS: [(&str, &[u32], &[Said<'static>]); 5] = [
+static SCRIPTS: [(&str, &[u32], &[Said<'static>]); 5] = [
     (
         "# one\ncatalogue a b -\r\n\nregister a threshold 2\nexpect a 5\r\n# two\n\
             expect - 0\nregister b manual\nup b\nexpect zz 86400\n",
@@ -88,7 +88,7 @@ fn expect_numbers(rt: &impl Abort, script: &Script, numbers: &[u32], text: &str)
 
 #[test]
 fn keeps_expectations_apart_from_the_lines(rt: HostRuntime) {
-    for (text, numbers, said) in SCRIPTS {
+    for &(text, numbers, said) in &SCRIPTS {
         let script = read_script(rt.alloc(), text.as_bytes(), Mode::Run).expect(&rt, "a script");
         expect_numbers(&rt, &script, numbers, text);
         expect_said(&rt, &script, said, text);
@@ -96,7 +96,7 @@ fn keeps_expectations_apart_from_the_lines(rt: HostRuntime) {
 }
 
 /// Scripts that are none, by the number of the line that is bad.
-const BAD: [(Mode, &str, u32); 12] = [
+static BAD: [(Mode, &str, u32); 12] = [
     (Mode::Run, "catalogue a -\nexpect a 86401", 2),
     (Mode::Run, "catalogue a -\nmax 9\nexpect a", 3),
     (Mode::Run, "catalogue a -\nup a\nexpect a 5\nexpect a -1", 4),
@@ -113,7 +113,7 @@ const BAD: [(Mode, &str, u32); 12] = [
 
 #[test]
 fn refuses_a_bad_expectation_and_any_in_other_modes(rt: HostRuntime) {
-    for (mode, text, number) in BAD {
+    for &(mode, text, number) in &BAD {
         let fault = read_script(rt.alloc(), text.as_bytes(), mode).err();
         same(&rt, &fault, &Some(ScriptFault::BadLine(number)), &text);
     }

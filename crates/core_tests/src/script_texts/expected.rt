@@ -10,7 +10,7 @@ type Found = Result<&'static [(u8, u32)], (u32, Result<Reply, Refusal>)>;
 
 /// What a script to run has behind the line `catalogue a b -`, whose slots are 0, 1 and 2, and what
 /// comes of it.
-const SCRIPTS: [(&str, Found); 28] = [
+static SCRIPTS: [(&str, Found); 28] = [
     ("", Ok(&[])),
     ("register a threshold 1", Ok(&[])),
     ("register a threshold 1\nexpect a 5", Ok(&[(0, 5)])),
@@ -135,7 +135,7 @@ fn expect_found(
 #[test]
 fn expects_what_stands_behind_the_last_line(rt: HostRuntime) {
     let alloc = rt.alloc();
-    for (body, wanted) in SCRIPTS {
+    for &(body, wanted) in &SCRIPTS {
         let text = joined(&rt, alloc, "catalogue a b -\n", body);
         let script = read_script(alloc, text.as_bytes(), Mode::Run).expect(&rt, "a script");
         let found = expected_of(alloc, &script).expect(&rt, "memory");

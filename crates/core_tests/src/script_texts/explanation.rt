@@ -6,7 +6,7 @@ use std::process::Abort;
 use test_support::Scarcity;
 
 /// Scripts to run that are none, and what is said of them.
-const EXPLAINED: [(&str, &str); 66] = [
+static EXPLAINED: [(&str, &str); 66] = [
     ("", "no catalogue line"),
     ("# only a comment\n\n\r\n", "no catalogue line"),
     (
@@ -298,7 +298,7 @@ fn explained(rt: &impl Abort, alloc: Global, text: &str) -> Option<String> {
 
 #[test]
 fn tells_a_bad_line_with_its_text_and_what_was_expected(rt: HostRuntime) {
-    for (text, expected) in EXPLAINED {
+    for &(text, expected) in &EXPLAINED {
         let found = explained(&rt, rt.alloc(), text);
         let found = found.as_ref().map(|text| text.as_str());
         same(&rt, &found, &Some(expected), &text);
@@ -306,7 +306,7 @@ fn tells_a_bad_line_with_its_text_and_what_was_expected(rt: HostRuntime) {
 }
 
 /// Faults that are none of the text's own, and what is said then.
-const ELSEWHERE: [(&[u8], ScriptFault, &str); 10] = [
+static ELSEWHERE: [(&[u8], ScriptFault, &str); 10] = [
     // A line that reads well has no complaint.
     (
         b"catalogue db -\nup db",
@@ -351,7 +351,7 @@ const ELSEWHERE: [(&[u8], ScriptFault, &str); 10] = [
 
 #[test]
 fn tells_only_what_it_finds(rt: HostRuntime) {
-    for (bytes, fault, expected) in ELSEWHERE {
+    for &(bytes, fault, expected) in &ELSEWHERE {
         let found = explain(rt.alloc(), bytes, fault).expect(&rt, "memory");
         same(&rt, &found.as_str(), &expected, &bytes);
     }

@@ -412,7 +412,7 @@ fn refuses_each_growth(rt: HostRuntime) {
 }
 
 /// What is bad as the fourth line of a script to replay, behind an opened watch.
-const BAD_TO_REPLAY: [(&str, u32); 41] = [
+static BAD_TO_REPLAY: [(&str, u32); 41] = [
     ("register a threshold 1 4294967296", 4),
     ("register a threshold 1 00000000001", 4),
     ("register a threshold 1 2 3", 4),
@@ -457,7 +457,7 @@ const BAD_TO_REPLAY: [(&str, u32); 41] = [
 ];
 
 /// What a script to serve has behind its opening, and the line that is bad.
-const BAD_TO_SERVE: [(&str, u32); 12] = [
+static BAD_TO_SERVE: [(&str, u32); 12] = [
     ("check a", 3),
     ("open a", 3),
     ("step 0", 3),
@@ -473,7 +473,7 @@ const BAD_TO_SERVE: [(&str, u32); 12] = [
 ];
 
 /// What a script to run has behind the three lines of its opening, and the line that is bad.
-const BAD_TO_RUN: [(&str, u32); 20] = [
+static BAD_TO_RUN: [(&str, u32); 20] = [
     ("check a", 4),
     ("open a", 4),
     ("step 0", 4),
@@ -497,7 +497,7 @@ const BAD_TO_RUN: [(&str, u32); 20] = [
 ];
 
 /// What a script to run has behind the one line of its catalogue, and the line that is bad.
-const BAD_BEHIND_CATALOGUE: [(&str, u32); 9] = [
+static BAD_BEHIND_CATALOGUE: [(&str, u32); 9] = [
     ("max", 2),
     ("max x", 2),
     ("max 9 9", 2),
@@ -537,7 +537,7 @@ fn refuses_each_bad_line(rt: HostRuntime) {
 }
 
 /// Openings, and the fault of a script that goes no further, in each mode.
-const OPENINGS: [(&str, ScriptFault); 22] = [
+static OPENINGS: [(&str, ScriptFault); 22] = [
     ("", ScriptFault::BadLine(1)),
     ("\n", ScriptFault::BadLine(2)),
     ("\n\n", ScriptFault::BadLine(3)),
@@ -582,7 +582,7 @@ const OPENINGS: [(&str, ScriptFault); 22] = [
 ];
 
 /// Openings of scripts to run, behind comments and empty lines, and the fault of a script that goes no further.
-const OPENINGS_TO_RUN: [(&str, ScriptFault); 10] = [
+static OPENINGS_TO_RUN: [(&str, ScriptFault); 10] = [
     ("#", ScriptFault::BadLine(2)),
     ("\r", ScriptFault::BadLine(2)),
     ("# a\r\n\r\n", ScriptFault::BadLine(3)),
@@ -602,7 +602,7 @@ const OPENINGS_TO_RUN: [(&str, ScriptFault); 10] = [
 ];
 
 /// What is bad in a script to replay or to serve, and not in one to run.
-const ELSEWHERE: [(&str, ScriptFault); 10] = [
+static ELSEWHERE: [(&str, ScriptFault); 10] = [
     ("catalogue a -", ScriptFault::BadLine(2)),
     ("catalogue a -\n", ScriptFault::BadLine(2)),
     ("catalogue a -\n\n", ScriptFault::BadLine(3)),
@@ -639,14 +639,14 @@ fn has_comments_carriage_returns_and_no_max_only_to_run(rt: HostRuntime) {
     let alloc = rt.alloc();
     expect_faults(&rt, alloc, Mode::Replay, &ELSEWHERE);
     expect_faults(&rt, alloc, Mode::Serve, &ELSEWHERE);
-    for (text, _) in ELSEWHERE {
+    for &(text, _) in &ELSEWHERE {
         let found = read_script(alloc, text.as_bytes(), Mode::Run).err();
         same(&rt, &found, &None, &text);
     }
 }
 
 /// The largest texts, filled up with this byte, and their fault. With one byte more each is too long.
-const LARGEST: [(Mode, &[u8], u8, Option<ScriptFault>); 4] = [
+static LARGEST: [(Mode, &[u8], u8, Option<ScriptFault>); 4] = [
     (Mode::Replay, b"catalogue -\nmax 1", b'\n', None),
     (Mode::Run, b"catalogue -\nmax 1\n#", b'#', None),
     (Mode::Run, b"# \xff", b'\n', Some(ScriptFault::NotText)),
@@ -663,7 +663,7 @@ fn filled(rt: &impl Abort, alloc: Global, front: &[u8], byte: u8) -> Vec<u8> {
 #[test]
 fn takes_65_536_bytes_of_text_and_no_more(rt: HostRuntime) {
     let alloc = rt.alloc();
-    for (mode, front, byte, fault) in LARGEST {
+    for &(mode, front, byte, fault) in &LARGEST {
         let mut bytes = filled(&rt, alloc, front, byte);
         let found = read_script(alloc, &bytes, mode).err();
         same(&rt, &found, &fault, &front);

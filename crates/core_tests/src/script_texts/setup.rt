@@ -73,7 +73,7 @@ fn registry_of<R: Abort>(rt: &R, alloc: Global, text: &[u8]) -> (Registry<Manual
 }
 
 /// What comes of the lines that ask for a change.
-const RESULTS: [Result<Reply, Refusal>; 7] = [
+static RESULTS: [Result<Reply, Refusal>; 7] = [
     Ok(Reply::Done),
     Ok(Reply::Done),
     Err(Refusal::NotListed),

@@ -9,7 +9,7 @@ use std::alloc::Global;
 use std::process::Abort;
 use test_support::Scarcity;
 
-const BODIES: [(&[u8], Result<&[u8], FrameFault>); 17] = [
+static BODIES: [(&[u8], Result<&[u8], FrameFault>); 17] = [
     (b"", Err(FrameFault::NoMessage)),
     (b"\0\0\0\0\0", Ok(b"")),
     (b"\0\0\0\0\x03\x0a\x01a", Ok(b"\x0a\x01a")),
@@ -48,7 +48,7 @@ fn appends_a_message(rt: HostRuntime) {
     same(&rt, &out.as_slice(), &expected, &"two messages");
 }
 
-const STATUSES: [(Code, &str, &[u8]); 7] = [
+static STATUSES: [(Code, &str, &[u8]); 7] = [
     (Code::Ok, "", b"\x80\0\0\0\x0fgrpc-status:0\r\n"),
     (
         Code::NotFound,
@@ -84,7 +84,7 @@ const STATUSES: [(Code, &str, &[u8]); 7] = [
 
 #[test]
 fn appends_the_trailers_of_each_status(rt: HostRuntime) {
-    for (code, text, expected) in STATUSES {
+    for &(code, text, expected) in &STATUSES {
         let mut out = [7].to_vec(rt.alloc()).expect(&rt, "memory");
         put_trailers(&mut out, code, text).expect(&rt, "memory");
         same(&rt, &out.split_first(), &Some((&7, expected)), &text);
@@ -93,7 +93,7 @@ fn appends_the_trailers_of_each_status(rt: HostRuntime) {
 
 const RESPONSE: &[u8] = b"\0\0\0\0\x02\x08\x01\x80\0\0\0\x0fgrpc-status:0\r\n";
 
-const FRAMES: [(u8, &[u8]); 2] = [(0, b"\x08\x01"), (0x80, b"grpc-status:0\r\n")];
+static FRAMES: [(u8, &[u8]); 2] = [(0, b"\x08\x01"), (0x80, b"grpc-status:0\r\n")];
 
 #[test]
 fn takes_the_frames_of_a_response_fed_byte_by_byte(rt: HostRuntime) {
@@ -101,7 +101,7 @@ fn takes_the_frames_of_a_response_fed_byte_by_byte(rt: HostRuntime) {
     for byte in RESPONSE {
         splitter.feed(&[*byte]).expect(&rt, "memory");
     }
-    for (flag, body) in FRAMES {
+    for &(flag, body) in &FRAMES {
         let frame = splitter.take().expect(&rt, "no fault");
         let frame = frame.expect(&rt, "a frame");
         same(&rt, &frame.flag, &flag, &"a frame");
@@ -111,7 +111,7 @@ fn takes_the_frames_of_a_response_fed_byte_by_byte(rt: HostRuntime) {
     same(&rt, &splitter.rest(), &b"".as_slice(), &"the rest");
 }
 
-const STARTS: [(&[u8], Result<bool, SplitFault>); 8] = [
+static STARTS: [(&[u8], Result<bool, SplitFault>); 8] = [
     (b"", Ok(false)),
     (b"\x01\0\x10\0", Ok(false)),
     (b"\0\0\x10\0\0", Ok(false)),
@@ -131,7 +131,7 @@ fn is_taken(splitter: &mut Splitter) -> Result<bool, SplitFault> {
 
 #[test]
 fn takes_a_frame_none_or_refuses_its_length(rt: HostRuntime) {
-    for (bytes, expected) in STARTS {
+    for &(bytes, expected) in &STARTS {
         let mut splitter = Splitter::new(rt.alloc());
         splitter.feed(bytes).expect(&rt, "memory");
         same(&rt, &is_taken(&mut splitter), &expected, &bytes);
@@ -143,7 +143,7 @@ fn takes_a_frame_none_or_refuses_its_length(rt: HostRuntime) {
     }
 }
 
-const BLOCKS: [(&[u8], Result<(u32, &[u8]), TrailerFault>); 20] = [
+static BLOCKS: [(&[u8], Result<(u32, &[u8]), TrailerFault>); 20] = [
     (b"", Err(TrailerFault::NoStatus)),
     (b"\r\n", Err(TrailerFault::NoColon)),
     (

@@ -7,7 +7,7 @@ use std::alloc::Global;
 use std::process::Abort;
 use test_support::Scarcity;
 
-const REQUESTS: [(&[u8], Result<&str, WireFault>); 27] = [
+static REQUESTS: [(&[u8], Result<&str, WireFault>); 27] = [
     (b"", Ok("")),
     (b"\x0a\x01a", Ok("a")),
     (b"\x0a\x02a", Err(WireFault::Truncated)),
@@ -66,7 +66,7 @@ fn reads_the_last_service_name_or_the_first_fault(rt: HostRuntime) {
     }
 }
 
-const RESPONSES: [(&[u8], Result<u64, WireFault>); 7] = [
+static RESPONSES: [(&[u8], Result<u64, WireFault>); 7] = [
     (b"", Ok(0)),
     (b"\x08\x02", Ok(2)),
     (b"\x08\x01\x08\x02", Ok(2)),
@@ -90,7 +90,7 @@ fn reads_the_last_status_number_or_the_first_fault(rt: HostRuntime) {
 const FOUR_FIELDS: &[u8] =
     b"\x0a\x01a\x48\x05\x11\x01\x02\x03\x04\x05\x06\x07\x08\x1d\x01\x02\x03\x04";
 
-const FIELDS: [Field<'static>; 4] = [
+static FIELDS: [Field<'static>; 4] = [
     Field {
         number: 1,
         value: Value::Bytes(b"a"),
@@ -115,7 +115,7 @@ fn reads_fields_in_order(rt: HostRuntime) {
     same(&rt, &found.as_slice(), &FIELDS.as_slice(), &FOUR_FIELDS);
 }
 
-const STATUSES: [(Serving, &[u8]); 4] = [
+static STATUSES: [(Serving, &[u8]); 4] = [
     (Serving::Unknown, b""),
     (Serving::Serving, b"\x08\x01"),
     (Serving::NotServing, b"\x08\x02"),
@@ -138,7 +138,7 @@ const LONG_REQUEST: &[u8] =
     nnnnnnnnnnnnnnnnnnnnnnnnnnnnnnnnnnnnnnnnnnnnnnnnnnnnnnnnnnnnnnnn";
 
 /// Names, and the requests for them, each of which takes more memory than the one before.
-const NAMES: [(&str, &[u8]); 3] = [("", b""), ("a", b"\x0a\x01a"), (LONG_NAME, LONG_REQUEST)];
+static NAMES: [(&str, &[u8]); 3] = [("", b""), ("a", b"\x0a\x01a"), (LONG_NAME, LONG_REQUEST)];
 
 /// How the calls of a table ended.
 #[derive(Clone, Copy, Debug, PartialEq, Eq)]

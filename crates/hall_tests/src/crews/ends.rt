@@ -45,7 +45,7 @@ struct Follower {
 impl Follower {
     fn new(rt: &impl Abort, alloc: Global, is_alone: bool) -> Follower {
         let mut made = Vec::new(alloc);
-        for _ in CALLS {
+        for _ in &CALLS {
             made.push(AtomicU32::new(0)).expect(rt, "memory");
         }
         Follower {

@@ -20,7 +20,7 @@ const REFUSED: [(u16, &[&[Wish]], u16, CrewWhy); 6] = [
 ];
 
 fn expect_refusals<R: Wait + Threads + Sync + Abort>(rt: &R, alloc: Global) {
-    for (workers, lists, seats, why) in REFUSED {
+    for &(workers, lists, seats, why) in &REFUSED {
         let mut plan = plan_of(workers);
         plan.seats = seats;
         let requests = [Some(CHECK_OF_EMPTY), None];

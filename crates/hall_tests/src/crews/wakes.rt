@@ -36,7 +36,7 @@ const UP: Wish = Wish::Set("a", Setting::Up);
 /// How many orders set `a`, each of them behind one that is refused.
 const ROUNDS: u32 = 8;
 
-const WISHES: &[Wish] = &[
+static WISHES: &[Wish] = &[
     Wish::Set("", Setting::Down),
     Wish::SetLong,
     DOWN,

@@ -58,7 +58,7 @@ pub(crate) const FULL: &[Step] = &[
 ];
 
 /// Over a registry that keeps sixteen entries: where more were made between two rounds, the service may have been heard.
-pub(crate) const FORGETTING: &[Step] = &[
+pub(crate) static FORGETTING: &[Step] = &[
     REGISTER,
     Step::Expect(1),
     Step::Round(0, false),
@@ -71,7 +71,7 @@ pub(crate) const FORGETTING: &[Step] = &[
 ];
 
 /// What was passed by is not missed once something is expected.
-pub(crate) const FORGETTING_ASLEEP: &[Step] = &[
+pub(crate) static FORGETTING_ASLEEP: &[Step] = &[
     REGISTER,
     Step::Many(20),
     Step::Round(0, false),
@@ -81,7 +81,7 @@ pub(crate) const FORGETTING_ASLEEP: &[Step] = &[
 ];
 
 /// What comes behind a skip is heard.
-pub(crate) const HEARING_AGAIN: &[Step] = &[
+pub(crate) static HEARING_AGAIN: &[Step] = &[
     REGISTER,
     Step::Expect(1),
     Step::Round(0, false),
@@ -96,7 +96,7 @@ pub(crate) const HEARING_AGAIN: &[Step] = &[
 ];
 
 /// What is expected behind many entries holds behind these.
-pub(crate) const FAR_BEHIND: &[Step] = &[
+pub(crate) static FAR_BEHIND: &[Step] = &[
     REGISTER,
     Step::Many(300),
     Step::Retire,
@@ -107,7 +107,7 @@ pub(crate) const FAR_BEHIND: &[Step] = &[
 ];
 
 /// More entries than are seen in a round: what is seen later is a later beginning, and the next round comes at once.
-pub(crate) const MANY: &[Step] = &[
+pub(crate) static MANY: &[Step] = &[
     REGISTER,
     Step::Expect(1),
     Step::Round(0, false),
@@ -121,7 +121,7 @@ pub(crate) const MANY: &[Step] = &[
 ];
 
 /// Two services that are expected at once, each in its own time.
-pub(crate) const TWO: &[Step] = &[
+pub(crate) static TWO: &[Step] = &[
     Step::Of("a"),
     REGISTER,
     Step::Expect(2),
@@ -149,7 +149,7 @@ pub(crate) const TWO: &[Step] = &[
 ];
 
 /// What others may ask: how often the service has to be heard, and which entries were made since it was not.
-pub(crate) const TOLD: &[Step] = &[
+pub(crate) static TOLD: &[Step] = &[
     REGISTER,
     Step::Seconds(None),
     Step::Expect(2),
@@ -173,7 +173,7 @@ pub(crate) const TOLD: &[Step] = &[
 ];
 
 /// Over a history of at most a hundred entries.
-pub(crate) const ROWS: [(&str, &[Step]); 24] = [
+pub(crate) static ROWS: [(&str, &[Step]); 24] = [
     (
         "a service that is not heard from falls at once, exactly when it is due, and once",
         &[

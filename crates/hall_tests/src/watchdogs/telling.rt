@@ -314,7 +314,7 @@ fn told<R: Wait + Files + Abort, K: Keep>(
 const BEGINNING: &str = "INFO  serving on 127.0.0.1:8080, 3 services, 2 entries\n";
 
 /// What is told, without the times, behind the line that tells where the server serves.
-const ROWS: &[(&str, u32, &[Step], &str)] = &[
+static ROWS: &[(&str, u32, &[Step], &str)] = &[
     (
         "nothing comes about",
         100,
@@ -518,7 +518,7 @@ WARN  all 4 sessions are taken
 ];
 
 /// What is told last.
-const ENDS: &[(&str, u32, &[Step], &str)] = &[
+static ENDS: &[(&str, u32, &[Step], &str)] = &[
     (
         "the server ends right after it began",
         100,
@@ -603,7 +603,7 @@ WARN  925 lines left out
 ];
 
 /// What is told last of a hall that keeps sixteen entries and as many status changes.
-const FORGOTTEN: &[(&str, u32, &[Step], &str)] = &[
+static FORGOTTEN: &[(&str, u32, &[Step], &str)] = &[
     (
         "entries are forgotten",
         100,
@@ -658,7 +658,7 @@ fn last_of(text: &str, count: usize) -> &str {
 
 /// The status of `api` is changed by the entries 2 and 3, and its reports are these and 4 and 5; that of `db` is changed by the entry 7,
 /// which is the watchdog's and no report.
-const KEPT: &[Step] = &[
+static KEPT: &[Step] = &[
     Fails("api"),
     Pass("api"),
     Pass("api"),

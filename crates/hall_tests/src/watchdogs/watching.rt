@@ -18,7 +18,7 @@ use std::sync::{Arc, Wait};
 use watchdog::{Expectations, Watchdog};
 
 /// As many names as there are slots.
-const NAMES: [&str; 16] = [
+static NAMES: [&str; 16] = [
     "", "a", "b", "c", "d", "e", "f", "g", "h", "i", "j", "k", "l", "m", "n", "o",
 ];
 

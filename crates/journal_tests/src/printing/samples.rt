@@ -153,7 +153,7 @@ pub(crate) fn expect_damaged(rt: &impl Abort, alloc: Global, file: &[u8], at: us
 }
 
 /// The names of most of the files: `db`, `api` and the empty one.
-pub(crate) const NAMES: [&str; 3] = ["db", "api", ""];
+pub(crate) static NAMES: [&str; 3] = ["db", "api", ""];
 
 /// The preface of a new file with these names, and the records of two entries.
 pub(crate) fn two_entries(rt: &impl Abort, alloc: Global) -> Vec<Vec<u8>> {

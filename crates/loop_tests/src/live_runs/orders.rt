@@ -89,7 +89,7 @@ down a
 ";
 
 /// What comes of each of the orders.
-const ORDERED: [Taken; 8] = [
+static ORDERED: [Taken; 8] = [
     DONE,
     Err(Refusal::NotListed),
     Ok(Reply::WrongKind),
@@ -190,7 +190,7 @@ fn tells_what_was_made_when_out_of_memory(rt: HostRuntime) {
 }
 
 /// Workers and seats that make no crew, with the fault.
-const REFUSED: [(u16, u16, CrewWhy); 3] = [
+static REFUSED: [(u16, u16, CrewWhy); 3] = [
     (0, 2, CrewWhy::NoWorkers),
     (1, 1, CrewWhy::NoSeats),
     (2, 2, CrewWhy::NoSeats),
@@ -198,7 +198,7 @@ const REFUSED: [(u16, u16, CrewWhy); 3] = [
 
 #[test]
 fn refuses_what_makes_no_crew(rt: HostRuntime) {
-    for (workers, seats, why) in REFUSED {
+    for &(workers, seats, why) in &REFUSED {
         let opened = open(&rt, rt.alloc(), ORDERS, seats);
         let fault = serve_none(&rt, rt.alloc(), opened, workers).err();
         same(&rt, &fault, &Some(ServeFault::Crew(why)), &workers);

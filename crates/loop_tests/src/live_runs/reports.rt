@@ -6,7 +6,7 @@ use probe_core::Manual;
 use server::Served;
 use web_call::{ExchangeFault, Outcome, Why};
 
-const ENDS: [CallEnd; 8] = [
+static ENDS: [CallEnd; 8] = [
     CallEnd::Done(Outcome::Status(Code::Ok)),
     CallEnd::Done(Outcome::Status(Code::NotFound)),
     CallEnd::Done(Outcome::Http(415)),

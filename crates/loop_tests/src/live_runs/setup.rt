@@ -19,7 +19,7 @@ type Taken = Option<Result<Reply, Refusal>>;
 const OPENING: &str = "catalogue a b -\nmax 4\n";
 
 /// The lines of a script, with what comes of each.
-const LINES: [(&str, Taken); 12] = [
+static LINES: [(&str, Taken); 12] = [
     ("register a threshold 2", Some(Ok(Reply::Done))),
     ("check a", None),
     ("register b depends b", Some(Err(Refusal::BadRule))),
@@ -160,7 +160,7 @@ fn makes_the_change_of_each_line(rt: HostRuntime) {
 }
 
 /// Lines that register one service, by hand.
-const LINES_OF_A: [(&str, Taken); 3] = [
+static LINES_OF_A: [(&str, Taken); 3] = [
     ("register a manual", Some(Ok(Reply::Done))),
     ("shutdown", Some(Ok(Reply::Done))),
     ("retire a", Some(Ok(Reply::Done))),

@@ -50,7 +50,7 @@ fn by_exchange(
     }
 }
 
-const REQUESTS: [&[u8]; 6] = [
+static REQUESTS: [&[u8]; 6] = [
     CHECK_OF_EMPTY,
     CHECK_OF_ZZ,
     CHECK_WITHOUT_TYPE,
@@ -95,7 +95,7 @@ fn expect_the_same(
 #[test]
 fn a_call_by_turns_is_answered_as_an_exchange(rt: HostRuntime) {
     let staged = staged_of(&rt, rt.alloc());
-    for request in REQUESTS {
+    for &request in &REQUESTS {
         for piece in [1usize, 7, 4_096] {
             for pauses in [false, true] {
                 let manner = Manner { piece, pauses };
@@ -127,7 +127,7 @@ const WHOLE: Manner = Manner::WHOLE;
 
 const BYTES: Manner = Manner::BYTE_BY_BYTE;
 
-const ROWS: [Row; 6] = [
+static ROWS: [Row; 6] = [
     // each read and each write is a piece of work, and the answer is one; 112 bytes are read in two pieces
     (CHECK_OF_EMPTY, BYTES, WHOLE, (64, 0), GOES_ON),
     (CHECK_OF_EMPTY, WHOLE, BYTES, (112, 61), GOES_ON),

@@ -29,7 +29,7 @@ const NO_READ: Fate = Fate::GivenUp(Why::Read);
 const NO_WRITE: Fate = Fate::GivenUp(Why::Write);
 
 /// A session has answered two lines by its second read, and one by its second write.
-const ROWS: [Row; 8] = [
+static ROWS: [Row; 8] = [
     (2, 0, Fault::Nothing, (NO_READ, 0), (Fate::Done, 20)),
     (2, 0, RESET, (NO_READ, 0), (NO_READ, 20)),
     (2, 0, WAITS, (Fate::Rests, 0), (Fate::Rests, 20)),

@@ -6,7 +6,7 @@ use std::process::Abort;
 use test_support::{Fault, FaultyReader, FaultyWriter};
 
 /// What a read and a write do, and how the link says that they ended.
-const ROWS: [(Fault, Last); 8] = [
+static ROWS: [(Fault, Last); 8] = [
     (Fault::Nothing, Last::Ended),
     (Fault::Error(ErrorKind::WouldBlock), Last::Waits),
     (Fault::Error(ErrorKind::Interrupted), Last::Interrupted),
@@ -64,7 +64,7 @@ fn expect_bytes(rt: &impl Abort, link: &Faulty, fault: Fault) {
 
 #[test]
 fn a_link_tells_how_calls_ended_until_it_is_renewed(rt: HostRuntime) {
-    for (fault, last) in ROWS {
+    for &(fault, last) in &ROWS {
         let mut link = Link::new(Pair {
             reader: FaultyReader::new(b"read", 1, fault),
             writer: FaultyWriter::new(rt.alloc(), 3, 1, fault),

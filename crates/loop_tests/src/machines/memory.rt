@@ -97,7 +97,7 @@ fn a_call_ends_out_of_memory(rt: HostRuntime) {
 }
 
 /// Lines for which memory is wanted, with the answers that they have where there is enough. The line behind each is a Check.
-const LINES: [(&[u8], &[u8]); 5] = [
+static LINES: [(&[u8], &[u8]); 5] = [
     (b"list\ncheck -\n", b"a=absent -=absent\nnot found\n"),
     (
         b"stats\ncheck -\n",

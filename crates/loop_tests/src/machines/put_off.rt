@@ -13,7 +13,7 @@ use web_call::staged::Staged;
 
 /// Whether what is reported of a Watch whose status waits to be sent and whose client has left says that there is something to read, and
 /// room to write; whether it may go on then; and how the turn leaves it that it has for another reason.
-const ROWS: [(bool, bool, bool, Left); 4] = [
+static ROWS: [(bool, bool, bool, Left); 4] = [
     (false, false, false, Left::Waits),
     (false, true, true, Left::Waits),
     (true, false, false, Left::Over(End::PeerLeft)),

@@ -51,7 +51,7 @@ fn expect_answers(
 }
 
 /// A line of who reports, and its answer. `a` is registered and up, and there is room for three entries more.
-const LINES: [(&[u8], &[u8]); 27] = [
+static LINES: [(&[u8], &[u8]); 27] = [
     (b"check a\n", b"serving\n"),
     (b"pass a\n", b"done\n"),
     (b"fail a\n", b"done\n"),

@@ -25,7 +25,7 @@ pub(crate) fn tended(console: &mut OneThread<Manual>) -> Tended<'_> {
 }
 
 /// What is sent to a session, whether more may come behind that, and what it answers.
-const TALKS: [(&[u8], bool, &[u8]); 7] = [
+static TALKS: [(&[u8], bool, &[u8]); 7] = [
     (b"", false, b""),
     (
         b"list\nregister a manual\r\ncheck a\ndown a\nlist\n",
@@ -100,7 +100,7 @@ type Step = (bool, Turn, Fate, u32, usize, usize);
 const LINES: &[u8] = b"register a manual\ndown a\n";
 
 /// A line waits until the answer before it is sent. A session that is to end sends what waits and answers no line, and reads none.
-const STEPS: [&[Step]; 3] = [
+static STEPS: [&[Step]; 3] = [
     &[
         (true, Turn::Look, Fate::Rests, 1, 0, 0),
         (false, Turn::Look, Fate::Rests, 2, 10, 0),
@@ -136,7 +136,7 @@ fn expect_steps(
 #[test]
 fn a_line_waits_for_the_answer_before_it_and_none_is_answered_behind_the_end(rt: HostRuntime) {
     let alloc = rt.alloc();
-    for steps in STEPS {
+    for &steps in &STEPS {
         let mut console = console_of(&rt, alloc);
         let mut session = session_of(&rt, alloc);
         expect_steps(&rt, alloc, &mut tended(&mut console), &mut session, steps);

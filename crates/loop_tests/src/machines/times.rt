@@ -17,7 +17,7 @@ use web_call::staged::Staged;
 /// and for want of what it is late by then, if it is.
 type Time = (&'static [u8], bool, u64, Option<Why>);
 
-const TIMES: [Time; 7] = [
+static TIMES: [Time; 7] = [
     (b"", false, 9_999, None),
     (b"", false, 10_000, Some(Why::Read)),
     (b"POST /", true, 9_999, None),
@@ -77,7 +77,7 @@ fn a_request_has_ten_seconds_and_a_peer_that_takes_nothing_thirty(rt: HostRuntim
 
 /// What is set before a turn of a Watch, if anything, how many milliseconds behind its connection's beginning the turn is, and since
 /// when it is quiet then. Each second write would wait.
-const QUIET: [(Option<Setting>, u64, u64); 6] = [
+static QUIET: [(Option<Setting>, u64, u64); 6] = [
     // the request is read, and its answer waits
     (None, 1_000, 1_000),
     (None, 2_000, 2_000),
@@ -95,7 +95,7 @@ fn expect_quiet(
     begun: Instant,
 ) {
     same(rt, &connection.quiet_since(), &begun, &"new");
-    for (setting, millis, quiet) in QUIET {
+    for &(setting, millis, quiet) in &QUIET {
         if let Some(setting) = setting {
             staged.set(setting);
         }

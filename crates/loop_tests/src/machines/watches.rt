@@ -79,7 +79,7 @@ fn whole_watch(rt: &impl Abort, alloc: Global) -> Wire<'static> {
 type Step = (Setting, Turn, Fate, u32);
 
 /// An open Watch rests with nothing to be told, is told each change, and is ended at a turn of its end.
-const STEPS: [Step; 6] = [
+static STEPS: [Step; 6] = [
     (Setting::Up, Turn::Look, Fate::Rests, 1),
     (Setting::Up, Turn::Look, Fate::Rests, 1),
     (Setting::Down, Turn::Look, Fate::Rests, 2),
@@ -90,7 +90,7 @@ const STEPS: [Step; 6] = [
 ];
 
 fn expect_steps(rt: &impl Abort, scene: &mut Scene, link: &mut Wire<'_>) {
-    for (setting, then, fate, frames) in STEPS {
+    for &(setting, then, fate, frames) in &STEPS {
         scene.set(setting);
         let found = scene.turn(link, then);
         same(rt, &(found, scene.call.frames()), &(fate, frames), &frames);

@@ -2,7 +2,7 @@ use crate::same::same;
 use connection_table::Refused;
 
 /// The text of each refusal.
-const TEXTS: &[(Refused, &str)] = &[
+static TEXTS: &[(Refused, &str)] = &[
     (Refused::Full, "the table is full"),
     (Refused::NoMemory, "out of memory"),
 ];
