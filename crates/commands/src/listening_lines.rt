@@ -3,7 +3,6 @@ ghost use Rattle.std.specs.Prelude.{◌≡◌, ◌++◌, IfOk, codes, string_byt
 ghost use Rattle.control.specs.Place.{place_text};
 
 use crate::listening::Listening;
-use crate::run::print_line;
 use crate::run_failure::{RunFailure, failure_by};
 use control::{ControlListener, Place};
 use std::alloc::{AllocError, Global};
@@ -33,6 +32,14 @@ pub(crate) fn print_lines<'a, R: Print>(
         print_line(rt, line)?;
     }
     Ok(())
+}
+
+/// Prints a line of a run.
+pub(crate) fn print_line<'a, R: Print>(rt: &R, line: &str) -> Result<(), RunFailure<'a>> {
+    match println!(rt; "{line}") {
+        Ok(()) => Ok(()),
+        Err(error) => Err(failure_by(error, RunFailure::Write)),
+    }
 }
 
 /// The line that tells where calls are answered.

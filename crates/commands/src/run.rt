@@ -7,6 +7,7 @@ ghost use Rattle.live_run.specs.Loops.{AllEndedEmpty};
 ghost use Rattle.live_run.specs.WholeRun.{AreNone, HasRun, HasRunLoops, HaveEnded, HaveTerms};
 ghost use Rattle.live_run.specs.declared.loops_fault.LoopsFault.TheVariants.{NoMemory};
 ghost use Rattle.commands.specs.declared.run_failure.RunFailure.TheVariants.{OutOfMemory, Refused};
+ghost use Rattle.commands.specs.Expected.{IsExpectedBy};
 ghost use Rattle.commands.specs.Run.{AreMadeAlone, EndsSetUp, IsSetUpBy, IsWhollySetUp};
 
 use crate::begun::{Begun, Setting, begin};
@@ -15,6 +16,7 @@ use crate::expected::{entries_of, expected_in, first_failure};
 use crate::files::{bounds_within, reserved};
 use crate::input::read_script_bytes;
 use crate::journaled::set_up_over;
+use crate::listening_lines::print_line;
 use crate::run_failure::{RunFailure, failure_by, script_failure};
 use crate::run_options::{RunOptions, Source};
 use crate::supervisor::Supervisor;
@@ -140,7 +142,7 @@ where
     requires served { loops ≤ options.bounds.connections }
 {
     let alloc = rt.alloc();
-    let expected = expected_first(rt, alloc, maker, bytes)?;
+    let expected = expected_by_script(rt, alloc, maker, bytes)?;
     let expectations = new_expectations(alloc)?;
     let seats = seats_for(loops);
     let made = set_up_over(rt, alloc, maker, bytes, seats, path, &expectations)?;
@@ -163,7 +165,8 @@ fn set_up_expecting<'a, R: Wait, P: Probe, M: Maker<P>>(
 ) -> Result<(SetUpHall<P, KeepMany>, Vec<Expected>), RunFailure<'a>>
     requires some { 1 ≤ seats }
     requires not_too_many { seats ≤ 1024 }
-    ensures { IfOk result (λ made. IsSetUpBy bytes.now seats made.0) }
+    ensures set_up { IfOk result (λ made. IsSetUpBy bytes.now seats made.0) }
+    ensures expected { IfOk result (λ made. IsExpectedBy bytes.now made.1.items) }
 {
     let made = set_up::<R, P, KeepMany, M>(rt, alloc, maker, bytes, seats);
     match expected_in(alloc, bytes)? {
@@ -173,12 +176,14 @@ fn set_up_expecting<'a, R: Wait, P: Probe, M: Maker<P>>(
 }
 
 /// What the script expects. Where some of it does not stand, and its setup has an earlier failure, that one is told.
-fn expected_first<'a, R: Wait, P: Probe, M: Maker<P>>(
+fn expected_by_script<'a, R: Wait, P: Probe, M: Maker<P>>(
     rt: &R,
     alloc: Global,
     maker: &M,
     bytes: &[u8],
-) -> Result<Vec<Expected>, RunFailure<'a>> {
+) -> Result<Vec<Expected>, RunFailure<'a>>
+    ensures { IfOk result (λ expected. IsExpectedBy bytes.now expected.items) }
+{
     match expected_in(alloc, bytes)? {
         Ok(expected) => Ok(expected),
         Err(line) => {
@@ -215,33 +220,14 @@ where
     requires enough { setting.loops < made.hall.seats }
     requires served { setting.loops ≤ setting.options.bounds.connections }
 {
-    let begun = begin(rt, alloc, &made, setting, supervisor)?;
-    let ran = serve_begun(rt, alloc, made, begun, maker)?;
-    tell_end(rt, alloc, ran)
-}
-
-/// Serves by what has begun until it is told to end, and gives back what is left of the hall then.
-fn serve_begun<'a, R, P: Probe + Send, K: Keep + Send, M: Maker<P> + Sync>(
-    rt: &R,
-    alloc: Global,
-    made: SetUpHall<P, K>,
-    begun: Begun,
-    maker: &M,
-) -> Result<Ran<P, K>, RunFailure<'a>>
-where
-    R: Clock + Wait + Threads + Sync,
-    requires set_up { (calls : List (Option Call)) × IsWhollySetUp calls made }
-    requires some { 1 ≤ vec_len begun.servers }
-    requires enough { vec_len begun.servers < made.hall.seats }
-    requires terms { HaveTerms made.hall.most begun.places }
-{
     let Begun {
         servers,
         news,
         places,
         counters,
-    } = begun;
-    serve_to_end(rt, alloc, made, servers, places, maker, &counters, &news)
+    } = begin(rt, alloc, &made, setting, supervisor)?;
+    let ran = serve_to_end(rt, alloc, made, servers, places, maker, &counters, &news)?;
+    tell_end(rt, alloc, ran)
 }
 
 /// Tells how many entries a run leaves, once the files of its sockets are taken away.
@@ -389,13 +375,6 @@ fn journal_line<P: Probe, K: Keep>(alloc: Global, ran: &Ran<P, K>) -> Result<Str
 {
     let entries = ran.entries();
     format!(in alloc; "journal {entries}")
-}
-
-pub(crate) fn print_line<'a, R: Print>(rt: &R, line: &str) -> Result<(), RunFailure<'a>> {
-    match println!(rt; "{line}") {
-        Ok(()) => Ok(()),
-        Err(error) => Err(failure_by(error, RunFailure::Write)),
-    }
 }
 
 /// Serves until `news` tells that all is to end, and gives back what is left of the hall then.
