@@ -28,7 +28,6 @@ pub struct Note {
 /// status change and the newest report stay known, however old they are.
 ///
 /// Contracts see nothing of it: threads share it.
-#[derive(Drop)]
 pub struct Chronicle {
     entries: Ring,
     newest: NewestRecords,
@@ -36,6 +35,18 @@ pub struct Chronicle {
     sessions: SessionNumbers,
     /// Who sits at each seat.
     sitting: Vec<Sitting>,
+}
+
+impl Drop for Chronicle {
+    fn drop(self) {
+        let Chronicle {
+            entries: _,
+            newest: _,
+            refusals: _,
+            sessions: _,
+            sitting: _,
+        } = self;
+    }
 }
 
 /// Nobody at each seat.

@@ -9,7 +9,7 @@ use std::net::TcpStream;
 use std::time::{Clock, Duration, Instant};
 
 /// The moment at which a call has to be over.
-#[derive(Clone, Copy, Debug)]
+#[derive(Clone, Copy)]
 pub struct Deadline(Instant);
 
 impl Deadline {

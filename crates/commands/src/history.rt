@@ -17,7 +17,7 @@ use std::{io, thread};
 const PAUSE_MILLIS: u64 = 250;
 
 /// Which entries of the history are printed, and how.
-#[derive(Clone, Copy, Debug, PartialEq, Eq)]
+#[derive(Clone, Copy, PartialEq, Eq)]
 pub struct HistoryOptions {
     /// How many of the newest entries. Without it all that are kept.
     pub last: Option<u32>,
@@ -37,7 +37,7 @@ pub fn options_in(matches: &ArgMatches<'_>) -> HistoryOptions {
 }
 
 /// How many entries a history has, and how many of them are kept.
-#[derive(Clone, Copy, Debug)]
+#[derive(Clone, Copy)]
 struct Length {
     entries: u32,
     kept: u32,

@@ -14,7 +14,7 @@ use std::rt::Env;
 use std::time::{Clock, Duration};
 
 /// How services are printed.
-#[derive(Clone, Copy, Debug, PartialEq, Eq)]
+#[derive(Clone, Copy, PartialEq, Eq)]
 pub enum Form {
     Table,
     /// A table whose statuses have colours.

@@ -8,7 +8,7 @@ use std::io::{Read, Write};
 use std::time::{Clock, Duration};
 
 /// What a connection does, and until when.
-#[derive(Clone, Copy, Debug)]
+#[derive(Clone, Copy)]
 enum Phase {
     Idle,
     /// A line is written, up to a flush.

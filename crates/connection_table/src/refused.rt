@@ -27,7 +27,7 @@ impl fmt::Display for Refused {
 impl Error for Refused {}
 
 /// A connection that was not taken in, and why.
-#[derive(Debug, Drop)]
+#[derive(Drop)]
 pub struct NotTaken<C> {
     pub refused: Refused,
     pub connection: C,

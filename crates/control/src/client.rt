@@ -11,7 +11,7 @@ use std::os::unix::net::UnixStream;
 use std::time::Duration;
 
 /// A client's connection to a control place. Its calls wait.
-#[derive(Debug, Drop)]
+#[derive(Drop)]
 pub enum ControlClient {
     Tcp(TcpStream),
     Unix(UnixStream),

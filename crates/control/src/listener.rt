@@ -16,7 +16,7 @@ use std::io::ErrorKind;
 use std::net::Net;
 
 /// A socket that listens at a control place, and does not wait.
-#[derive(Debug, Drop)]
+#[derive(Drop)]
 pub enum ControlListener {
     Tcp(TcpListener),
     Unix(UnixPlace),

@@ -7,7 +7,7 @@ use script::{Expectation, Line, Question, read_expectation, read_line, read_ques
 use std::alloc::{AllocError, Global};
 
 /// What a line of a session asks for.
-#[derive(Debug, Drop)]
+#[derive(Drop)]
 pub enum Request {
     /// A change, a Check or the board, as a line of a script.
     Line(Line),

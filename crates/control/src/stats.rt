@@ -1,7 +1,7 @@
 use std::fmt;
 
 /// What of a server is open now.
-#[derive(Clone, Copy, Debug, PartialEq, Eq)]
+#[derive(Clone, Copy, PartialEq, Eq)]
 pub struct OpenNow {
     /// Connections of calls.
     pub connections: u64,
@@ -24,7 +24,7 @@ pub struct Ended {
 }
 
 /// What a server counts of connections, calls and expiries.
-#[derive(Clone, Copy, Debug, PartialEq, Eq)]
+#[derive(Clone, Copy, PartialEq, Eq)]
 pub struct Counts {
     pub current: OpenNow,
     pub ended: Ended,
@@ -33,7 +33,7 @@ pub struct Counts {
 }
 
 /// What a server counts.
-#[derive(Clone, Copy, Debug, PartialEq, Eq)]
+#[derive(Clone, Copy, PartialEq, Eq)]
 pub struct Stats {
     /// The entries of the history.
     pub entries: u32,

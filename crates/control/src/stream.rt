@@ -8,7 +8,7 @@ use std::io::{Read, Write};
 use std::net::Shutdown;
 
 /// A connection at a control place, whose reads and writes answer `WouldBlock` where they would wait.
-#[derive(Debug, Drop)]
+#[derive(Drop)]
 pub enum ControlStream {
     Tcp(TcpStream),
     Unix(UnixStream),

@@ -12,7 +12,7 @@ use std::os::unix::net::SocketAddr;
 use std::{fs, io};
 
 /// Who may connect to a Unix socket, which asks for the right to write.
-#[derive(Clone, Copy, Debug, PartialEq, Eq)]
+#[derive(Clone, Copy, PartialEq, Eq)]
 pub enum Access {
     /// Its owner alone: its file has the mode 0600.
     Owner,
@@ -33,7 +33,7 @@ impl Access {
 const BACKLOG: i32 = -1;
 
 /// Which file stands at a path.
-#[derive(Clone, Copy, Debug, PartialEq, Eq)]
+#[derive(Clone, Copy, PartialEq, Eq)]
 struct Identity {
     device: u64,
     number: u64,
@@ -42,7 +42,7 @@ struct Identity {
 /// A listening Unix socket with its file, which is made with its mode and never has a wider one.
 ///
 /// The file stays when this is dropped: `remove` takes it away. A file that is left is taken over by the next server.
-#[derive(Debug, Drop)]
+#[derive(Drop)]
 pub struct UnixPlace {
     listener: UnixListener,
     path: String,

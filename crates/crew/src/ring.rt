@@ -5,7 +5,7 @@ use std::sync::{Condvar, Mutex, Wait};
 use web_call::{Bell, Turn};
 
 /// How often a ring was rung, and whether it has ended.
-#[derive(Clone, Copy, Debug)]
+#[derive(Clone, Copy)]
 struct Rung {
     rings: u64,
     ended: bool,

@@ -10,7 +10,7 @@ pub trait Turnstile: Sync {
 }
 
 /// A turnstile that holds no call.
-#[derive(Clone, Copy, Debug, PartialEq, Eq)]
+#[derive(Clone, Copy, PartialEq, Eq)]
 pub struct OpenTurnstile;
 
 impl Turnstile for OpenTurnstile {

@@ -1,7 +1,6 @@
 -- Since when services have their status, one entry more at a time.
-use Rattle.std.proofs.Common.{◌≡◌, ◌≢◌, ℕ, ◌+◌, ◌<◌, ◌≤◌, ◌==◌, not, Bool, true, false, if◌then◌else◌, Option, Some, unwrap_or, List, [], ◌∷◌, ◌++◌, length, get_or, set, refl, sym, ap, subst, ◌∙◌, arith}
-use Rattle.std.proofs.lemmas.Bool.{eqb-true, eqb-false}
-use Rattle.std.proofs.lemmas.List.{length-reverse, get_or-set_same, get_or-set_other}
+use Rattle.std.proofs.Common.{◌≡◌, ℕ, ◌+◌, ◌<◌, not, Bool, true, false, if◌then◌else◌, Option, Some, unwrap_or, List, [], ◌∷◌, ◌++◌, length, get_or, refl, sym, ap, subst, ◌∙◌}
+use Rattle.std.proofs.lemmas.List.{length-reverse}
 use Rattle.health_wire.specs.declared.serving.Serving.TheVariants.{ServiceUnknown}
 use Rattle.desk_core.specs.declared.call.Call.{Call}
 use Rattle.desk_core.specs.declared.entry.Entry.{Entry}
@@ -17,27 +16,6 @@ use Rattle.desk_core.specs.Standing.{flips, reports}
 use Rattle.desk_core.specs.Status.{status_at}
 use Rattle.desk_core.proofs.DeskLemmas.{read_status}
 use Rattle.desk_core.proofs.HistoryLemmas.{past_more}
-
--- the next of a row is changed, and no other
-pub next_set : (f : ℕ → Latest → Latest) (old now : List Latest) (n at : ℕ) (value : Latest) → n < length now → at ≡ n
-    → ((i : ℕ) (other : Latest) → i < n → get_or now i other ≡ f i (get_or old i other))
-    → ((i : ℕ) (other : Latest) → n ≤ i → get_or now i other ≡ get_or old i other)
-    → ((other : Latest) → value ≡ f n (get_or now n other))
-    → ((i : ℕ) (other : Latest) → i < n + 1 → get_or (set now at value) i other ≡ f i (get_or old i other))
-    × ((i : ℕ) (other : Latest) → n + 1 ≤ i → get_or (set now at value) i other ≡ get_or old i other)
-next_set f old now n at value within same before behind is = (
-  λ i other below. by_place i other (i == n) refl below,
-  λ i other past. ap (λ k. get_or (set now k value) i other) same ∙ get_or-set_other now n i value other (λ one. omega (arith, one, past)) ∙ behind i other (omega (arith, past)),
-)
-  where
-    by_place : (i : ℕ) (other : Latest) (b : Bool) → (i == n) ≡ b → i < n + 1 → get_or (set now at value) i other ≡ f i (get_or old i other)
-    by_place i other true one below =
-        let here : i ≡ n = eqb-true i n one in
-        ap (λ k. get_or (set now k value) i other) same ∙ ap (λ k. get_or (set now n value) k other) here ∙ get_or-set_same now n value other within
-        ∙ is other ∙ ap (f n) (behind n other (omega arith)) ∙ sym (ap (λ k. f k (get_or old k other)) here)
-    by_place i other false two below =
-        let apart : i ≢ n = eqb-false i n two in
-        ap (λ k. get_or (set now k value) i other) same ∙ get_or-set_other now n i value other apart ∙ before i other (omega (arith, below, apart))
 
 -- one of two places, by what is the same
 turned : (b : Bool) (at : ℕ) (place : Option ℕ) → (if b then place else Some at) ≡ (if not b then Some at else place)

@@ -4,6 +4,7 @@ pub mod BoardLemmas
 pub mod CacheLemmas
 pub mod CatalogueLemmas
 pub mod DeskLemmas
+pub mod ElementLemmas
 pub mod HistoryLemmas
 pub mod KeptLemmas
 pub mod KeyLemmas
@@ -11,6 +12,7 @@ pub mod LatestLemmas
 pub mod LawfulLemmas
 pub mod LawLemmas
 pub mod LeftLemmas
+pub mod LimitLemmas
 pub mod MarkLemmas
 pub mod NamedLemmas
 pub mod OnceLemmas

@@ -1,15 +1,20 @@
 use Rattle.std.proofs.Common.{◌&&◌, ◌||◌, ◌==◌, not, true, zero, suc, add-one, refl, ◌≡◌, ℕ, ◌+◌, ◌<◌, Option, Some, List, [], ◌∷◌, ◌++◌, length}
 use Rattle.std.proofs.Common.{take, drop, map, get_or, set, sym, ap, ◌∙◌, arith, append_assoc}
-use Rattle.std.proofs.lemmas.List.{drop_more, map_more, get_or_at, set_at, length-map, length-take-le}
+use Rattle.std.proofs.lemmas.List.{append-nil, drop_more, map_more, get_or_at, set_at, length-map, length-set, length-take-le}
+use Rattle.std.proofs.lemmas.Grind.{common_steps}
+use Rattle.std.proofs.Math.Seq.{drop-length, take-length}
 use Rattle.std.proofs.lemmas.Nat.Bits.{bit_at-zero}
+use Rattle.probe_core.specs.declared.event.Event.{Event}
 use Rattle.probe_core.specs.declared.rule.Rule.{Rule}
+use Rattle.desk_core.specs.declared.reply.Reply.{Reply}
+use Rattle.desk_core.specs.declared.reply.Reply.TheVariants.{Done, Replaced, Missing, WrongKind, Ignored}
 use Rattle.health_wire.specs.declared.serving.Serving.{Serving}
 use Rattle.std.specs.Option.{option_map}
 use Rattle.desk_core.specs.declared.call.Call.{Call}
 use Rattle.desk_core.specs.declared.call.Call.TheVariants.{Register}
 use Rattle.desk_core.specs.Mutation.{rule_of}
 use Rattle.desk_core.specs.Status.{has_slot, is_serving}
-use Rattle.desk_core.specs.Slots.{was_reset, covers_below}
+use Rattle.desk_core.specs.Slots.{IsHeard, was_reset, covers_below}
 
 -- the places below the index were reset, and the others are as they were
 abbrev pub HasReset : List (Option (Rule × ℕ)) → List (Option (Rule × ℕ)) → ℕ → Type 0
@@ -31,6 +36,23 @@ reset_more old now new index default below reset is =
     ∙ set_at front place rest (was_reset place) index len
     ∙ sym (append_assoc front (was_reset place ∷ []) rest)
     ∙ ap (λ xs. xs ++ rest) (sym (map_more was_reset old index default below))
+
+-- the list has its length, and once the index is at its end all of it was reset
+pub reset_length : (old now : List (Option (Rule × ℕ))) (index : ℕ) → index < length old → HasReset old now index → length now ≡ length old
+reset_length old now index below reset = grind (arith, common_steps, ap length reset, length-map (take index old) was_reset)
+
+pub reset_all : (old now : List (Option (Rule × ℕ))) (index : ℕ) → index ≡ length old → HasReset old now index → now ≡ map was_reset old
+reset_all old now index is reset =
+    reset ∙ ap (λ n. map was_reset (take n old) ++ drop n old) is ∙ ap (λ xs. map was_reset xs ++ drop (length old) old) (take-length old)
+    ∙ ap (λ xs. map was_reset old ++ xs) (drop-length old) ∙ append-nil (map was_reset old)
+
+-- an event leaves the list its length, heard or not
+pub heard_length : (slot : ℕ) (event : Event) (reply : Reply) (old new : List (Option (Rule × ℕ))) → IsHeard slot event reply old new → length new ≡ length old
+heard_length slot event Done old new heard = ap length (heard.done refl) ∙ length-set _ _ _
+heard_length slot event Replaced old new heard = ap length (heard.others (λ is. cc))
+heard_length slot event Missing old new heard = ap length (heard.others (λ is. cc))
+heard_length slot event WrongKind old new heard = ap length (heard.others (λ is. cc))
+heard_length slot event Ignored old new heard = ap length (heard.others (λ is. cc))
 
 pub covers-none : (statuses : ℕ → Option Serving) (mask : ℕ) → covers_below statuses 0 mask ≡ true
 unfolding covers_below

@@ -2,7 +2,7 @@ use crate::slot::Slot;
 use probe_core::{Event, Rule};
 
 /// What a look at a service found.
-#[derive(Clone, Copy, Debug, PartialEq, Eq, Hash)]
+#[derive(Clone, Copy, Debug, PartialEq, Eq)]
 pub enum Finding {
     Pass,
     Fail,
@@ -24,7 +24,7 @@ impl Finding {
 }
 
 /// What somebody sets a service to.
-#[derive(Clone, Copy, Debug, PartialEq, Eq, Hash)]
+#[derive(Clone, Copy, Debug, PartialEq, Eq)]
 pub enum Setting {
     Up,
     Down,

@@ -77,9 +77,14 @@ impl fmt::Display for CatalogueFault {
 impl Error for CatalogueFault {}
 
 /// The names of the services, in the order in which they were given. A name's slot is its place.
-#[derive(Debug, Drop)]
 pub struct Catalogue {
     names: IndexSet<String>,
+}
+
+impl Drop for Catalogue {
+    fn drop(self) {
+        let Catalogue { names: _ } = self;
+    }
 }
 
 impl Model for Catalogue {

@@ -1,7 +1,7 @@
 //! Which entries made the services what they are.
 
 ghost use Rattle.std.specs.Prelude.{◌≡◌};
-ghost use Rattle.desk_core.specs.Marks.{fall_of};
+ghost use Rattle.desk_core.specs.Marks.{fall_of, next_shut};
 
 use crate::call::{Call, Finding, Setting};
 use crate::reply::Reply;
@@ -157,12 +157,22 @@ impl Marks {
         ensures slots { (i : ℕ) (other : Mark) → i < 16 → slice_index_or self.new.slots i other
             ≡ next_mark i call.now reply rule at (slice_index_or self.old.slots i other) }
     {
-        if *call == Call::Shutdown {
-            self.shut = Some(at);
-        }
+        self.shut = shut_by(self.shut, call, at);
         for number in 0..Slot::COUNT {
             let mark = self.slots[usize::from(number)];
             self.slots[usize::from(number)] = mark.next(Slot::at(number), call, reply, rule, at);
+        }
+    }
+}
+
+/// The newest entry that shut the server down, behind an entry at this place.
+fn shut_by(shut: Option<u32>, call: &Call, at: u32) -> Option<u32>
+    ensures { result ≡ next_shut call.now at shut }
+{
+    match call {
+        Call::Shutdown => Some(at),
+        Call::Register(..) | Call::Retire(_) | Call::Observe(..) | Call::Set(..) | Call::Resume => {
+            shut
         }
     }
 }

@@ -5,7 +5,7 @@ ghost use Rattle.desk_core.specs.Reply.{reply_to_event};
 use probe_core::{Event, Rule};
 
 /// How a change was taken. Each has one entry of the journal, whatever its reply.
-#[derive(Clone, Copy, Debug, PartialEq, Eq, Hash)]
+#[derive(Clone, Copy, Debug, PartialEq, Eq)]
 pub enum Reply {
     Done,
     /// A probe took the place of another.

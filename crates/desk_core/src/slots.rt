@@ -28,7 +28,7 @@ impl<P: Probe> Slots<P> {
     ghost use Rattle.desk_core.specs.Desk.{Keeps};
     ghost use Rattle.desk_core.specs.Silence.{falls_at};
     ghost use Rattle.probe_core.specs.declared.rule.Rule.{Rule};
-    ghost use Rattle.probe_core.specs.Rule.{HasCounts};
+    ghost use Rattle.probe_core.specs.Rule.{HasCounts, opening_memory};
 
     pub(crate) fn new(alloc: Global) -> Slots<P>
         ensures { result.places.items ≡ [] }
@@ -91,12 +91,7 @@ impl<P: Probe> Slots<P> {
         ensures places { length self.new.places.items ≡ length self.old.places.items }
     {
         match call {
-            Call::Register(slot, _) => {
-                let mut probe = probe.unwrap();
-                probe.reset();
-                self.replace(*slot, Owned::new(probe))
-                    .map(Owned::into_inner)
-            }
+            Call::Register(slot, _) => self.put(*slot, probe.unwrap()),
             Call::Retire(slot) => self.take(*slot).map(Owned::into_inner),
             Call::Observe(slot, finding) => {
                 self.hear(*slot, finding.event(), reply);
@@ -114,7 +109,21 @@ impl<P: Probe> Slots<P> {
         }
     }
 
-    /// Puts a probe into the slot, and gives the old one back.
+    /// Puts a probe, in its opening state, into the slot, and gives the old one back.
+    fn put(&mut self, slot: Slot, probe: P) -> Option<P>
+        requires { 15 < length self.old.places.items }
+        ensures there { slot < length self.old.places.items }
+        ensures few { slot < 16 }
+        ensures old { option_map (λ p. (P.rule p, P.memory p)) result
+            ≡ slice_index_or self.old.places.items slot None }
+        ensures after { self.new.places.items ≡ slice_set self.old.places.items slot
+            (Some (P.rule probe, opening_memory (P.rule probe))) }
+    {
+        let mut probe = probe;
+        probe.reset();
+        self.replace(slot, Owned::new(probe)).map(Owned::into_inner)
+    }
+
     fn replace(&mut self, slot: Slot, owned: Owned<P>) -> Option<Owned<P>>
         requires { 15 < length self.old.places.items }
         ensures there { slot < length self.old.places.items }

@@ -6,7 +6,7 @@ use health_wire::Serving;
 use std::marker::Model;
 
 /// The statuses of all slots in one word, two bits each, the first slot lowest.
-#[derive(Clone, Copy, Debug, PartialEq, Eq)]
+#[derive(Clone, Copy, PartialEq, Eq)]
 pub(crate) struct StatusWord {
     word: u32,
 }

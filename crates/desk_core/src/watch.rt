@@ -13,7 +13,7 @@ use tail::Tail;
 pub struct Behind;
 
 /// A watcher of a service, or of a name that has no slot: it is told each later status change once, in order.
-#[derive(Debug, Drop)]
+#[derive(Drop)]
 pub struct Watch {
     slot: Option<Slot>,
     start: u64,

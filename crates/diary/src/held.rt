@@ -1,5 +1,5 @@
 /// How much a server holds at once, or has room for.
-#[derive(Clone, Copy, Debug, PartialEq, Eq)]
+#[derive(Clone, Copy, PartialEq, Eq)]
 pub struct Held {
     /// Connections of clients.
     pub connections: u32,

@@ -2,7 +2,7 @@ use chronicle::{TimeText, time_text, wall_micros};
 use std::time::Clock;
 
 /// When lines are written.
-#[derive(Clone, Copy, Debug)]
+#[derive(Clone, Copy)]
 pub(crate) struct Moment {
     /// A monotone clock's reading, in milliseconds.
     pub(crate) millis: u64,

@@ -4,7 +4,7 @@ use health_wire::Serving;
 use log_lines::Status;
 
 /// What each slot's watchers are shown.
-#[derive(Clone, Copy, Debug)]
+#[derive(Clone, Copy)]
 pub(crate) struct Shown {
     statuses: [Status; 16],
 }

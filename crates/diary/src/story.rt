@@ -8,7 +8,7 @@ use chronicle::Newest;
 use desk_core::{Call, Entry, Finding, Reply, Slot};
 
 /// What the entries that were told have come to.
-#[derive(Clone, Copy, Debug)]
+#[derive(Clone, Copy)]
 pub(crate) struct Story {
     shown: Shown,
     /// How many fails of one service the watchdog has made last, of which nobody was told yet.

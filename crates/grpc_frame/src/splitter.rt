@@ -10,7 +10,7 @@ use std::marker::Model;
 const MAX_LEN: usize = 1_048_576;
 
 /// Takes frames off a stream that comes in pieces. Its value is the rest, the bytes that were fed and not yet taken.
-#[derive(Debug, Drop)]
+#[derive(Drop)]
 pub struct Splitter {
     buffer: Vec<u8>,
     start: usize,

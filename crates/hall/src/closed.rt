@@ -56,12 +56,7 @@ impl<P: Probe, K: Keep> Hall<P, K> {
         if seats.len() != self.seats as usize {
             return Err(Unclosed { hall: self, seats });
         }
-        // Every field is named, here and in `gather`: one to answer from could not be added unseen.
-        let Hall {
-            table,
-            catalogue,
-            seats: _,
-        } = self;
+        let (table, catalogue) = self.into_parts();
         let place = gather(&table.shared, seats);
         let mut closed = table.close_with(place);
         let slot = closed.take(DESK);

@@ -13,11 +13,20 @@ use std::alloc::{AllocError, Global};
 use std::marker::Model;
 
 /// The registry that threads share: each comes with a seat of its own.
-#[derive(Drop)]
 pub struct Hall<P: Probe, K: Keep = KeepAll> {
     pub(crate) table: Table<P, K>,
     pub(crate) catalogue: Catalogue,
     pub(crate) seats: u16,
+}
+
+impl<P: Probe, K: Keep> Drop for Hall<P, K> {
+    fn drop(self) {
+        let Hall {
+            table: _,
+            catalogue: _,
+            seats: _,
+        } = self;
+    }
 }
 
 impl<P: Probe, K: Keep> Model for Hall<P, K> {
@@ -74,6 +83,21 @@ impl<P: Probe, K: Keep> Hall<P, K> {
             },
             dealt,
         ))
+    }
+
+    /// All that it has. Every field is named, here and where seats are taken apart: one to answer from could not be added unseen.
+    pub(crate) fn into_parts(self) -> (Table<P, K>, Catalogue)
+        ensures table { result.0.shared.table_id ≡ self.table }
+        ensures most { result.0.shared.key.most ≡ self.most }
+        ensures seats { result.0.shared.key.seats ≡ self.seats }
+        ensures names { result.1 ≡ self.names }
+    {
+        let Hall {
+            table,
+            catalogue,
+            seats: _,
+        } = self;
+        (table, catalogue)
     }
 
     /// The names of the services.

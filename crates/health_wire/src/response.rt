@@ -12,7 +12,7 @@ use std::marker::Model;
 const STATUS: u32 = 1;
 
 /// A written `HealthCheckResponse`.
-#[derive(Debug, Drop)]
+#[derive(Drop)]
 pub struct Message {
     bytes: &'static [u8],
 }

@@ -1,5 +1,5 @@
 /// What a service's clients are told, under the numbers 0 to 3 of `ServingStatus` in health.proto.
-#[derive(Clone, Copy, Debug, PartialEq, Eq, Hash)]
+#[derive(Clone, Copy, Debug, PartialEq, Eq)]
 pub enum Serving {
     Unknown,
     Serving,

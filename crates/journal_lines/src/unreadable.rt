@@ -4,7 +4,7 @@ ghost use Rattle.journal_lines.specs.declared.unreadable.Unreadable.TheVariants.
 use std::alloc::{AllocError, AllocFailed};
 
 /// Why the records of a file are no journal.
-#[derive(Clone, Copy, Debug, Drop)]
+#[derive(Clone, Copy, Drop)]
 pub(crate) enum Unreadable {
     Memory,
     /// The record of this number, counted from 0, is none of a journal.

@@ -6,7 +6,7 @@ use reactor::{MOST_TAKEN, Machine};
 use std::alloc::Global;
 
 /// What has become of a loop's conversations. A count stays at its greatest number once it has come to it.
-#[derive(Clone, Copy, Debug, PartialEq, Eq)]
+#[derive(Clone, Copy, PartialEq, Eq)]
 pub struct Counts {
     /// Those whose time was up.
     pub given_up: u64,
@@ -17,7 +17,7 @@ pub struct Counts {
 }
 
 /// A look through the keys of a table, for those whose turn it is.
-#[derive(Clone, Copy, Debug, PartialEq, Eq)]
+#[derive(Clone, Copy, PartialEq, Eq)]
 pub(crate) struct Look {
     /// The key that it goes on from.
     pub(crate) from: usize,

@@ -3,7 +3,7 @@ use std::alloc::Global;
 use std::time::Instant;
 
 /// Which of a loop's connections has a turn, and why.
-#[derive(Clone, Copy, Debug)]
+#[derive(Clone, Copy)]
 pub struct Visit {
     /// Its key, which is no other's while it is held.
     pub key: usize,

@@ -3,11 +3,20 @@ use std::alloc::AllocError;
 use std::sync::atomic::{AtomicU64, Ordering};
 
 /// What the loops of a server are told: that something changed, and that all is to end.
-#[derive(Drop)]
 pub struct News {
     changes: AtomicU64,
     ends: AtomicU64,
     wakers: Vec<Waker>,
+}
+
+impl Drop for News {
+    fn drop(self) {
+        let News {
+            changes: _,
+            ends: _,
+            wakers: _,
+        } = self;
+    }
 }
 
 impl News {

@@ -322,7 +322,7 @@ fn is_waiting(events: &Events) -> bool {
 }
 
 /// Which of the connections that events name take their turns.
-#[derive(Clone, Copy, Debug, PartialEq, Eq)]
+#[derive(Clone, Copy, PartialEq, Eq)]
 enum Named {
     /// Those with an open Watch.
     Watches,

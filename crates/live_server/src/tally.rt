@@ -14,7 +14,7 @@ pub struct Tally {
 }
 
 /// The numbers of a tally.
-#[derive(Clone, Copy, Debug, PartialEq, Eq)]
+#[derive(Clone, Copy, PartialEq, Eq)]
 pub struct Tallied {
     /// Connections that are held.
     pub connections: u64,

@@ -37,7 +37,7 @@ const MOST_PASSED: usize = 256;
 const QUIET_MILLIS: u64 = 1_000;
 
 /// When a round of a loop is, how many changes there were by then, and whether all is to end.
-#[derive(Clone, Copy, Debug)]
+#[derive(Clone, Copy)]
 pub(crate) struct Round {
     pub(crate) now: Instant,
     pub(crate) changes: u64,
@@ -56,7 +56,7 @@ impl Round {
 }
 
 /// Which conversations are given up.
-#[derive(Clone, Copy, Debug, PartialEq, Eq)]
+#[derive(Clone, Copy, PartialEq, Eq)]
 pub(crate) enum Ending {
     /// Those whose time is up.
     Late,

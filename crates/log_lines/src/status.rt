@@ -5,7 +5,7 @@ use log::Level;
 use std::fmt;
 
 /// The status of a service, as lines have it.
-#[derive(Clone, Copy, Debug)]
+#[derive(Clone, Copy)]
 pub enum Status {
     Serving,
     NotServing,

@@ -7,7 +7,7 @@ use crate::verdict::{Verdict, Why};
 use std::alloc::Global;
 
 /// What the bytes that came tell.
-#[derive(Clone, Copy, Debug, PartialEq, Eq)]
+#[derive(Clone, Copy, PartialEq, Eq)]
 pub enum Answer {
     /// Nothing yet: more have to come.
     Open,

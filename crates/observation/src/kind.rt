@@ -1,5 +1,5 @@
 /// How a target is asked.
-#[derive(Clone, Copy, Debug, PartialEq, Eq)]
+#[derive(Clone, Copy, PartialEq, Eq)]
 pub enum Kind {
     /// By a connection, and nothing more.
     Tcp,

@@ -9,7 +9,7 @@ use std::alloc::{AllocError, Global};
 const MAX_SERVICE_LEN: usize = 1_048_576;
 
 /// What is looked at, and the name of the service that is reported by it.
-#[derive(Debug, Drop)]
+#[derive(Drop)]
 pub struct Target {
     name: String,
     kind: Kind,

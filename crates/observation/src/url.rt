@@ -9,7 +9,7 @@ use std::net::Ipv6Addr;
 const HTTP_PORT: u16 = 80;
 
 /// The URL of a target in its parts, as they are written.
-#[derive(Clone, Copy, Debug, PartialEq, Eq)]
+#[derive(Clone, Copy, PartialEq, Eq)]
 pub(crate) struct Url<'a> {
     pub(crate) kind: Kind,
     pub(crate) authority: &'a str,

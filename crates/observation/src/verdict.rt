@@ -25,7 +25,7 @@ pub enum Why {
 }
 
 /// What a look comes to.
-#[derive(Clone, Copy, Debug, PartialEq, Eq)]
+#[derive(Clone, Copy, PartialEq, Eq)]
 pub enum Verdict {
     Pass,
     Fail(Why),

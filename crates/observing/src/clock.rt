@@ -7,7 +7,7 @@ use std::time::{Clock, Instant};
 const LAST: u128 = 0x3fff_ffff_ffff_ffff;
 
 /// Milliseconds since it was made.
-#[derive(Clone, Copy, Debug)]
+#[derive(Clone, Copy)]
 pub(crate) struct Stopwatch {
     start: Instant,
 }

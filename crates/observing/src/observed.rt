@@ -4,14 +4,14 @@ use std::io::ErrorKind;
 use std::{fmt, io};
 
 /// How many reports were told, and the server did what they ask for, and how many were not.
-#[derive(Clone, Copy, Debug, PartialEq, Eq)]
+#[derive(Clone, Copy, PartialEq, Eq)]
 pub struct Telling {
     pub told: u64,
     pub untold: u64,
 }
 
 /// What came of one look at each target.
-#[derive(Debug, Drop)]
+#[derive(Drop)]
 pub struct Observed {
     /// In the order of the targets.
     pub verdicts: Vec<Verdict>,
@@ -19,7 +19,7 @@ pub struct Observed {
 }
 
 /// Why nothing can be observed.
-#[derive(Clone, Copy, Debug, PartialEq, Eq)]
+#[derive(Clone, Copy, PartialEq, Eq)]
 pub enum ObserveFault {
     /// There are 2^32 targets or more.
     Targets,

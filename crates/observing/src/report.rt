@@ -1,5 +1,5 @@
 /// What is told of a look at the target of this place.
-#[derive(Clone, Copy, Debug, PartialEq, Eq)]
+#[derive(Clone, Copy, PartialEq, Eq)]
 pub(crate) struct Report {
     pub(crate) place: usize,
     pub(crate) passes: bool,

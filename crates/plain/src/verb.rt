@@ -8,7 +8,7 @@ const HEAD: &[u8] = b"HEAD";
 const POST: &[u8] = b"POST";
 
 /// A method of HTTP, as far as it matters here.
-#[derive(Clone, Copy, Debug, PartialEq, Eq)]
+#[derive(Clone, Copy, PartialEq, Eq)]
 pub(crate) enum Verb {
     Get,
     Head,

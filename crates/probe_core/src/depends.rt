@@ -5,7 +5,7 @@ use crate::probe::Probe;
 use crate::rule::Rule;
 
 /// A service that is up where those that it needs are serving, as a front end needs its database. It hears no events, and is up by itself.
-#[derive(Debug, Drop)]
+#[derive(Drop)]
 pub struct Depends {
     mask: u16,
 }

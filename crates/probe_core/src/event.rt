@@ -1,5 +1,5 @@
 /// What happens to a service: a finding, `Pass` or `Fail`, or a setting, `Up` or `Down`.
-#[derive(Clone, Copy, Debug, PartialEq, Eq, Hash)]
+#[derive(Clone, Copy, Debug, PartialEq, Eq)]
 pub enum Event {
     Pass,
     Fail,

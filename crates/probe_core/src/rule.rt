@@ -8,7 +8,7 @@ use crate::start::Start;
 const MAX_COUNT: u32 = 1_000;
 
 /// By what rule a service's status follows from its events.
-#[derive(Clone, Copy, Debug, PartialEq, Eq, Hash)]
+#[derive(Clone, Copy, Debug, PartialEq, Eq)]
 pub enum Rule {
     /// Down after so many failures in a row, and up again after so many passes in a row: the `fall` and `rise` of HAProxy.
     Threshold(u32, u32, Start),

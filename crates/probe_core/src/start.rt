@@ -1,5 +1,5 @@
 /// How a service that is checked stands before its first check.
-#[derive(Clone, Copy, Debug, PartialEq, Eq, Hash)]
+#[derive(Clone, Copy, Debug, PartialEq, Eq)]
 pub enum Start {
     /// Up.
     Up,

@@ -9,7 +9,7 @@ use crate::start::Start;
 
 /// A service that is checked: down after `fall` failed checks in a row, and up again after `rise` in a row that pass. These are
 /// HAProxy's `fall` and `rise`; a service that was not checked yet has all its failures left.
-#[derive(Debug, Drop)]
+#[derive(Drop)]
 pub struct Threshold {
     fall: u32,
     rise: u32,

@@ -48,14 +48,14 @@ pub enum Left {
 }
 
 /// What a poll reported of a socket.
-#[derive(Clone, Copy, Debug)]
+#[derive(Clone, Copy)]
 pub struct Ready {
     pub readable: bool,
     pub writable: bool,
 }
 
 /// Why a connection has a turn, and when.
-#[derive(Clone, Copy, Debug)]
+#[derive(Clone, Copy)]
 pub struct Occasion {
     pub now: Instant,
     /// Whether what waits for a change looks or ends.
@@ -65,7 +65,7 @@ pub struct Occasion {
 }
 
 /// What was read of what is thrown away.
-#[derive(Clone, Copy, Debug, PartialEq, Eq)]
+#[derive(Clone, Copy, PartialEq, Eq)]
 enum Drained {
     /// There may be more.
     More,
@@ -78,7 +78,7 @@ enum Drained {
 }
 
 /// What the system reports of a socket.
-#[derive(Clone, Copy, Debug, PartialEq, Eq)]
+#[derive(Clone, Copy, PartialEq, Eq)]
 enum Reported {
     Nothing,
     Input,

@@ -24,7 +24,7 @@ pub enum Last {
 }
 
 /// A stream that does not wait, and how its last read and its last write ended.
-#[derive(Debug, Drop)]
+#[derive(Drop)]
 pub struct Link<S> {
     stream: S,
     reads: Last,

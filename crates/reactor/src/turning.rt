@@ -39,7 +39,7 @@ pub struct Turned {
 }
 
 /// What a piece of work came to.
-#[derive(Clone, Copy, Debug, PartialEq, Eq)]
+#[derive(Clone, Copy, PartialEq, Eq)]
 enum Piece {
     /// There may be more to do at once.
     Went,

@@ -1,10 +1,13 @@
-use crate::moment::shown;
+use crate::moment::{Moment, shown};
 use crate::row::Row;
 use crate::status::Status;
 use std::alloc::{AllocError, Global};
 
-/// What stands over the columns.
-const TITLES: [&str; 6] = ["NAME", "STATUS", "SINCE", "WHY", "EXPECTED", "REPORTED"];
+/// How many columns there are.
+const COLUMNS: usize = 6;
+
+/// What stands over them.
+static TITLES: [&str; COLUMNS] = ["NAME", "STATUS", "SINCE", "WHY", "EXPECTED", "REPORTED"];
 
 /// The fewest spaces between two cells.
 const GAP: usize = 2;
@@ -49,13 +52,29 @@ impl Cell {
 /// All rows as a table under a line of titles. Each line ends in LF.
 pub fn table(alloc: Global, rows: &[Row], is_coloured: bool) -> Result<String, AllocError> {
     let mut lines = Vec::new(alloc);
+    push_lines(alloc, &mut lines, rows, is_coloured)?;
+    aligned(alloc, &lines)
+}
+
+/// Adds the line of titles and a line for each row.
+fn push_lines(
+    alloc: Global,
+    lines: &mut Vec<Vec<Cell>>,
+    rows: &[Row],
+    is_coloured: bool,
+) -> Result<(), AllocError> {
     lines.push(titles(alloc)?)?;
     for row in rows {
         lines.push(cells(alloc, row, is_coloured)?)?;
     }
-    let widths = widths(&lines);
+    Ok(())
+}
+
+/// The text of these lines, with each column as wide as its widest cell.
+fn aligned(alloc: Global, lines: &[Vec<Cell>]) -> Result<String, AllocError> {
+    let widths = widths(lines);
     let mut text = String::new(alloc);
-    for line in &lines {
+    for line in lines {
         push_line(&mut text, line, &widths)?;
     }
     Ok(text)
@@ -63,8 +82,8 @@ pub fn table(alloc: Global, rows: &[Row], is_coloured: bool) -> Result<String, A
 
 fn titles(alloc: Global) -> Result<Vec<Cell>, AllocError> {
     let mut line = Vec::new(alloc);
-    for title in TITLES {
-        line.push(Cell::plain(String::from_str(alloc, title)?))?;
+    for title in &TITLES {
+        push_text(alloc, &mut line, title)?;
     }
     Ok(line)
 }
@@ -72,20 +91,48 @@ fn titles(alloc: Global) -> Result<Vec<Cell>, AllocError> {
 /// A row's cells, in the order of the titles.
 fn cells(alloc: Global, row: &Row, is_coloured: bool) -> Result<Vec<Cell>, AllocError> {
     let mut line = Vec::new(alloc);
-    line.push(Cell::plain(shown_text(alloc, row.name.as_str())?))?;
-    line.push(Cell {
-        text: String::from_str(alloc, row.status.word())?,
-        colour: if is_coloured {
-            Some(colour_of(row.status))
-        } else {
-            None
-        },
-    })?;
-    line.push(Cell::plain(shown(alloc, &row.since)?))?;
-    line.push(Cell::plain(shown_text(alloc, why_of(row))?))?;
-    line.push(Cell::plain(shown_seconds(alloc, row.expected)?))?;
-    line.push(Cell::plain(shown(alloc, &row.reported)?))?;
+    push_cells(alloc, &mut line, row, is_coloured)?;
     Ok(line)
+}
+
+fn push_cells(
+    alloc: Global,
+    line: &mut Vec<Cell>,
+    row: &Row,
+    is_coloured: bool,
+) -> Result<(), AllocError> {
+    push_text(alloc, line, row.name.as_str())?;
+    line.push(status_cell(alloc, row.status, is_coloured)?)?;
+    push_moment(alloc, line, &row.since)?;
+    push_text(alloc, line, why_of(row))?;
+    line.push(Cell::plain(shown_seconds(alloc, row.expected)?))?;
+    push_moment(alloc, line, &row.reported)
+}
+
+/// Adds a text that can be seen, where it is empty too.
+fn push_text(alloc: Global, line: &mut Vec<Cell>, text: &str) -> Result<(), AllocError> {
+    let shown = if text.is_empty() { "-" } else { text };
+    line.push(Cell::plain(String::from_str(alloc, shown)?))?;
+    Ok(())
+}
+
+fn push_moment(
+    alloc: Global,
+    line: &mut Vec<Cell>,
+    moment: &Option<Moment>,
+) -> Result<(), AllocError> {
+    line.push(Cell::plain(shown(alloc, moment)?))?;
+    Ok(())
+}
+
+fn status_cell(alloc: Global, status: Status, is_coloured: bool) -> Result<Cell, AllocError> {
+    let text = String::from_str(alloc, status.word())?;
+    let colour = if is_coloured {
+        Some(colour_of(status))
+    } else {
+        None
+    };
+    Ok(Cell { text, colour })
 }
 
 fn colour_of(status: Status) -> &'static str {
@@ -104,11 +151,6 @@ fn why_of(row: &Row) -> &str {
     }
 }
 
-/// A text that can be seen, where it is empty too.
-fn shown_text(alloc: Global, text: &str) -> Result<String, AllocError> {
-    String::from_str(alloc, if text.is_empty() { "-" } else { text })
-}
-
 fn shown_seconds(alloc: Global, seconds: Option<u32>) -> Result<String, AllocError> {
     match seconds {
         Some(seconds) => format!(in alloc; "{seconds} s"),
@@ -117,8 +159,8 @@ fn shown_seconds(alloc: Global, seconds: Option<u32>) -> Result<String, AllocErr
 }
 
 /// The width of each column's widest cell.
-fn widths(lines: &[Vec<Cell>]) -> [usize; TITLES.len()] {
-    let mut widths = [0; TITLES.len()];
+fn widths(lines: &[Vec<Cell>]) -> [usize; COLUMNS] {
+    let mut widths = [0; COLUMNS];
     for line in lines {
         widen(&mut widths, line);
     }

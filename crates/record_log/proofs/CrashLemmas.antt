@@ -1,10 +1,10 @@
 -- What a device that keeps its states owes to the rule of devices.
-use Rattle.std.proofs.Common.{◌≡◌, inl, inr, ℕ, ◌+◌, ◌-◌, ◌≤◌, List, [], ◌∷◌, ◌++◌, length, take, drop, Some, refl, sym, ◌∙◌, ap, subst, arith, append_assoc, length-append}
+use Rattle.std.proofs.Common.{◌≡◌, inl, inr, ⊎_elim, ℕ, ◌+◌, ◌-◌, ◌≤◌, List, [], ◌∷◌, ◌++◌, length, take, drop, Some, refl, sym, ◌∙◌, ap, subst, arith, append_assoc, length-append}
 use Rattle.std.proofs.lemmas.List.{take_at, length-take-le, length-drop}
 use Rattle.std.proofs.lemmas.Slice.{drop-append-drop}
-use Rattle.record_log.specs.Device.{IsWritten, IsTorn, Follows}
+use Rattle.record_log.specs.Device.{IsWritten, IsTorn, Follows, Elapses}
 use Rattle.record_log.specs.Noted.{after}
-use Rattle.record_log.specs.Crashes.{State, contents_of, TornOf, MayLeave}
+use Rattle.record_log.specs.Crashes.{State, contents_of, TornOf, MayLeave, LeftSince}
 
 -- what is there is left by a crash, if nothing was torn
 pub contents_stay : (states : List State) → MayLeave states (contents_of states)
@@ -56,3 +56,15 @@ not_written at n may_leave c left = (c, left, record { before = refl; after = re
 -- so also after a write that was noted
 pub noted_crash : (past : List State) (at : ℕ) (bytes : List ℕ) → at ≤ length (contents_of past) → Follows (IsTorn at (length bytes)) (MayLeave past) (MayLeave (after (at ∷ []) bytes past))
 noted_crash past at bytes place = write_crash past (record { bytes = take at (contents_of past) ++ bytes ++ drop (at + length bytes) (contents_of past); write = Some (at, length bytes) }) at bytes refl place refl
+
+-- a call that notes nothing goes by
+pub unnoted : (states : List State) → Elapses (length states) (length states) (LeftSince states) (LeftSince states) (MayLeave states)
+unnoted states = record { later = omega arith; nothing_else = λ t c le left. inl left; keeps = λ t c le left. left }
+
+-- and so does one that notes a state
+pub noted : (past : List State) (state : State) → Elapses (length past) (length (state ∷ past)) (LeftSince past) (LeftSince (state ∷ past)) (MayLeave (state ∷ past))
+noted past state = record {
+  later = omega arith;
+  nothing_else = λ t c le left. ⊎_elim inr (λ was. inl was.1) left;
+  keeps = λ t c le left. inr (le, left);
+}

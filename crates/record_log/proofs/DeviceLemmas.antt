@@ -1,6 +1,11 @@
 -- How a run of device calls goes on.
-use Rattle.std.proofs.Common.{inl, inr, ⊎_elim, ℕ, List, arith}
-use Rattle.record_log.specs.Device.{Elapses, LeavesOnly}
+use Rattle.std.proofs.Common.{inl, inr, ⊎_elim, ℕ, ◌≤◌, List, Result, arith}
+use Rattle.record_log.specs.declared.device.DeviceError.{DeviceError}
+use Rattle.record_log.specs.Device.{Elapses, LeavesOnly, IsCounted}
+
+-- failures are counted from an earlier number on too
+pub counted_since : {T : Type 0} (before mid now : ℕ) (result : Result T DeviceError) → before ≤ mid → IsCounted mid now result → IsCounted before now result
+counted_since before mid now result later counted = record { later = omega (arith, later, counted.later); failed = λ is. omega (arith, later, counted.failed is) }
 
 module _ {D : Type 0} (moment : D → ℕ) (left_since : D → ℕ → List ℕ → Type 0) where
   -- before the first call
@@ -15,6 +20,13 @@ module _ {D : Type 0} (moment : D → ℕ) (left_since : D → ℕ → List ℕ 
     each = λ c left. ⊎_elim (so_far.each c) (here c) (time.nothing_else (moment old) c so_far.later left);
     before = λ t c le left. ⊎_elim (so_far.before t c le) (λ now. inr (here c now)) (time.nothing_else t c (omega (arith, le, so_far.later)) left);
   }
+
+  -- two calls, each of which leaves only what might have been left before it
+  pub two_calls : (old mid new : D) (P left_mid left_new : List ℕ → Type 0) → ((c : List ℕ) → left_since old (moment old) c → P c)
+      → Elapses (moment old) (moment mid) (left_since old) (left_since mid) left_mid → ((c : List ℕ) → left_mid c → P c)
+      → Elapses (moment mid) (moment new) (left_since mid) (left_since new) left_new → ((c : List ℕ) → left_new c → left_mid c) → LeavesOnly moment left_since old new P
+  two_calls old mid new P left_mid left_new now first here second of =
+      goes_on old mid new P left_new (goes_on old old mid P left_mid (started old P now) first here) second (λ c left. here c (of c left))
 
   -- one run after another
   pub then : (old mid new : D) (P Q R : List ℕ → Type 0) → LeavesOnly moment left_since old mid P → LeavesOnly moment left_since mid new Q

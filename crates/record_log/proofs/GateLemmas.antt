@@ -34,3 +34,19 @@ module _ (old mid text : List ℕ) (at : ℕ) (gate : at < length old) (holds : 
             ∙ ap (λ l. l ++ drop at c) (torn.before ∙ front)
             ∙ ap (λ l. take at old ++ l) (drop_more c at 0 longer ∙ ap (λ (l : List ℕ). get_or c at 0 ∷ l) (torn.after ∙ back)),
       )
+
+  -- the gate is still there once what is behind it was written
+  pub gate_stays : at < length mid
+  gate_stays = omega (arith, gate, ap length split, length-append (take at old) (get_or old at 0 ∷ tail old text at), long)
+
+-- and once the gate was written too, the text is whole
+pub gated : (old mid new text : List ℕ) (at : ℕ) → at < length old → 0 < length text → IsWritten old (at + 1) (drop 1 text) mid → IsWritten mid at (take 1 text) new → IsWritten old at text new
+gated old mid new [] at gate some behind first = absurd (omega (arith, some))
+gated old mid new (t ∷ rest) at gate some behind first =
+    let same : at + 1 + length rest ≡ at + length (t ∷ rest) = omega arith in
+    first
+    ∙ ap (λ l. (l ++ t ∷ []) ++ drop (at + 1) mid) (front old mid (t ∷ rest) at gate behind)
+    ∙ ap (λ l. (take at old ++ t ∷ []) ++ l) (back old mid (t ∷ rest) at gate behind)
+    ∙ sym (append_assoc (take at old ++ t ∷ []) rest (drop (at + 1 + length rest) old))
+    ∙ ap (λ l. l ++ drop (at + 1 + length rest) old) (append_assoc (take at old) (t ∷ []) rest)
+    ∙ ap (λ k. (take at old ++ t ∷ rest) ++ drop k old) same

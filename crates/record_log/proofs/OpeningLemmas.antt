@@ -1,7 +1,7 @@
 -- How a file that was read is ready for more.
 use Rattle.std.proofs.Common.{◌≡◌, inl, inr, ℕ, ◌<◌, ◌≤◌, List, [], ◌∷◌, ◌++◌, length, drop, refl, sym, ◌∙◌, ap, arith, append_assoc}
-use Rattle.record_log.specs.Device.{IsWritten}
-use Rattle.record_log.specs.Log.{block, blocks, IsClosed, StandsFor}
+use Rattle.record_log.specs.Device.{IsWritten, IsTorn}
+use Rattle.record_log.specs.Log.{block, blocks, IsClosed, IsUnbegun, StandsFor}
 
 -- it has a gate, as it is long enough
 pub closed : (file : List ℕ) (entries : List (List ℕ)) → StandsFor file entries → 2 ≤ length file → IsClosed file entries
@@ -22,3 +22,7 @@ first_gate file entries new stands short written = record {
   shut = omega arith;
   whole = written ∙ ap (λ (l : List (List ℕ)). blocks l ++ (0 ∷ drop 1 file)) (sym (no_entries file entries stands short));
 }
+
+-- what a crash leaves of that write is too short for an entry, as the file was
+pub not_begun : (old mid file : List ℕ) → mid ≡ old → length mid < 2 → IsTorn 0 1 mid file → IsUnbegun old × IsUnbegun file
+not_begun old mid file same short torn = (omega (arith, ap length same, short), omega (arith, short, torn.no_longer))

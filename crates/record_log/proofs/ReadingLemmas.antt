@@ -1,5 +1,5 @@
 -- What is read of a file, and what is left to read.
-use Rattle.std.proofs.Common.{◌≡◌, ◌≢◌, inr, ℕ, ◌-◌, ◌<◌, List, [], ◌∷◌, ◌++◌, length, refl, sym, ◌∙◌, ap, arith, append_assoc, length-append}
+use Rattle.std.proofs.Common.{◌≡◌, ◌≢◌, inr, ℕ, ◌-◌, ◌<◌, ◌≤◌, List, [], ◌∷◌, ◌++◌, length, refl, sym, ◌∙◌, ap, arith, append_assoc, length-append}
 use Rattle.std.proofs.lemmas.List.{append-nil}
 use Rattle.record_log.specs.Log.{block, blocks, IsClosed, StandsFor}
 use Rattle.record_log.proofs.LogLemmas.{blocks-append}
@@ -17,10 +17,18 @@ pub reads_on : (bytes : List ℕ) (found : List (List ℕ)) (rest entry behind :
 reads_on bytes found rest entry behind read is =
     read ∙ ap (λ l. blocks found ++ l) (is ∙ ap (λ l. l ++ behind) (sym (append-nil (block entry)))) ∙ sym (blocks-append found (entry ∷ []) behind)
 
+-- what is behind a block is shorter
+pub shorter : (rest entry behind : List ℕ) → rest ≡ block entry ++ behind → length behind < length rest
+shorter rest entry behind is = omega (arith, ap length is, length-append (block entry) behind)
+
 module _ (bytes : List ℕ) (found : List (List ℕ)) (rest : List ℕ) (read : IsReadUpTo bytes found rest) where
   -- what was read is as long as its blocks
   pub end_of : length bytes - length rest ≡ length (blocks found)
   end_of = omega (arith, ap length read, length-append (blocks found) rest)
+
+  -- it is no longer than the file
+  pub inside : length rest ≤ length bytes
+  inside = omega (arith, ap length read, length-append (blocks found) rest)
 
   -- a gate that is not open ends the entries
   pub closes : (gate : ℕ) (more : List ℕ) → gate ≢ 1 → rest ≡ gate ∷ more → IsClosed bytes found

@@ -1,5 +1,5 @@
 -- How a run over batches goes on.
-use Rattle.std.proofs.Common.{◌≡◌, inl, ⊎_elim, ℕ, ◌+◌, ◌<◌, List, [], ◌∷◌, ◌++◌, length, get_or, take, map, Vec, sym, ◌∙◌, ap, subst, append_assoc}
+use Rattle.std.proofs.Common.{◌≡◌, inl, ⊎_elim, ℕ, ◌+◌, ◌<◌, All, List, [], ◌∷◌, ◌++◌, length, get_or, take, map, Vec, sym, ◌∙◌, ap, subst, append_assoc}
 use Rattle.std.proofs.lemmas.List.{take_more, append-nil}
 use Rattle.std.specs.declared.alloc.Global.{Global}
 use Rattle.record_log.specs.Device.{IsDurable}
@@ -38,3 +38,8 @@ pub none_yet : (entries : List (List ℕ)) (batches : List Batch) (contents : Li
     → (c : List ℕ) → may_leave c → IsAfterSome entries batches c
 none_yet entries batches contents may_leave file durable c left =
     (0, subst (λ l. StandsFor c l) (sym (append-nil entries)) (inl (subst (λ f. IsClosed f entries) (sym (durable c left)) file)))
+
+-- what holds of each batch holds of the one at a place
+pub at_batch : (P : List (Vec ℕ Global) → Type 0) (batches : List Batch) (i : ℕ) (batch : Batch) (entries : List (Vec ℕ Global)) → All (λ b. P b.items) batches → i < length batches → batch ≡ get_or batches i batch
+    → entries ≡ batch.items → P entries
+at_batch P batches i batch entries each inside is same = subst P (sym same) (subst (λ (b : Batch). P b.items) (sym is) (each i batch inside))

@@ -39,7 +39,6 @@ impl fmt::Display for ReadError {
 }
 
 /// The entries of a file, and the place of the gate behind them.
-#[tactic(auto, using(crate::proofs::ReadingLemmas::unbegun))]
 pub fn read_entries(alloc: Global, bytes: &[u8]) -> Result<(Vec<Vec<u8>>, usize), ReadError>
     ensures stands { IfOk result (λ found. StandsFor bytes.now (texts found.0.items)) }
     ensures end { IfOk result (λ found. found.1 ≡ length (blocks (texts found.0.items))) }

@@ -10,7 +10,7 @@ use desk_core::Name;
 use std::alloc::{AllocError, Global};
 
 /// What a line of a session asks about the history.
-#[derive(Debug, Drop)]
+#[derive(Drop)]
 pub enum Question {
     /// Why a service has its status.
     Why(Name),

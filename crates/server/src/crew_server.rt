@@ -63,13 +63,7 @@ where
     ensures missing { IsErrOf result ServeFault.SeatsMissing
         → length made.seats ≢ made.hall.seats }
 {
-    let SetUpHall {
-        hall,
-        seats,
-        results: _,
-        orders,
-        most: _,
-    } = made;
+    let (hall, seats, orders) = made.into_parts();
     let Ok((jobs, lists)) = work_of(alloc, listener, capacity.calls, orders) else {
         return Err(ServeFault::NoMemory);
     };

@@ -16,7 +16,6 @@ use std::sync::Wait;
 
 /// A hall that a script has set up, with all its seats, and the script's orders, which are made while calls are served. Only
 /// `hall_of` makes one.
-#[derive(Drop)]
 pub struct SetUpHall<P: Probe, K: Keep = KeepAll> {
     pub(crate) hall: Hall<P, K>,
     pub(crate) seats: Vec<Seat<P, K>>,
@@ -24,6 +23,18 @@ pub struct SetUpHall<P: Probe, K: Keep = KeepAll> {
     pub(crate) orders: Vec<Order>,
     /// The most entries of the hall's journal.
     pub(crate) most: u32,
+}
+
+impl<P: Probe, K: Keep> Drop for SetUpHall<P, K> {
+    fn drop(self) {
+        let SetUpHall {
+            hall: _,
+            seats: _,
+            results: _,
+            orders: _,
+            most: _,
+        } = self;
+    }
 }
 
 impl<P: Probe, K: Keep> Model for SetUpHall<P, K> {
@@ -64,14 +75,25 @@ impl<P: Probe, K: Keep> SetUpHall<P, K> {
         ensures seats { result.1.items ≡ self.seats }
         ensures ours { All (IsOf self.hall) self.seats }
     {
+        let (hall, seats, _) = self.into_parts();
+        (hall, seats)
+    }
+
+    /// The same, and the script's orders.
+    pub(crate) fn into_parts(self) -> (Hall<P, K>, Vec<Seat<P, K>>, Vec<Order>)
+        ensures hall { result.0 ≡ self.hall }
+        ensures seats { result.1.items ≡ self.seats }
+        ensures ours { All (IsOf self.hall) self.seats }
+        ensures orders { result.2.items ≡ self.orders }
+    {
         let SetUpHall {
             hall,
             seats,
             results: _,
-            orders: _,
+            orders,
             most: _,
         } = self;
-        (hall, seats)
+        (hall, seats, orders)
     }
 }
 

@@ -19,7 +19,7 @@ pub enum Fault {
 }
 
 // Counts calls from 1, and lets one of them be faulty.
-#[derive(Clone, Copy, Debug)]
+#[derive(Clone, Copy)]
 struct Calls {
     count: usize,
     faulty: usize,
@@ -52,7 +52,7 @@ impl Calls {
 }
 
 /// A reader over bytes, one of whose reads is faulty.
-#[derive(Debug, Drop)]
+#[derive(Drop)]
 pub struct FaultyReader<'a> {
     rest: &'a [u8],
     calls: Calls,
@@ -92,7 +92,7 @@ impl Read for FaultyReader<'_> {
 }
 
 /// A writer into memory, one of whose calls of `write` and `flush` is faulty.
-#[derive(Debug, Drop)]
+#[derive(Drop)]
 pub struct FaultyWriter {
     written: Vec<u8>,
     flushes: Vec<usize>,

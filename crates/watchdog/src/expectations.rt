@@ -8,13 +8,23 @@ use std::sync::atomic::{AtomicU64, Ordering};
 /// chronicle in which both take down when they make entries.
 ///
 /// Contracts see nothing of it: threads share it.
-#[derive(Drop)]
 pub struct Expectations {
     wishes: Vec<AtomicU64>,
     /// For each slot how often it has to be heard, in seconds, by the watchdog's newest round; 0 where it is not expected.
     periods: Vec<AtomicU64>,
     expired: AtomicU64,
     chronicle: Chronicle,
+}
+
+impl Drop for Expectations {
+    fn drop(self) {
+        let Expectations {
+            wishes: _,
+            periods: _,
+            expired: _,
+            chronicle: _,
+        } = self;
+    }
 }
 
 impl Expectations {

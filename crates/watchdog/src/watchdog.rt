@@ -24,7 +24,7 @@ const TICK_MILLIS: u64 = 50;
 const IDLE_MILLIS: u64 = 1_000;
 
 /// What a round came to.
-#[derive(Clone, Copy, Debug)]
+#[derive(Clone, Copy)]
 pub struct Round {
     /// The reading of the clock by which it was had.
     pub at: Instant,
@@ -35,7 +35,6 @@ pub struct Round {
 /// Watches over the services that are expected to be heard, with a seat of its own, and brings down those that are not.
 ///
 /// What a service was told by, be it a session or a script, it learns from the journal. It sees an entry in the first round behind it.
-#[derive(Drop)]
 pub struct Watchdog {
     guards: Vec<Guard>,
     /// Room for a batch of entries.
@@ -43,6 +42,17 @@ pub struct Watchdog {
     /// Whether there may be more to see at once.
     has_more: bool,
     expectations: Arc<Expectations>,
+}
+
+impl Drop for Watchdog {
+    fn drop(self) {
+        let Watchdog {
+            guards: _,
+            entries: _,
+            has_more: _,
+            expectations: _,
+        } = self;
+    }
 }
 
 impl Watchdog {

@@ -24,7 +24,7 @@ use std::io::{Read, Write};
 const BUFFER_LEN: usize = 512;
 
 /// What one exchange may cost.
-#[derive(Clone, Copy, Debug, PartialEq, Eq)]
+#[derive(Clone, Copy, PartialEq, Eq)]
 pub struct Limits {
     /// The most Looks that a Watch takes.
     pub looks: u32,

@@ -18,7 +18,7 @@ const MAX_BODY_LEN: u64 = 8192;
 const POST: &[u8] = b"POST";
 
 /// What the head of a request asks for, or the answer that refuses it.
-#[derive(Clone, Copy, Debug, PartialEq, Eq)]
+#[derive(Clone, Copy, PartialEq, Eq)]
 pub enum Headed {
     /// A status code of HTTP.
     Http(u16),

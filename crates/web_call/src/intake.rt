@@ -4,7 +4,7 @@ ghost use Rattle.web_call.specs.Reading.{some_wanted, head_wanted, body_left};
 mod steps;
 
 /// How far a request has been read.
-#[derive(Clone, Copy, Debug, PartialEq, Eq)]
+#[derive(Clone, Copy, PartialEq, Eq)]
 pub(crate) enum Reading {
     Head,
     /// So many bytes of the body are to come.

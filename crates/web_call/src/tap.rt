@@ -7,7 +7,7 @@ use std::io;
 use std::io::{Read, Write};
 
 /// A reader or a writer, whether a call through it has failed, and whether one was given an empty buffer.
-#[derive(Debug, Drop)]
+#[derive(Drop)]
 pub struct Tap<T> {
     inner: T,
     failed: bool,

@@ -1,7 +1,10 @@
-use Rattle.std.proofs.Common.{refl, sym}
+use Rattle.std.proofs.Common.{refl, sym, arith}
 use Rattle.server.specs.Again.{changes_of}
-use Rattle.server.proofs.SeatLemmas.{first_ours, set_up_ours, set_up_by_first}
+use Rattle.server.proofs.SeatLemmas.{new_len, first_ours, set_up_ours, set_up_by_first}
 use Rattle.server.proofs.again.hall_again.Goals as goal
+
+pub index_mut-requires : goal.index_mut-requires
+index_mut-requires g c = omega (arith, new_len c.in-Ok.hall _ _ c.in-Ok.dealt.items c.in-Ok.ensures.seats, c.requires.some)
 
 pub make_all_again-requires : goal.make_all_again-requires
 make_all_again-requires g c = record {

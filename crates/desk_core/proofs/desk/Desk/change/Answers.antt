@@ -1,4 +1,4 @@
-use Rattle.std.proofs.Common.{◌<◌, arith, [], ◌∷◌, ◌++◌, length, refl, sym, ap, subst, ◌∙◌}
+use Rattle.std.proofs.Common.{◌<◌, arith, [], ◌∷◌, ◌++◌, length, length-append, refl, sym, ap, subst, ◌∙◌}
 use Rattle.tail.specs.Tail.{TailState}
 use Rattle.desk_core.specs.Desk.{State}
 use Rattle.desk_core.specs.Left.{Holds, StandsIf, left_of}
@@ -13,6 +13,7 @@ use Rattle.desk_core.specs.Past.{past}
 use Rattle.desk_core.specs.Reply.{reply_to}
 use Rattle.desk_core.proofs.DeskLemmas.{has_answered, shows_newest, out_of_memory, not_stored, is_desk_changed, is_desk_room, takes_out}
 use Rattle.desk_core.proofs.KeptLemmas.{room_left}
+use Rattle.desk_core.proofs.LimitLemmas.{has_places, has_lists, holds_memory}
 use Rattle.desk_core.proofs.desk.Desk.change.Goals as goal
 
 pub returns-in-Some-clause-answered : goal.returns-in-Some-clause-answered
@@ -136,3 +137,77 @@ returns-clause-shows g c =
 pub returns-clause-old : goal.returns-clause-old
 returns-clause-old g c =
     c.apply-old.ensures.old ∙ takes_out _ _ _ _ _ _ c.args.call c.reserve.ensures.same c.self.invariant.0.parts (ap (λ (s : State). s.journal) c.self.view_is) c.apply-old.ensures.from
+
+pub returns-in-Some-clause-full : goal.returns-in-Some-clause-full
+returns-in-Some-clause-full g c limit = c.in-Some.ensures.other.0
+
+pub returns-in-Some-clause-holds : goal.returns-in-Some-clause-holds
+returns-in-Some-clause-holds g c = record { entries = omega arith; changes = omega arith; places = omega arith }
+
+pub invariant_of-self : goal.invariant_of-self
+invariant_of-self g c = (
+  is_desk_room _ _ _ _ _ _ _ _ _ _ _ _ c.self.invariant.0 c.reserve.ensures.same refl refl refl refl,
+  c.self.invariant.1,
+  c.self.invariant.2,
+  c.self.invariant.3,
+  c.self.invariant.4,
+  c.self.invariant.5,
+  c.self.invariant.6,
+)
+
+pub returns-in_default-reserve-clause-full : goal.returns-in_default-reserve-clause-full
+returns-in_default-reserve-clause-full g c limit =
+    let room = c.in_default-reserve.ensures.full (omega (arith, has_places _ _ limit, ap (λ (s : State). s.places) c.self.view_is)) in λ is. cc
+
+pub returns-in_default-reserve-clause-holds : goal.returns-in_default-reserve-clause-holds
+returns-in_default-reserve-clause-holds g c = holds_memory _ _ _ c.self.view_is (omega arith) (omega arith) c.reserve.ensures.grows
+
+pub returns-in_default-reserve-2-clause-full : goal.returns-in_default-reserve-2-clause-full
+returns-in_default-reserve-2-clause-full g c limit =
+    has_lists _ _ limit (λ most kept entries changes.
+    let room =
+    c.in_default-reserve-2.ensures.full most (c.self.invariant.1 ∙ kept) (c.self.invariant.2 ∙ kept)
+    (ap (λ (s : State). s.capacity.entries) c.self.view_is ∙ entries) (ap (λ (s : State). s.capacity.changes) c.self.view_is ∙ changes) in λ is. cc)
+
+pub returns-in_default-reserve-2-clause-holds : goal.returns-in_default-reserve-2-clause-holds
+returns-in_default-reserve-2-clause-holds g c =
+    holds_memory _ _ _ c.self.view_is c.reserve-2.ensures.grows.0 c.reserve-2.ensures.grows.1 c.reserve.ensures.grows
+
+pub returns-in_default-store_entry-clause-full : goal.returns-in_default-store_entry-clause-full
+returns-in_default-store_entry-clause-full g c limit is = cc
+
+pub returns-in_default-store_entry-clause-holds : goal.returns-in_default-store_entry-clause-holds
+returns-in_default-store_entry-clause-holds g c =
+    holds_memory _ _ _ c.self.view_is c.reserve-2.ensures.grows.0 c.reserve-2.ensures.grows.1 c.reserve.ensures.grows
+
+pub append-at-requires-clause-room : goal.append-at-requires-clause-room
+append-at-requires-clause-room g c = c.in-Ok-reserve.ensures.room.0
+
+pub append-at-requires-clause-few : goal.append-at-requires-clause-few
+append-at-requires-clause-few g c =
+    let len = ap (λ (s : State). length s.journal) c.self.view_is in
+    let most = ap (λ (s : State). s.max_entries) c.self.view_is in
+    omega (arith, ap length c.reserve-2.ensures.journal, len, most, c.in_default.ensures.none.1, c.self.invariant.0.parts.limit)
+
+pub apply-old-requires-clause-room : goal.apply-old-requires-clause-room
+apply-old-requires-clause-room g c = c.in-Ok.ensures.room
+
+pub apply-old-requires-clause-ruled : goal.apply-old-requires-clause-ruled
+apply-old-requires-clause-ruled g c = c.requires.ruled
+
+pub show-shows-requires-clause-room : goal.show-shows-requires-clause-room
+show-shows-requires-clause-room g c = omega (arith, c.in-Ok-reserve.ensures.room.1, ap (λ (t : TailState _). t.room) c.append-at.ensures.changes)
+
+pub returns-clause-placed : goal.returns-clause-placed
+returns-clause-placed g c =
+    let entry = entry_of c.args.seat c.args.call c.reply_to-reply.result in
+    let grown = ap length (c.show-shows.ensures.journal ∙ c.append-at.ensures.journal) in (
+      omega (arith, c.in-Ok.ensures.room, c.apply-old.ensures.places),
+      omega (arith, grown, length-append c.reserve-2.new.self.journal.items (entry ∷ []), c.append-at.ensures.place),
+    )
+
+pub returns-clause-holds : goal.returns-clause-holds
+returns-clause-holds g c =
+    holds_memory _ _ _ c.self.view_is (omega (arith, c.reserve-2.ensures.grows.0, c.append-at.ensures.capacity, c.show-shows.ensures.capacity.0))
+    (omega (arith, c.reserve-2.ensures.grows.1, ap (λ (t : TailState _). t.capacity) c.append-at.ensures.changes, c.show-shows.ensures.capacity.1))
+    (omega (arith, c.reserve.ensures.grows, c.apply-old.ensures.places))

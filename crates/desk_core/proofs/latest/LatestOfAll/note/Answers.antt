@@ -2,7 +2,7 @@ use Rattle.std.proofs.Common.{ℕ, rules, get_or, ap, ◌∙◌}
 use Rattle.std.proofs.lemmas.List.{get_or_default}
 use Rattle.desk_core.specs.declared.latest.Latest.{Latest}
 use Rattle.desk_core.specs.Latest.{next_latest, nothing_yet}
-use Rattle.desk_core.proofs.LatestLemmas.{next_set}
+use Rattle.desk_core.proofs.ElementLemmas.{next_set}
 use Rattle.desk_core.proofs.latest.LatestOfAll.note.Goals as goal
 
 pub loop-number-preserved : goal.loop-number-preserved

@@ -13,31 +13,31 @@ use Rattle.hall.proofs.hall.Hall.close.Goals as goal
 
 pub unwrap-desk-requires : goal.unwrap-desk-requires
 unwrap-desk-requires g c =
-    let key = c.self.inside.table.shared.key in
+    let key = c.into_parts-table.result.0.shared.key in
     let place = c.gather-place.result in
     let final = c.close_with-closed.ensures.values.2 in
     let all : length place.me.0.seats ≡ key.seats =
-    omega (arith, ap length c.gather-place.ensures.seats, length-map c.args.seats.items held_of, c.len.ensures, c.if-len-self.false, c.self.invariant.1) in
+    omega (arith, ap length c.gather-place.ensures.seats, length-map c.args.seats.items held_of, c.len.ensures, c.if-len-self.false, c.into_parts-table.ensures.seats, ap (λ (h : HallState). h.seats) c.self.view_is) in
     let found = found_desk key final.0 place.id place.me.0 _ c.take-slot.result final.1 c.gather-place.ensures.idle.0 all final.4 c.take-slot.ensures.value in
     subst IsSome (sym found.1) refl
 
 -- the desk that was taken out of the slot is that of the whole hall
 closing : (g : _) (c : goal.After-is_stored-is_stored g)
-    → (whole : IsWhole c.self.inside.table.shared.key.most c.close_with-closed.ensures.values.2.0 c.gather-place.result.me.0.seats) × (c.unwrap-desk.result ≡ whole.desk)
+    → (whole : IsWhole c.into_parts-table.result.0.shared.key.most c.close_with-closed.ensures.values.2.0 c.gather-place.result.me.0.seats) × (c.unwrap-desk.result ≡ whole.desk)
 closing g c =
-    let key = c.self.inside.table.shared.key in
+    let key = c.into_parts-table.result.0.shared.key in
     let place = c.gather-place.result in
     let final = c.close_with-closed.ensures.values.2 in
     let all : length place.me.0.seats ≡ key.seats =
-    omega (arith, ap length c.gather-place.ensures.seats, length-map c.args.seats.items held_of, c.len.ensures, c.if-len-self.false, c.self.invariant.1) in
+    omega (arith, ap length c.gather-place.ensures.seats, length-map c.args.seats.items held_of, c.len.ensures, c.if-len-self.false, c.into_parts-table.ensures.seats, ap (λ (h : HallState). h.seats) c.self.view_is) in
     let found = found_desk key final.0 place.id place.me.0 _ c.take-slot.result final.1 c.gather-place.ensures.idle.0 all final.4 c.take-slot.ensures.value in
     (found.0, ap (λ (d : Option State). unwrap_or d c.unwrap-desk.result) (sym c.unwrap-desk.ensures ∙ found.1))
 
 pub returns-clause-kept : goal.returns-clause-kept
 returns-clause-kept g c =
     let done = closing g c in (
-      ap (λ (h : HallState). h.names) c.self.view_is,
-      ap (λ (d : State). d.max_entries) done.1 ∙ (done.0.limit ∙ ap (λ (h : HallState). h.most) c.self.view_is),
+      c.into_parts-table.ensures.names,
+      ap (λ (d : State). d.max_entries) done.1 ∙ (done.0.limit ∙ c.into_parts-table.ensures.most),
     )
 
 pub returns-clause-seats : goal.returns-clause-seats
