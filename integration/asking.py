@@ -29,6 +29,7 @@ with socket.create_server(("127.0.0.1", 0)) as silent:
     port = str(silent.getsockname()[1])
     found, seconds = timed(ran, "ask", "--port", port, "--timeout", "1")
     holds("ask gives up where a server is silent", found == (1, "", "healthd: timed out after 1 s\n"), str(found))
+    holds("and not before its time is up", seconds >= 1, f"{seconds} s")
     measured("ask --timeout 1 at a silent server", seconds, 5)
 
     # `run` where its address is in use.
@@ -89,6 +90,7 @@ for name, answer in (("sends a part of an answer", part), ("sends an answer byte
     place = Place(answer)
     found, seconds = timed(ran, "tell", "--control", place.path, "--timeout", "1", "check", "-")
     holds(f"tell gives up where a server {name}", found == LATE, str(found))
+    holds(f"and not before its time is up where a server {name}", seconds >= 1, f"{seconds} s")
     measured(f"tell --timeout 1 where a server {name}", seconds, 5)
     holds("it was sent the line", place.lines == [b"check -\n"], str(place.lines))
     place.close()

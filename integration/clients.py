@@ -1,4 +1,6 @@
 """Clients that say nothing, or too little, or take all places, and Checks beside them."""
+import os
+import re
 import time
 
 from servers import OK, REQUEST, Server, head, holds, rest_of, until
@@ -60,4 +62,35 @@ holds("a Check waits where all places are taken", found is None, str(found))
 silent.pop().close()
 late.settimeout(20)
 holds("it is answered once one is free", rest_of(late).endswith(OK))
+server.stop()
+
+# Of the loops that wait one is woken for a client.
+CAME = 200
+
+
+def waits(server):
+    """How often its threads have waited by now."""
+    counted = 0
+    for thread in os.listdir(f"/proc/{server.process.pid}/task"):
+        with open(f"/proc/{server.process.pid}/task/{thread}/status") as file:
+            counted += int(re.search(r"^voluntary_ctxt_switches:\s*(\d+)$", file.read(), re.MULTILINE)[1])
+    return counted
+
+
+def waits_beside(server, act):
+    """How often they wait while this is done so many times, at intervals of a hundredth of a second."""
+    before = waits(server)
+    for _ in range(CAME):
+        act()
+        time.sleep(0.01)
+    return waits(server) - before
+
+
+server = Server("--threads", "4")
+idle = waits_beside(server, lambda: None)
+came = []
+found = waits_beside(server, lambda: came.append(server.connect())) - idle
+holds("one of four loops is woken for a client", found < 2 * CAME, f"{CAME} clients end {found} waits, beside {idle}")
+for client in came:
+    client.close()
 server.stop()

@@ -89,6 +89,10 @@ holds("it ends", server.ended() == (0, "journal 4"))
 REPORTS = [("check a", "serving", []), ("fail a", "done", [2]), ("fail a", "done", []), ("pass a", "done", [1]), ("pass -", "missing", []),
            ("down a", "not allowed", []), ("register - threshold 1", "not allowed", []), ("retire a", "not allowed", []),
            ("shutdown", "not allowed", []), ("resume", "not allowed", []), ("stop", "not allowed", []),
+           ("fail zz", "refused not listed", []), ("up a", "not allowed", []), ("up zz", "not allowed", []), ("expect a 5", "not allowed", []),
+           ("expect a 0", "not allowed", []), ("expect zz 5", "not allowed", []), ("expect", "not allowed", []),
+           ("register - threshold 0", "not allowed", []), ("register - threshold", "not allowed", []), ("no word", "not allowed", []),
+           (b"\xff", "not allowed", []),
            ("list", "a=serving -=absent", []), ("board", str((5 << 32) + 1), [])]
 BOTH = "entries 5 kept 5 connections 1 watches 1 sessions 1 calls 0 given_up 0 behind 0 gone 0 expired 0 left 5"
 server = Server("--threads", "2", "--report", REPORT, script="catalogue a -\nmax 10\nregister a threshold 1\n")

@@ -7,7 +7,7 @@ import subprocess
 import threading
 import time
 
-from servers import HEALTHD, Server, holds, measured, until
+from servers import HEALTHD, Server, holds, measured, timed, until
 
 NAMES = "good bad moved away silent closed cut slowly down other refused"
 SCRIPT = "".join([f"catalogue {NAMES} -\n", *(f"register {name} threshold 1 1 unknown\n" for name in NAMES.split()), "register - manual\n"])
@@ -122,6 +122,9 @@ printed, said, code = observe(server, "--once", f"good=tcp://localhost:{good.por
 holds("one name alone is looked up and looked at", (printed, code) == ("good pass\n", 0), f"{printed} {code} {said}")
 printed, said, code = observe(server, "--once", "-v", f"good=tcp://127.0.0.1:{good.port}")
 holds("--once -v prints each once", printed == "good pass\n", printed)
+(printed, said, code), seconds = timed(observe, server, "--once", "--every", "60", "--timeout", "1", f"silent=http://127.0.0.1:{silent.port}/")
+holds("a look takes as long as it may", (printed, code) == ("silent fail: late\n", 3) and seconds >= 1, f"{printed} {code} {said}, after {seconds} s")
+measured("a look of a second", seconds, 5)
 holds("the whole server of another healthd is looked at", observe(server, "--once", f"other=grpc-web://127.0.0.1:{healthd.port}/")[2] == 0)
 printed, said, code = observe(server, "--once", f"good=tcp://127.0.0.1:{good.port}", "nobody=tcp://127.0.0.1:1")
 holds("what is refused is said, and ends with 1", code == 1 and "nobody" in said and "good" not in said, f"{code} {said}")

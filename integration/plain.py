@@ -1,6 +1,7 @@
 """What a place of `--plain` answers, byte by byte: to curl and Prometheus' parser, to each method and target, to heads that are
 cut, slow or too large, and to calls, which have the same answer as at the service's own port."""
 import json
+import signal
 import socket
 import subprocess
 import threading
@@ -406,6 +407,35 @@ try:
 except ConnectionRefusedError:
     found = ""
 holds("nobody listens at its plain place any more", found == "", found)
+
+# Both places take turns: beside more clients that wait at the one than may be connected, one gets in that waits at the other.
+server = Server("--threads", "1", "--connections", "2", "--watches", "1", "--plain", "127.0.0.1:0", script=SCRIPT)
+
+
+def gets_in(place, full, request):
+    """What one is answered who comes to the place last, while nobody is accepted."""
+    server.process.send_signal(signal.SIGSTOP)
+    waiting = [connect(full) for _ in range(4)]
+    for client in waiting:
+        client.sendall(b"GET ")
+    with connect(place, 5) as late:
+        late.sendall(request)
+        server.process.send_signal(signal.SIGCONT)
+        try:
+            found = rest_of(late)
+        except TimeoutError:
+            found = b"nothing"
+    for client in waiting:
+        client.close()
+    until("those that waited have left", lambda: server.stats()["connections"], 0)
+    return found
+
+
+found = [(gets_in(server.port, server.plain, call("Check", request_for("web1"))).endswith(OK),
+          parted(gets_in(server.plain, server.port, asking("/status/web1").encode())) == status("web1", "serving")) for _ in range(4)]
+holds("a Check gets in beside many that wait at the plain place", all(check for check, _ in found), str(found))
+holds("a GET gets in beside many that wait at the service's own port", all(get for _, get in found), str(found))
+holds("it ends", server.stop() == 0)
 
 # Sockets that are handed over, and places that there are not.
 with socket.create_server(("127.0.0.1", 0)) as first, socket.create_server(("127.0.0.1", 0)) as second:

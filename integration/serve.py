@@ -2,7 +2,7 @@
 import socket
 import subprocess
 
-from servers import HEALTHD, HERE, holds, rest_of
+from servers import HEALTHD, HERE, Watcher, holds, rest_of
 
 REFUSED_TYPE = (b"POST /grpc.health.v1.Health/Check HTTP/1.1\r\ncontent-type: application/grpc-web-text\r\n"
                 b"content-length: 5\r\n\r\n")
@@ -79,6 +79,20 @@ status, lines, _ = ordered.ended()
 told = len([line for line in watched if line.endswith("SERVING")])
 holds("how the three ended", (status, ends(lines)) == (0, ["fault read", "http 415", f"watch {told}"]), str(lines))
 holds("its journal has the orders that were made", lines[-1] == "journal 3", str(lines))
+
+# A Watch beside as many orders as a script has room for, which sets `a` down and up in turn, and down at last. It tells each status from
+# its opening on. That comes in the middle of the orders, where they are not over by then: it is tried until one does.
+ORDERS = "down a\nup a\n" * 5_400 + "down a\n"
+counts, wrong = [], []
+while max(counts, default=0) < 600 and len(counts) < 50:
+    many = Serving(f"catalogue a -\nmax 20000\nregister a manual\ngo\n{ORDERS}", 1, 1)
+    told = Watcher(many.connect(), "a").to_end()
+    counts.append(len(told))
+    found = many.ended()
+    if not told or told != [2 - place % 2 for place in range(len(told))][::-1] or found != (0, [f"call 0 watch {len(told)}", "journal 10802"], ""):
+        wrong.append((told[-3:], found))
+holds("each status that a Watch beside many orders is told is another, and the last is that of the last order", not wrong, str(wrong[:1]))
+holds("it is told of hundreds of orders", counts[-1] >= 600, str(counts))
 
 # The faults of a script come before that of the port.
 FAULTS = [("catalogue a -\nmax 1\n", "bind"), ("catalogue a -\nmax 1\nregister a manual\nregister - depends a\ngo\nup a\n", "bind"),

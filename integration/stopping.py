@@ -68,9 +68,10 @@ ended, seconds = timed(server.ended)
 holds("it ends where the others have left", ended == (0, "journal 3"), str(ended))
 measured("the end where clients have left whose requests had ten seconds", seconds, 5)
 
-# A session whose answers nobody reads, beside one that says `stop`: more lists than a socket holds, each of 1,900 bytes.
+# A session whose answers nobody reads, beside one that says `stop`: more lists than a socket holds, each of 1,900 bytes, and changes
+# between them.
 NAMES = ["x" * 120 + letter for letter in "abcdefghijklmno"]
-LISTED = " ".join([f"{NAMES[0]}=serving", *(f"{name}=absent" for name in NAMES[1:]), "-=absent"]).encode() + b"\n"
+LISTED = " ".join([*(f"{name}=absent" for name in NAMES), "-=serving"]).encode() + b"\n"
 LISTS = 5_000
 
 
@@ -88,9 +89,9 @@ def say_late(client, line):
 
 
 # A socket of an address takes a part of an answer, where a Unix socket takes all of it or nothing.
-server = Server(script=f"catalogue {' '.join(NAMES)} -\nmax 10\nregister {NAMES[0]} manual\n", control="127.0.0.1:0")
+server = Server(script=f"catalogue {' '.join(NAMES)} -\nregister - manual\n", control="127.0.0.1:0")
 full, idle, last = server.session(), server.session(), server.session()
-full.sendall(b"list\n" * LISTS)
+full.sendall(b"list\nup -\n" * LISTS)
 holds("a session beside one whose answers wait", ask_line(idle, "list").encode() + b"\n" == LISTED)
 before = 0
 while (now := waiting(full)) != before or not now:
@@ -101,10 +102,12 @@ say_late(idle, b"shutdown\n")
 say_late(full, b"shutdown\n")
 holds("what comes after the stop is not answered", rest_of(idle) == b"")
 answers = rest_of(full)
-holds("the answers that waited are sent whole", 0 < len(answers) and answers == LISTED * (len(answers) // len(LISTED)), f"{len(answers)} bytes")
-holds("and no others", len(answers) < LISTS * len(LISTED))
+holds("the answers that waited are sent whole", answers.endswith(b"\n")
+      and ((LISTED + b"done\n") * LISTS).startswith(answers), f"{len(answers)} bytes")
+done = answers.count(b"done\n")
+holds("and no others", done < LISTS, f"{done} of {LISTS}")
 ended = server.ended()
-holds("what came after the stop is no entry", ended == (0, "journal 1"), str(ended))
+holds("what is answered is an entry, and nothing else is", ended == (0, f"journal {done + 1}"), f"{done} and {ended}")
 
 # Checks that pour: each that was accepted is answered whole, and the others are refused by the system.
 server = Server("--threads", "2")

@@ -4,15 +4,6 @@ pub(crate) const SERVING: &[u8] = b"HTTP/1.1 200 OK\r\nconnection: close\r\n\
     content-type: application/grpc-web+proto\r\ncontent-length: 27\r\n\r\n\
     \0\0\0\0\x02\x08\x01\x80\0\0\0\x0fgrpc-status:0\r\n";
 
-pub(crate) const NOT_SERVING: &[u8] = b"HTTP/1.1 200 OK\r\nconnection: close\r\n\
-    content-type: application/grpc-web+proto\r\ncontent-length: 27\r\n\r\n\
-    \0\0\0\0\x02\x08\x02\x80\0\0\0\x0fgrpc-status:0\r\n";
-
-/// The status UNKNOWN, whose message is empty.
-pub(crate) const UNKNOWN: &[u8] = b"HTTP/1.1 200 OK\r\nconnection: close\r\n\
-    content-type: application/grpc-web+proto\r\ncontent-length: 25\r\n\r\n\
-    \0\0\0\0\0\x80\0\0\0\x0fgrpc-status:0\r\n";
-
 pub(crate) const UNKNOWN_SERVICE: &[u8] = b"HTTP/1.1 200 OK\r\nconnection: close\r\n\
     content-type: application/grpc-web+proto\r\ncontent-length: 50\r\n\r\n\
     \x80\0\0\0\x2dgrpc-status:5\r\ngrpc-message:unknown service\r\n";
@@ -50,15 +41,6 @@ pub(crate) const HEAD_TOO_LARGE: &[u8] =
 
 pub(crate) const VERSION_NOT_SUPPORTED: &[u8] =
     b"HTTP/1.1 505 HTTP Version Not Supported\r\nconnection: close\r\ncontent-length: 0\r\n\r\n";
-
-pub(crate) const WATCH_HEAD: &[u8] = b"HTTP/1.1 200 OK\r\nconnection: close\r\n\
-    content-type: application/grpc-web+proto\r\ntransfer-encoding: chunked\r\n\r\n";
-
-/// A Watch of a service that heard nothing.
-pub(crate) const WATCH_OF_UNHEARD: &[u8] = b"HTTP/1.1 200 OK\r\nconnection: close\r\n\
-    content-type: application/grpc-web+proto\r\ntransfer-encoding: chunked\r\n\r\n\
-    5\r\n\0\0\0\0\0\r\n\
-    2f\r\n\x80\0\0\0\x2agrpc-status:14\r\ngrpc-message:watch ended\r\n\r\n0\r\n\r\n";
 
 /// A Watch of an unknown service.
 pub(crate) const WATCH_OF_UNKNOWN: &[u8] = b"HTTP/1.1 200 OK\r\nconnection: close\r\n\

@@ -6,8 +6,10 @@ use web_call::{Bell, Turn};
 #[derive(Drop)]
 pub(crate) struct Turns<'a> {
     left: &'a [Turn],
-    looks: u64,
-    waits: u32,
+    /// How many Looks it gave.
+    pub(crate) looks: u64,
+    /// How often it was asked.
+    pub(crate) waits: u32,
     is_over: bool,
     ghost fits: { looks + length left.now < 2 ^ 64 },
 }
@@ -20,16 +22,6 @@ impl<'a> Turns<'a> {
             waits: 0,
             is_over: false,
         }
-    }
-
-    /// How many Looks it gave.
-    pub(crate) fn looks(&self) -> u64 {
-        self.looks
-    }
-
-    /// How often it was asked.
-    pub(crate) fn waits(&self) -> u32 {
-        self.waits
     }
 }
 

@@ -1,8 +1,5 @@
 //! Tests of `control`. They see public calls alone.
 
-mod expecting;
-mod lines;
 mod places;
-mod rights;
+mod sessions;
 mod telling;
-mod texts;

@@ -5,7 +5,6 @@ use health_wire::Serving;
 use plain::Inquiry;
 use probe_core::Manual;
 use std::alloc::{AllocError, Global};
-use std::process::Abort;
 use web_call::Door;
 
 /// It keeps the last sixteen changes.
@@ -26,15 +25,8 @@ impl Keep for KeepSixteen {
     }
 }
 
-/// A catalogue of `a` and the empty name.
-pub(crate) fn catalogue(rt: &impl Abort, alloc: Global) -> Catalogue {
-    let mut names = Vec::with_capacity(alloc, 2).expect(rt, "memory");
-    names
-        .push(String::from_str(alloc, "a").expect(rt, "memory"))
-        .expect(rt, "memory");
-    names.push(String::new(alloc)).expect(rt, "memory");
-    Catalogue::new(alloc, names).expect(rt, "memory")
-}
+/// The names of its catalogue.
+pub(crate) static NAMES: [&str; 2] = ["a", ""];
 
 /// A door over its own desk, on which the empty name alone is registered. The name is serving, and set down and up in turn before each
 /// step, so often as a list says. It counts how often it was asked.
@@ -44,7 +36,7 @@ pub(crate) struct Flipping<'a> {
     catalogue: &'a Catalogue,
     flips: &'a [u32],
     is_down: bool,
-    asked: u32,
+    pub(crate) asked: u32,
 }
 
 impl<'a> Flipping<'a> {
@@ -52,7 +44,6 @@ impl<'a> Flipping<'a> {
         let mut desk = Desk::new(alloc, 200);
         if let Some(slot) = catalogue.slot("") {
             let _ = desk.register(0, slot, Manual::new());
-            let _ = desk.set(0, slot, Setting::Up);
         }
         Flipping {
             desk,
@@ -61,11 +52,6 @@ impl<'a> Flipping<'a> {
             is_down: false,
             asked: 0,
         }
-    }
-
-    /// How often it was asked.
-    pub(crate) fn asked(&self) -> u32 {
-        self.asked
     }
 }
 

@@ -1,16 +1,25 @@
+use crate::parts::bytes_of;
 use crate::same::same;
 use grpc_frame::Code;
-use std::alloc::Global;
-use std::process::Abort;
 use web_call::{Headed, Method, head_of};
 
-const CHECK: &str = "POST /grpc.health.v1.Health/Check HTTP/1.1";
+const CHECK: &[u8] = b"POST /grpc.health.v1.Health/Check HTTP/1.1\r\n";
 
-const LIST: &str = "POST /grpc.health.v1.Health/List HTTP/1.1";
+const LIST: &[u8] = b"POST /grpc.health.v1.Health/List HTTP/1.1\r\n";
 
-const TYPE: &str = "content-type: application/grpc-web+proto";
+const TYPE: &[u8] = b"content-type: application/grpc-web+proto\r\n";
 
-const CHUNKED: &str = "transfer-encoding: chunked";
+const CHUNKED: &[u8] = b"transfer-encoding: chunked\r\n";
+
+const END: &[u8] = b"\r\n";
+
+/// Thirty header lines.
+const X_30: &[u8] =
+    b"x: y\r\nx: y\r\nx: y\r\nx: y\r\nx: y\r\nx: y\r\nx: y\r\nx: y\r\nx: y\r\nx: y\r\n\
+    x: y\r\nx: y\r\nx: y\r\nx: y\r\nx: y\r\nx: y\r\nx: y\r\nx: y\r\nx: y\r\nx: y\r\n\
+    x: y\r\nx: y\r\nx: y\r\nx: y\r\nx: y\r\nx: y\r\nx: y\r\nx: y\r\nx: y\r\nx: y\r\n";
+
+const X: &[u8] = b"x: y\r\n";
 
 /// A Check of a body of no byte.
 const CHECKED: Headed = Headed::Body {
@@ -37,215 +46,170 @@ const TOO_LARGE: Headed = Headed::Status(Code::ResourceExhausted, "request too l
 
 const UNKNOWN: Headed = Headed::Status(Code::Unimplemented, "unknown method");
 
-/// Appends a head of this start line and these header lines.
-fn push_head(rt: &impl Abort, bytes: &mut Vec<u8>, start: &str, lines: &[&str]) {
-    bytes
-        .extend_from_slice(start.as_bytes())
-        .expect(rt, "memory");
-    for line in lines {
-        bytes.extend_from_slice(b"\r\n").expect(rt, "memory");
-        bytes
-            .extend_from_slice(line.as_bytes())
-            .expect(rt, "memory");
-    }
-    bytes.extend_from_slice(b"\r\n\r\n").expect(rt, "memory");
-}
+/// The parts of a head.
+type Parts = &'static [&'static [u8]];
 
-/// Start lines and header lines, from the last fault that is looked for to the first.
-static HEADS: [(&str, &[&str], Headed); 31] = [
-    (CHECK, &[TYPE], CHECKED),
+/// Heads, from the last fault that is looked for to the first.
+static HEADS: [(Parts, Headed); 45] = [
+    (&[CHECK, TYPE, END], CHECKED),
     (
-        "POST /grpc.health.v1.Health/Watch HTTP/1.1",
-        &[TYPE],
+        &[b"POST /grpc.health.v1.Health/Watch HTTP/1.1\r\n", TYPE, END],
         WATCHED,
     ),
+    (&[END, CHECK, TYPE, END], CHECKED),
     (
-        "\r\nPOST /grpc.health.v1.Health/Check HTTP/1.1",
-        &[TYPE],
-        CHECKED,
-    ),
-    (
-        CHECK,
         &[
-            "content-type: Application/gRPC-Web; x=1",
-            "content-length:\t 5 \t",
+            CHECK,
+            b"content-type: Application/gRPC-Web; x=1\r\n",
+            b"content-length:\t 5 \t\r\n",
+            END,
         ],
         CHECKED_5,
     ),
     (
-        CHECK,
-        &["accept: text/html", TYPE, "content-type: text/html"],
+        &[
+            CHECK,
+            b"accept: text/html\r\n",
+            TYPE,
+            b"content-type: text/html\r\n",
+            END,
+        ],
         CHECKED,
     ),
     (
-        CHECK,
-        &[TYPE, "CONTENT-LENGTH:000000000000000005"],
+        &[CHECK, TYPE, b"CONTENT-LENGTH:000000000000000005\r\n", END],
         CHECKED_5,
     ),
-    (CHECK, &[TYPE, "content-length: 8192"], CHECKED_8192),
-    (LIST, &[TYPE, "content-length: 5"], UNKNOWN),
     (
-        "POST /grpc.health.v1.Health/Check?x HTTP/1.1",
-        &[TYPE],
+        &[CHECK, TYPE, b"content-length: 8192\r\n", END],
+        CHECKED_8192,
+    ),
+    (&[LIST, TYPE, b"content-length: 5\r\n", END], UNKNOWN),
+    (
+        &[
+            b"POST /grpc.health.v1.Health/Check?x HTTP/1.1\r\n",
+            TYPE,
+            END,
+        ],
         UNKNOWN,
     ),
     (
-        "POST /grpc.health.v1.Health/check HTTP/1.1",
-        &[TYPE],
+        &[b"POST /grpc.health.v1.Health/check HTTP/1.1\r\n", TYPE, END],
         UNKNOWN,
     ),
-    (LIST, &[TYPE, "content-length: 9000"], TOO_LARGE),
-    (CHECK, &[TYPE, "content-length: 8193"], TOO_LARGE),
+    (&[LIST, TYPE, b"content-length: 9000\r\n", END], TOO_LARGE),
+    (&[CHECK, TYPE, b"content-length: 8193\r\n", END], TOO_LARGE),
     (
-        CHECK,
-        &[TYPE, "content-length: 999999999999999999"],
+        &[CHECK, TYPE, b"content-length: 999999999999999999\r\n", END],
         TOO_LARGE,
     ),
     (
-        CHECK,
-        &[TYPE, "content-length: 9000", CHUNKED],
+        &[CHECK, TYPE, b"content-length: 9000\r\n", CHUNKED, END],
         Headed::Http(411),
     ),
     (
-        CHECK,
-        &[TYPE, "Transfer-Encoding: identity"],
+        &[CHECK, TYPE, b"Transfer-Encoding: identity\r\n", END],
         Headed::Http(411),
     ),
     (
-        CHECK,
-        &["content-type: text/html", CHUNKED],
+        &[CHECK, b"content-type: text/html\r\n", CHUNKED, END],
         Headed::Http(415),
     ),
     (
-        CHECK,
-        &["content-type: application/grpc-web-text"],
+        &[CHECK, b"content-type: application/grpc-web-text\r\n", END],
         Headed::Http(415),
     ),
-    (CHECK, &["content-type: text/html", TYPE], Headed::Http(415)),
-    (CHECK, &[], Headed::Http(415)),
     (
-        "GET /grpc.health.v1.Health/Check HTTP/1.1",
-        &[CHUNKED],
+        &[CHECK, b"content-type: text/html\r\n", TYPE, END],
+        Headed::Http(415),
+    ),
+    (&[CHECK, END], Headed::Http(415)),
+    (
+        &[
+            b"GET /grpc.health.v1.Health/Check HTTP/1.1\r\n",
+            CHUNKED,
+            END,
+        ],
         Headed::Http(405),
     ),
     (
-        "post /grpc.health.v1.Health/Check HTTP/1.1",
-        &[TYPE],
+        &[b"post /grpc.health.v1.Health/Check HTTP/1.1\r\n", TYPE, END],
         Headed::Http(405),
     ),
     (
-        "GET / HTTP/1.0",
-        &[CHUNKED, "content-length: 9000"],
+        &[
+            b"GET / HTTP/1.0\r\n",
+            CHUNKED,
+            b"content-length: 9000\r\n",
+            END,
+        ],
         Headed::Http(505),
     ),
     (
-        CHECK,
-        &[TYPE, "content-length: 9999999999999999999"],
-        Headed::Http(400),
-    ),
-    (CHECK, &[TYPE, "content-length: five"], Headed::Http(400)),
-    (CHECK, &[TYPE, "content-length: 5, 5"], Headed::Http(400)),
-    (CHECK, &[TYPE, "content-length:"], Headed::Http(400)),
-    (
-        "POST / HTTP/1.0",
-        &["content-length: 5", "Content-length: 5"],
+        &[CHECK, TYPE, b"content-length: 9999999999999999999\r\n", END],
         Headed::Http(400),
     ),
     (
-        CHECK,
-        &["content-type : application/grpc-web"],
+        &[CHECK, TYPE, b"content-length: five\r\n", END],
         Headed::Http(400),
     ),
     (
-        "POST /grpc.health.v1.Health/Check HTTP/2.0",
-        &[TYPE],
+        &[CHECK, TYPE, b"content-length: 5, 5\r\n", END],
         Headed::Http(400),
     ),
     (
-        "POST /grpc.health.v1.Health/Check",
-        &[TYPE],
+        &[CHECK, TYPE, b"content-length:\r\n", END],
         Headed::Http(400),
     ),
-    ("no start line", &[TYPE], Headed::Http(400)),
+    (
+        &[
+            b"POST / HTTP/1.0\r\n",
+            b"content-length: 5\r\n",
+            b"Content-length: 5\r\n",
+            END,
+        ],
+        Headed::Http(400),
+    ),
+    (
+        &[CHECK, b"content-type : application/grpc-web\r\n", END],
+        Headed::Http(400),
+    ),
+    (
+        &[b"POST /grpc.health.v1.Health/Check HTTP/2.0\r\n", TYPE, END],
+        Headed::Http(400),
+    ),
+    (
+        &[b"POST /grpc.health.v1.Health/Check\r\n", TYPE, END],
+        Headed::Http(400),
+    ),
+    (&[b"no start line\r\n", TYPE, END], Headed::Http(400)),
+    // bytes that are no head, or not a head alone
+    (&[], Headed::Http(400)),
+    (&[b"GET / HTTP/1.1\r\n"], Headed::Http(400)),
+    (&[b"GET / HTTP/1.1\n\r\n"], Headed::Http(405)),
+    (&[b"GET / HTTP/1.1\n\nx\r\n\r\n"], Headed::Http(400)),
+    (&[b"GET / HTTP/1.1\r\n\r\nx"], Headed::Http(400)),
+    // 8,191 and 8,192 bytes, with and without an end
+    (&[CHECK, TYPE, b"x: ", &[b'a'; 8_098], b"\r\n\r\n"], CHECKED),
+    (&[CHECK, TYPE, b"x: ", &[b'a'; 8_099], b"\r\n\r\n"], CHECKED),
+    (&[CHECK, TYPE, b"x: ", &[b'a'; 8_102]], Headed::Http(400)),
+    (&[CHECK, TYPE, b"x: ", &[b'a'; 8_103]], Headed::Http(431)),
+    (
+        &[CHECK, TYPE, b"x: ", &[b'a'; 8_100], b"\r\n\r"],
+        Headed::Http(431),
+    ),
+    // 32 header lines and 33; an empty line before the start line counts as one more
+    (&[CHECK, X_30, X, TYPE, END], CHECKED),
+    (&[CHECK, X_30, X, X, TYPE, END], Headed::Http(431)),
+    (&[END, CHECK, X_30, TYPE, END], CHECKED),
+    (&[END, CHECK, X_30, X, TYPE, END], Headed::Http(431)),
 ];
 
 #[test]
 fn looks_for_the_faults_of_a_head_in_their_order(rt: HostRuntime) {
-    for &(start, lines, expected) in &HEADS {
-        let mut head = Vec::new(rt.alloc());
-        push_head(&rt, &mut head, start, lines);
-        same(&rt, &head_of(&head), &expected, &(start, lines));
-    }
-}
-
-/// Bytes that are no head, or not a head alone.
-static ENDS: [(&[u8], Headed); 5] = [
-    (b"", Headed::Http(400)),
-    (b"GET / HTTP/1.1\r\n", Headed::Http(400)),
-    (b"GET / HTTP/1.1\n\r\n", Headed::Http(405)),
-    (b"GET / HTTP/1.1\n\nx\r\n\r\n", Headed::Http(400)),
-    (b"GET / HTTP/1.1\r\n\r\nx", Headed::Http(400)),
-];
-
-#[test]
-fn takes_a_head_that_is_all_of_the_bytes(rt: HostRuntime) {
-    for &(head, expected) in &ENDS {
-        same(&rt, &head_of(head), &expected, &head);
-    }
-}
-
-const FRONT: &[u8] = b"POST /grpc.health.v1.Health/Check HTTP/1.1\r\n\
-    content-type: application/grpc-web+proto\r\nx: ";
-
-/// How many bytes a head has, and the last of them; behind its front it has the byte `a`.
-static SIZES: [(usize, &[u8], Headed); 5] = [
-    (8_191, b"\r\n\r\n", CHECKED),
-    (8_192, b"\r\n\r\n", CHECKED),
-    (8_191, b"aaaa", Headed::Http(400)),
-    (8_192, b"aaaa", Headed::Http(431)),
-    (8_192, b"\r\n\r", Headed::Http(431)),
-];
-
-#[test]
-fn takes_heads_up_to_8192_bytes(rt: HostRuntime) {
-    for &(size, end, expected) in &SIZES {
-        let mut head = FRONT.to_vec(rt.alloc()).expect(&rt, "memory");
-        head.resize(size.saturating_sub(end.len()), b'a')
-            .expect(&rt, "memory");
-        head.extend_from_slice(end).expect(&rt, "memory");
-        same(&rt, &(head.len(), head_of(&head)), &(size, expected), &end);
-    }
-}
-
-/// How many header lines there are beside the first. An empty line before the start line counts as one more.
-static LINES: [(&str, usize, Headed); 4] = [
-    (CHECK, 31, CHECKED),
-    (CHECK, 32, Headed::Http(431)),
-    (
-        "\r\nPOST /grpc.health.v1.Health/Check HTTP/1.1",
-        30,
-        CHECKED,
-    ),
-    (
-        "\r\nPOST /grpc.health.v1.Health/Check HTTP/1.1",
-        31,
-        Headed::Http(431),
-    ),
-];
-
-fn lines(rt: &impl Abort, alloc: Global, more: usize) -> Vec<&'static str> {
-    let mut lines = Vec::new(alloc);
-    lines.resize(more, "x: y").expect(rt, "memory");
-    lines.push(TYPE).expect(rt, "memory");
-    lines
-}
-
-#[test]
-fn takes_up_to_32_header_lines(rt: HostRuntime) {
-    for &(start, more, expected) in &LINES {
-        let lines = lines(&rt, rt.alloc(), more);
-        let mut head = Vec::new(rt.alloc());
-        push_head(&rt, &mut head, start, &lines);
-        same(&rt, &head_of(&head), &expected, &(start, more));
+    for &(parts, expected) in &HEADS {
+        let head = bytes_of(&rt, rt.alloc(), parts);
+        let is_expected = head_of(&head) == expected;
+        same(&rt, &is_expected, &true, &parts);
     }
 }

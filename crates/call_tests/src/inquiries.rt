@@ -1,4 +1,4 @@
+//! Tests of `plain`. They see public calls alone.
+
 mod answers;
-mod memory;
-mod refusals;
-mod staged;
+pub(crate) mod staged;

@@ -1,4 +1,5 @@
-//! Tests of the crates that answer a request, `web_call` and `plain`, and of `client`. They see public calls alone.
+//! Tests of the crates that answer a request, `web_call` and `plain`, of `client`, of `control`, and of those that observe. They see
+//! public calls alone.
 #![tactic(auto)]
 
 #[cfg(test)]
@@ -14,8 +15,6 @@ mod doors;
 #[cfg(test)]
 mod exchanges;
 #[cfg(test)]
-mod faults;
-#[cfg(test)]
 mod heads;
 #[cfg(test)]
 mod inquiries;
@@ -24,14 +23,12 @@ mod memory;
 #[cfg(test)]
 mod observers;
 #[cfg(test)]
-mod pieces;
+mod parts;
+#[cfg(test)]
+mod refusals;
 #[cfg(test)]
 mod rows;
 #[cfg(test)]
 mod runs;
 #[cfg(test)]
 mod same;
-#[cfg(test)]
-mod texts;
-#[cfg(test)]
-mod watches;

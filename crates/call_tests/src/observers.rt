@@ -1,9 +1,6 @@
 //! Tests of the crates that observe targets, `observation` and `observing`. They see public calls alone.
 
 mod answers;
-mod days;
 mod long;
 mod looks;
-mod once;
-mod servers;
 mod targets;

@@ -1,8 +1,7 @@
 use crate::command_line::matches_of;
 use crate::same::same;
-use crate::texts::padded;
 use client::{Ended, Told};
-use commands::ask::{addr_in, call_in, name_in, output_of, run, timeout_in};
+use commands::ask::{print_end, print_told, run};
 use commands::ask_failure::AskFailure;
 use commands::fault::Fault;
 use commands::options::HOST;
@@ -12,42 +11,159 @@ use std::process::Abort;
 use std::time::Clock;
 use web_call::Method;
 
-/// The statuses, the code and the text of the end, and what is printed.
-type Row = (&'static [u64], Option<(u32, &'static [u8])>, &'static [u8]);
+/// The method, the statuses, the code and the text of the end, the status that is expected, the exit status, and what is printed at the
+/// end: all of a Check, and of a Watch how it ended.
+type Row = (
+    Method,
+    &'static [u64],
+    Option<(u32, &'static [u8])>,
+    Option<&'static str>,
+    u8,
+    &'static [u8],
+);
 
-static ROWS: [Row; 6] = [
-    (&[1], Some((0, b"")), b"SERVING\ngrpc-status 0\n"),
+static ROWS: [Row; 20] = [
     (
+        Method::Check,
+        &[1],
+        Some((0, b"")),
+        Some("SERVING"),
+        0,
+        b"SERVING\ngrpc-status 0\n",
+    ),
+    (
+        Method::Check,
+        &[2],
+        Some((0, b"")),
+        Some("SERVING"),
+        3,
+        b"NOT_SERVING\ngrpc-status 0\n",
+    ),
+    (
+        Method::Check,
+        &[2],
+        Some((0, b"")),
+        None,
+        0,
+        b"NOT_SERVING\ngrpc-status 0\n",
+    ),
+    (
+        Method::Check,
+        &[0],
+        Some((0, b"")),
+        Some("SERVING"),
+        3,
+        b"UNKNOWN\ngrpc-status 0\n",
+    ),
+    (
+        Method::Check,
+        &[1],
+        Some((14, b"")),
+        Some("SERVING"),
+        3,
+        b"SERVING\ngrpc-status 14 \n",
+    ),
+    (Method::Check, &[1], None, Some("SERVING"), 3, b"SERVING\n"),
+    (
+        Method::Check,
         &[],
         Some((5, b"unknown service")),
+        Some("SERVING"),
+        3,
         b"grpc-status 5 unknown service\n",
     ),
     (
-        &[0, 1, 2, 3, 4],
+        Method::Check,
+        &[],
+        Some((5, b"unknown service")),
         None,
-        b"UNKNOWN\nSERVING\nNOT_SERVING\nSERVICE_UNKNOWN\nstatus 4\n",
+        0,
+        b"grpc-status 5 unknown service\n",
     ),
     (
+        Method::Check,
         &[2],
         Some((14, b"watch ended")),
+        None,
+        0,
         b"NOT_SERVING\ngrpc-status 14 watch ended\n",
     ),
+    // each status that has a name in health.proto, and one that has none
+    (
+        Method::Check,
+        &[0, 1, 2, 3, 4],
+        None,
+        None,
+        0,
+        b"UNKNOWN\nSERVING\nNOT_SERVING\nSERVICE_UNKNOWN\nstatus 4\n",
+    ),
     // the text stands behind a space, also where there is none, and behind another code than 0 alone
-    (&[], Some((13, b"")), b"grpc-status 13 \n"),
-    (&[], Some((0, b"fine")), b"grpc-status 0\n"),
+    (
+        Method::Check,
+        &[],
+        Some((13, b"")),
+        None,
+        0,
+        b"grpc-status 13 \n",
+    ),
+    (
+        Method::Check,
+        &[],
+        Some((0, b"fine")),
+        None,
+        0,
+        b"grpc-status 0\n",
+    ),
+    // of a Watch the last status counts, and how it ended does not
+    (Method::Watch, &[2, 1], None, Some("SERVING"), 0, b""),
+    (Method::Watch, &[1, 2], None, Some("SERVING"), 3, b""),
+    (
+        Method::Watch,
+        &[1],
+        Some((14, b"watch ended")),
+        Some("SERVING"),
+        0,
+        b"grpc-status 14 watch ended\n",
+    ),
+    (
+        Method::Watch,
+        &[1, 2],
+        Some((14, b"watch ended")),
+        Some("NOT_SERVING"),
+        0,
+        b"grpc-status 14 watch ended\n",
+    ),
+    (
+        Method::Watch,
+        &[3],
+        Some((14, b"")),
+        Some("SERVING"),
+        3,
+        b"grpc-status 14 \n",
+    ),
+    (Method::Watch, &[], None, Some("SERVING"), 3, b""),
+    (Method::Watch, &[4], None, Some("SERVING"), 3, b""),
+    (Method::Watch, &[4], None, None, 0, b""),
 ];
 
 fn expect_printed(rt: &impl Abort, alloc: Global, row: &Row) {
-    let statuses = Vec::from_slice(alloc, row.0).expect(rt, "memory");
-    let end = match row.1 {
+    let (method, statuses, end, expected, exit, printed) = *row;
+    let end = match end {
         Some((code, text)) => Some(Ended {
             code,
             text: Vec::from_slice(alloc, text).expect(rt, "memory"),
         }),
         None => None,
     };
-    let output = output_of(alloc, &Told { statuses, end }).expect(rt, "memory");
-    same(rt, &output.as_slice(), &row.2, &row);
+    let statuses = Vec::from_slice(alloc, statuses).expect(rt, "memory");
+    let told = Told { statuses, end };
+    let mut output = Vec::new(alloc);
+    let status = match method {
+        Method::Check => print_told(alloc, &mut output, method, expected, &told),
+        Method::Watch => print_end(alloc, &mut output, expected, &told),
+    };
+    same(rt, &status, &Ok(exit), &row);
+    same(rt, &output.as_slice(), &printed, &row);
 }
 
 #[test]
@@ -57,82 +173,26 @@ fn prints_what_was_told(rt: HostRuntime) {
     }
 }
 
-/// A port to which nobody listens: it was let go just now.
-fn free_port<R>(rt: &R) -> u16
-where
-    R: Abort + Net<Listener = TcpListener, Stream = TcpStream>,
-{
-    let listener = TcpListener::bind(rt, (HOST, 0u16)).expect(rt, "a listener");
-    listener.local_addr().expect(rt, "its address").port()
-}
-
-/// What ends the command, if it does not succeed.
-fn failure_of<R>(rt: &R, words: &[&str]) -> Option<AskFailure>
+/// What ends `ask` for a name of so many bytes, at an address where nobody listens.
+fn expect_fault<R>(rt: &R, addr: SocketAddr, len: usize, expected: Fault)
 where
     R: Abort + Print + Clock + AllocGlobal + Net<Stream = TcpStream>,
 {
-    let matches = matches_of(rt, rt.alloc(), words);
-    let addr = addr_in(&matches).expect(rt, "an address");
-    run(rt, &matches, addr).err()
-}
-
-/// What ends `ask` for a name of so many bytes, where nobody listens.
-fn expect_fault<R>(rt: &R, len: usize, expected: Fault)
-where
-    R: Abort + Print + Clock + AllocGlobal + Net<Listener = TcpListener, Stream = TcpStream>,
-{
-    let name = padded(rt, rt.alloc(), b"", len, b'n');
+    let mut name = Vec::new(rt.alloc());
+    name.resize(len, b'n').expect(rt, "memory");
     let name = str::from_utf8(&name).expect(rt, "a text");
-    let port = format!(in rt.alloc(); "{}", free_port(rt)).expect(rt, "memory");
-    let words = ["healthd", "ask", "--port", port.as_str(), "--name", name];
-    let failure = failure_of(rt, words.as_slice());
-    same(rt, &failure, &Some(AskFailure::Plain(expected)), &len);
+    let words = ["healthd", "ask", "--port", "1", "--name", name];
+    let matches = matches_of(rt, rt.alloc(), words.as_slice());
+    let status = run(rt, &matches, addr);
+    same(rt, &status, &Err(AskFailure::Plain(expected)), &len);
 }
 
+/// No command line of Linux has a word as long as this.
 #[test]
 fn refuses_a_name_that_is_too_long_before_it_connects(rt: HostRuntime) {
-    expect_fault(&rt, 1_048_577, Fault::NameTooLong);
-    expect_fault(&rt, 1_048_576, Fault::Connect);
-}
-
-/// What `ask` reads of its arguments: where it asks, the name, the most statuses, and the most seconds.
-type Read<'a> = (Option<SocketAddr>, &'a str, (Method, u32), Option<u64>);
-
-fn expect_read(rt: &impl Abort, alloc: Global, words: &[&str], expected: Read<'_>) {
-    let matches = matches_of(rt, alloc, words);
-    let read = (
-        addr_in(&matches),
-        name_in(&matches),
-        call_in(&matches),
-        timeout_in(&matches).map(|time| time.as_secs()),
-    );
-    same(rt, &read, &expected, &words);
-}
-
-#[test]
-fn reads_its_arguments(rt: HostRuntime) {
-    let alloc = rt.alloc();
-    let here = "127.0.0.1:1".parse::<SocketAddr>().ok();
-    let there = "[::1]:65535".parse::<SocketAddr>().ok();
-    let words = ["healthd", "ask", "--port", "1"];
-    expect_read(&rt, alloc, &words, (here, "", (Method::Check, 1), None));
-    let words = [
-        "healthd",
-        "ask",
-        "--port",
-        "65535",
-        "--host",
-        "::1",
-        "--name",
-        "-",
-        "--watch",
-        "1000",
-        "--timeout",
-        "3600",
-    ];
-    let watch = (there, "-", (Method::Watch, 1_000), Some(3_600));
-    expect_read(&rt, alloc, &words, watch);
-    // a host by its name
-    let words = ["healthd", "ask", "--port", "1", "--host", "localhost"];
-    expect_read(&rt, alloc, &words, (None, "", (Method::Check, 1), None));
+    let listener = TcpListener::bind(&rt, (HOST, 0u16)).expect(&rt, "a listener");
+    let addr = listener.local_addr().expect(&rt, "its address");
+    drop(listener);
+    expect_fault(&rt, addr, 1_048_577, Fault::NameTooLong);
+    expect_fault(&rt, addr, 1_048_576, Fault::Connect);
 }

@@ -4,52 +4,16 @@
 #[cfg(test)]
 mod ask;
 #[cfg(test)]
-mod ask_watch;
-#[cfg(test)]
-mod bodies;
-#[cfg(test)]
-mod bounds;
-#[cfg(test)]
-mod cause;
-#[cfg(test)]
-mod command;
-#[cfg(test)]
 mod command_line;
 #[cfg(test)]
 mod deadline;
 #[cfg(test)]
-mod expect;
+mod failures;
 #[cfg(test)]
-mod expected;
+mod made;
 #[cfg(test)]
-mod fault;
-#[cfg(test)]
-mod files;
-#[cfg(test)]
-mod manuals;
-#[cfg(test)]
-mod observe_options;
-#[cfg(test)]
-mod readouts;
-#[cfg(test)]
-mod replay;
-#[cfg(test)]
-mod run;
-#[cfg(test)]
-mod run_failure;
-#[cfg(test)]
-mod run_options;
+mod numbers;
 #[cfg(test)]
 mod same;
 #[cfg(test)]
-mod serve;
-#[cfg(test)]
-mod show_journal;
-#[cfg(test)]
-mod tell;
-#[cfg(test)]
-mod tell_failure;
-#[cfg(test)]
-mod terminal;
-#[cfg(test)]
-mod texts;
+mod status_printer;

@@ -1,93 +1,71 @@
+//! What is read in a file of blocks.
+
 use crate::same::same;
-use record_log::{Memory, ReadError, RecordLog, crc32, read_entries};
-use std::alloc::Global;
+use record_log::{ReadError, read_entries};
 
-/// The last is the check value of the standard; zlib has the others.
-static CHECKSUMS: [(&[u8], u32); 4] = [
-    (b"", 0),
-    (b"a", 0xE8B7_BE43),
-    (b"message digest", 0x2015_9D7F),
-    (b"123456789", 0xCBF4_3926),
-];
-
-#[test]
-fn has_the_checksums_of_zlib(rt: HostRuntime) {
-    for (bytes, sum) in &CHECKSUMS {
-        same(&rt, &crc32(bytes), sum, &bytes);
-    }
-}
-
-/// The entries `abc` and an empty one, and a closed gate.
-static FILE: [u8; 16] = [
-    1, 3, 97, 98, 99, 0x35, 0x24, 0x41, 0xC2, 1, 0, 0, 0, 0, 0, 0,
-];
-
-#[test]
-fn writes_blocks(rt: HostRuntime) {
-    let alloc = rt.alloc();
-    let device = Memory::new(alloc, Vec::new(alloc)).expect(&rt, "memory");
-    let mut log = RecordLog::new(device);
-    log.open(alloc).expect(&rt, "a file");
-    let entry = b"abc".to_vec(alloc).expect(&rt, "memory");
-    let batch = vec![in alloc; entry, Vec::new(alloc)].expect(&rt, "memory");
-    log.append(alloc, &batch).expect(&rt, "an append");
-    same(&rt, &log.device.bytes(), &FILE.as_slice(), &"the file");
-    same(&rt, &log.end, &15, &"the gate");
-}
-
-/// The place of the gate behind the entries of a file.
-fn end_of(alloc: Global, file: &[u8]) -> Result<usize, ReadError> {
-    let (_, end) = read_entries(alloc, file)?;
-    Ok(end)
-}
-
-/// A byte of the file, what stands there instead, and where damage is found: at the first byte of
-/// the block. A gate that is closed is no damage, since a crash leaves it so.
-static CHANGES: [(usize, u8, Result<usize, ReadError>); 11] = [
-    (0, 0, Ok(0)),
-    (0, 7, Ok(0)),
-    (1, 2, Err(ReadError::Damaged(0))),
-    (1, 255, Err(ReadError::Damaged(0))),
-    (2, 96, Err(ReadError::Damaged(0))),
-    (8, 0, Err(ReadError::Damaged(0))),
-    (9, 2, Ok(9)),
-    (10, 1, Err(ReadError::Damaged(9))),
-    (14, 1, Err(ReadError::Damaged(9))),
-    (15, 1, Err(ReadError::Damaged(15))),
-    (15, 9, Ok(15)),
+/// Files, and the place of the gate behind their entries, or where damage is told: at the first byte of a block. The second has the entries
+/// `abc` and an empty one, and a closed gate. A gate that is closed is no damage, since a crash leaves it so.
+static FILES: [(&[u8], Result<usize, ReadError>); 21] = [
+    (b"", Ok(0)),
+    (b"\x01\x03abc\x35\x24\x41\xc2\x01\0\0\0\0\0\0", Ok(15)),
+    // One byte is another.
+    (b"\0\x03abc\x35\x24\x41\xc2\x01\0\0\0\0\0\0", Ok(0)),
+    (b"\x07\x03abc\x35\x24\x41\xc2\x01\0\0\0\0\0\0", Ok(0)),
+    (
+        b"\x01\x02abc\x35\x24\x41\xc2\x01\0\0\0\0\0\0",
+        Err(ReadError::Damaged(0)),
+    ),
+    (
+        b"\x01\xffabc\x35\x24\x41\xc2\x01\0\0\0\0\0\0",
+        Err(ReadError::Damaged(0)),
+    ),
+    (
+        b"\x01\x03`bc\x35\x24\x41\xc2\x01\0\0\0\0\0\0",
+        Err(ReadError::Damaged(0)),
+    ),
+    (
+        b"\x01\x03abc\x35\x24\x41\0\x01\0\0\0\0\0\0",
+        Err(ReadError::Damaged(0)),
+    ),
+    (b"\x01\x03abc\x35\x24\x41\xc2\x02\0\0\0\0\0\0", Ok(9)),
+    (
+        b"\x01\x03abc\x35\x24\x41\xc2\x01\x01\0\0\0\0\0",
+        Err(ReadError::Damaged(9)),
+    ),
+    (
+        b"\x01\x03abc\x35\x24\x41\xc2\x01\0\0\0\0\x01\0",
+        Err(ReadError::Damaged(9)),
+    ),
+    (
+        b"\x01\x03abc\x35\x24\x41\xc2\x01\0\0\0\0\0\x01",
+        Err(ReadError::Damaged(15)),
+    ),
+    (b"\x01\x03abc\x35\x24\x41\xc2\x01\0\0\0\0\0\x09", Ok(15)),
+    // It was cut.
+    (b"\x01", Ok(0)),
+    (b"\x01\x03", Err(ReadError::Damaged(0))),
+    (b"\x01\x03abc\x35\x24\x41\xc2", Err(ReadError::Damaged(9))),
+    (
+        b"\x01\x03abc\x35\x24\x41\xc2\x01\0\0\0\0",
+        Err(ReadError::Damaged(9)),
+    ),
+    (
+        b"\x01\x03abc\x35\x24\x41\xc2\x01\0\0\0\0\0",
+        Err(ReadError::Damaged(15)),
+    ),
+    // The last has the check value of the standard; zlib has the other checksums.
+    (b"\x01\x01a\xe8\xb7\xbe\x43\0", Ok(7)),
+    (b"\x01\x0emessage digest\x20\x15\x9d\x7f\0", Ok(20)),
+    (b"\x01\x09123456789\xcb\xf4\x39\x26\0", Ok(15)),
 ];
 
 #[test]
 fn tells_damage_from_a_crash(rt: HostRuntime) {
-    let alloc = rt.alloc();
-    for &(at, byte, expected) in &CHANGES {
-        let mut file = FILE;
-        if let Some(place) = file.get_mut(at) {
-            *place = byte;
-        }
-        same(&rt, &end_of(alloc, &file), &expected, &(byte, at));
-    }
-}
-
-/// How many bytes are left of the file, and what is found.
-static CUTS: [(usize, Result<usize, ReadError>); 6] = [
-    (0, Ok(0)),
-    (1, Ok(0)),
-    (2, Err(ReadError::Damaged(0))),
-    (9, Err(ReadError::Damaged(9))),
-    (14, Err(ReadError::Damaged(9))),
-    (15, Err(ReadError::Damaged(15))),
-];
-
-#[test]
-fn tells_a_file_that_was_cut(rt: HostRuntime) {
-    let alloc = rt.alloc();
-    for (len, expected) in &CUTS {
-        same(
-            &rt,
-            &end_of(alloc, &FILE[..FILE.len().min(*len)]),
-            expected,
-            &len,
-        );
+    for &(file, expected) in &FILES {
+        let found = match read_entries(rt.alloc(), file) {
+            Ok((_entries, end)) => Ok(end),
+            Err(error) => Err(error),
+        };
+        same(&rt, &found, &expected, &file);
     }
 }

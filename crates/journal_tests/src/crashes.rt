@@ -1,198 +1,161 @@
 //! A device stops at each of its calls in turn, and a crash tears the write that was not synced.
 
-ghost use Rattle.std.specs.Prelude.{◌≡◌};
-ghost use Rattle.desk_core.specs.Left.{Holds};
-ghost use Rattle.journal_store.specs.Record.{restored_of};
-
-use super::histories::{Manuals, OPENING, Random, Replacing, Sessions, Spare, history, preface};
-use crate::same::{holds, same};
-use desk_core::{Call, Entry, Keep, Reply};
+use crate::histories::{Random, history, stored_as};
+use crate::same::same;
+use crate::spare::{OPENING, Spare};
+use crate::stores::{Store, expect_file, store_in};
+use desk_core::{Entry, Keep};
 use entry_record::Stored;
-use journal_store::{JournalStore, Witness, restore};
-use probe_core::Manual;
-use record_log::{Memory, RecordLog};
+use record_log::Memory;
 use std::alloc::Global;
 use std::process::Abort;
 
-pub(crate) type Store = JournalStore<Spare, Sessions>;
+/// How many calls of a device a batch takes: two writes, each synced.
+const BATCH: usize = 4;
 
-/// How many calls of a device an entry takes: two writes, each synced.
-const ENTRY: usize = 4;
-
-/// A store over a file, whose device stops after so many calls, and its entries.
-pub(crate) fn store_over(
-    rt: &impl Abort,
-    alloc: Global,
-    file: &[u8],
-    calls: usize,
-    spare: &[u8],
-) -> (Store, Vec<Stored>)
-    ensures stands { result.0.kept.journal ≡ restored_of result.1.items }
-    ensures holds { Holds result.0.kept.left (restored_of result.1.items) }
-{
-    let file = file.to_vec(alloc).expect(rt, "memory");
-    let mut device = Memory::new(alloc, file).expect(rt, "memory");
-    device.stop_after(calls);
-    let mut log = RecordLog::new(device);
-    let found = log.open(alloc).expect(rt, "a file");
-    let medium = Spare::new(alloc, spare, Replacing::Works).expect(rt, "memory");
-    let preface = preface(rt, alloc);
-    JournalStore::over(alloc, medium, Sessions, log, &found, preface).expect(rt, "a store")
+/// A run over a file: how many calls of a device opening it takes, the entries of a history, also as a file has them, and how many are
+/// stored at once. There are more than a run stores before its device stops.
+#[derive(Clone, Copy)]
+struct Run<'a> {
+    file: &'a [u8],
+    opening: usize,
+    entries: &'a [Entry],
+    stored: &'a [Stored],
+    batch: usize,
 }
 
-/// Stores entries, each alone, up to one that is refused. Says how many were stored.
-fn store_all(store: &mut Store, entries: &[Entry]) -> usize {
-    let mut stored = 0;
-    for number in 0..entries.len() {
-        if store.store(&entries[number..number + 1]).is_err() {
+/// Stores the entries behind so many, up to a batch that is refused. Says how many are stored then.
+fn store_from(store: &mut Store, run: Run<'_>, from: usize) -> usize {
+    let mut stored = from;
+    let entries = run.entries.get(from..).unwrap_or(&[]);
+    for batch in entries.chunks(run.batch.max(1)) {
+        if store.store(batch).is_err() {
             break;
         }
-        stored = number + 1;
+        stored = stored.saturating_add(batch.len());
     }
     stored
 }
 
-/// The calls and replies of a file are those of the first so many entries, and a registry is restored from them.
-fn expect_file(rt: &impl Abort, alloc: Global, file: &[u8], entries: &[Entry], count: usize) {
-    let (store, stored) = store_over(rt, alloc, file, usize::MAX, &[]);
-    let desk = restore::<Manual, Store, Manuals>(alloc, 1_000, store, &stored, &Manuals);
-    let desk = desk.expect(rt, "a desk");
-    holds(rt, desk.is_stored(), "a store");
-    same(rt, &stored.len(), &count, &"entries");
-    same(rt, &desk.journal_kept().len(), &count, &"restored");
-    for number in 0..stored.len() {
-        expect_stored(rt, &stored[number], entries.get(number), number);
-    }
-    for number in 0..desk.journal_kept().len() {
-        let found = &desk.journal_kept()[number];
-        expect_entry(rt, found, 0, entries.get(number), number);
-    }
+/// A store whose device stopped after so many calls behind its opening, how many entries it found, and how many it has. It opens what is
+/// given anew.
+fn stopped(
+    rt: &impl Abort,
+    alloc: Global,
+    run: Run<'_>,
+    calls: usize,
+    spare: &[u8],
+) -> (Store, usize, usize) {
+    let calls = run.opening.saturating_add(calls);
+    let made = store_in(rt, alloc, run.file, calls, Spare::of(rt, alloc, spare));
+    let (mut store, found) = made.expect(rt, "a store");
+    let count = store_from(&mut store, run, found.len());
+    (store, found.len(), count)
 }
 
-/// A record has the expected entry, and the time and who asked for it as the witness told them.
-fn expect_stored(rt: &impl Abort, found: &Stored, expected: Option<&Entry>, at: usize) {
-    let Some(entry) = expected else {
-        panic!(rt; "a record too many at {at}");
+/// A crash that leaves these bytes of what was not synced leaves so many entries, or those and a batch, whose gate is what was torn.
+fn expect_left(
+    rt: &impl Abort,
+    alloc: Global,
+    device: &Memory,
+    torn: &[u8],
+    stored: &[Stored],
+    counts: (usize, usize),
+) {
+    let file = device.crashed(torn).expect(rt, "memory");
+    let count = if torn.starts_with(&[1]) {
+        counts.1
+    } else {
+        counts.0
     };
-    same(rt, &found.entry, entry, &at);
-    let witnessed = Sessions.witness(entry.seat);
-    same(rt, &(found.micros, found.who), &witnessed, &at);
+    expect_file(rt, alloc, &file, stored.get(..count).unwrap_or(&[]));
 }
 
-/// An entry has the expected call and reply, and is of this seat.
-fn expect_entry(rt: &impl Abort, found: &Entry, seat: u16, expected: Option<&Entry>, at: usize) {
-    let Some(entry) = expected else {
-        panic!(rt; "an entry too many at {at}");
-    };
-    same(rt, &found.call, &entry.call, &at);
-    same(rt, &found.reply, &entry.reply, &at);
-    same(rt, &found.seat, &seat, &at);
-}
-
-/// What the device leaves that stopped, if a crash leaves these bytes of what was not synced.
-fn left(rt: &impl Abort, store: &Store, torn: &[u8]) -> Vec<u8> {
-    let device = store.device().expect(rt, "a device");
-    device.crashed(torn).expect(rt, "memory")
-}
-
-/// The bytes that were not synced.
-fn unsynced(store: &Store) -> &[u8] {
-    match store.device() {
-        Some(device) => device.unsynced(),
-        None => &[],
-    }
-}
-
-/// A crash leaves the entries that were stored, or these and the next, whose gate is what was torn.
-fn crash(rt: &impl Abort, alloc: Global, random: &mut Random, entries: &[Entry], calls: usize) {
-    let (mut store, found) = store_over(rt, alloc, &[], calls, &[]);
-    same(rt, &found.len(), &0, &"a new file");
-    let stored = store_all(&mut store, entries);
-    let since = calls.saturating_sub(OPENING);
-    let acknowledged = (since / ENTRY).min(entries.len());
-    same(rt, &stored, &acknowledged, &calls);
-    let opens = stored < entries.len() && since % ENTRY >= 2;
-    let text = unsynced(&store);
+/// Each place at which the bytes end that were not synced, or turn into others.
+fn crash_at_each_byte(
+    rt: &impl Abort,
+    alloc: Global,
+    random: &mut Random,
+    device: &Memory,
+    stored: &[Stored],
+    counts: (usize, usize),
+) {
+    let text = device.unsynced();
     for cut in 0..text.len() + 1 {
-        let torn = &text[..cut];
-        let whole = opens && torn.starts_with(&[1]);
-        let count = acknowledged.saturating_add(usize::from(whole));
-        expect_file(rt, alloc, &left(rt, &store, torn), entries, count);
-        if !opens {
-            let others = random.garbled(rt, alloc, text, cut);
-            expect_file(rt, alloc, &left(rt, &store, &others), entries, count);
-        }
+        expect_left(rt, alloc, device, &text[..cut], stored, counts);
+        let torn = random.garbled(rt, alloc, text, cut);
+        expect_left(rt, alloc, device, &torn, stored, counts);
     }
-    expect_file(rt, alloc, &left(rt, &store, &[0]), entries, acknowledged);
 }
 
-#[test]
-fn a_crash_leaves_the_journal_or_that_and_the_change(rt: HostRuntime) {
-    let alloc = rt.alloc();
-    for seed in 1..=10 {
-        let mut random = Random(seed);
-        let entries = history(&rt, alloc, &mut random, 3, 4);
-        for calls in OPENING..OPENING + 4 * ENTRY + 1 {
-            crash(&rt, alloc, &mut random, &entries, calls);
-        }
-    }
+/// The crashes of a run whose device stops after so many calls. Gives what one of them left.
+fn crash(
+    rt: &impl Abort,
+    alloc: Global,
+    random: &mut Random,
+    run: Run<'_>,
+    calls: usize,
+) -> Vec<u8> {
+    let (store, found, count) = stopped(rt, alloc, run, calls, &[]);
+    let batches = (calls / BATCH).saturating_mul(run.batch);
+    let before = found.saturating_add(batches);
+    same(rt, &count, &before, &calls);
+    let opened = if calls % BATCH < 2 { 0 } else { run.batch };
+    let counts = (before, before.saturating_add(opened));
+    let device = store.device().expect(rt, "a device");
+    crash_at_each_byte(rt, alloc, random, device, run.stored, counts);
+    let text = device.unsynced();
+    let cut = ((random.next() % 64) as usize).min(text.len());
+    let torn = random.garbled(rt, alloc, text, cut);
+    device.crashed(&torn).expect(rt, "memory")
 }
 
 /// A store whose device stopped goes on with the file that a crash of it left, as if nothing had been.
-fn go_on(rt: &impl Abort, alloc: Global, entries: &[Entry], calls: usize, torn: &[u8]) {
-    let (mut twin, _) = store_over(rt, alloc, &[], calls, &[]);
-    let failed = store_all(&mut twin, entries);
-    let file = left(rt, &twin, torn);
-    let (mut store, _) = store_over(rt, alloc, &[], calls, &file);
-    let stored = store_all(&mut store, entries);
-    same(rt, &stored, &failed, &calls);
-    let rest = entries.get(stored..).unwrap_or(&[]);
-    same(rt, &store_all(&mut store, rest), &rest.len(), &"the rest");
+fn go_on(rt: &impl Abort, alloc: Global, run: Run<'_>, calls: usize, left: &[u8]) {
+    let (mut store, _, count) = stopped(rt, alloc, run, calls, left);
+    let count = store_from(&mut store, run, count);
+    same(rt, &count, &run.entries.len(), &calls);
     let device = store.device().expect(rt, "a device");
-    expect_file(rt, alloc, device.bytes(), entries, entries.len());
+    expect_file(rt, alloc, device.bytes(), run.stored);
+}
+
+/// A run on devices that stop at one call after another. Gives what a crash of the last left.
+fn crash_at_each_call(
+    rt: &impl Abort,
+    alloc: Global,
+    random: &mut Random,
+    run: Run<'_>,
+) -> Vec<u8> {
+    let mut left = Vec::new(alloc);
+    for calls in 0..1 + random.next() % 13 {
+        left = crash(rt, alloc, random, run, calls as usize);
+        go_on(rt, alloc, run, calls as usize, &left);
+    }
+    left
+}
+
+/// Three runs, each over what a crash of the one before left. The first file has what a crash left of its first gate.
+fn three_runs(rt: &impl Abort, alloc: Global, random: &mut Random, entries: &[Entry]) {
+    let stored = stored_as(rt, alloc, entries);
+    let mut file = random.garbled(rt, alloc, &[0], 0);
+    for _ in 0..3 {
+        let run = Run {
+            file: &file,
+            opening: if file.len() < 2 { OPENING } else { 1 },
+            entries,
+            stored: &stored,
+            batch: 1 + (random.next() % 3) as usize,
+        };
+        file = crash_at_each_call(rt, alloc, random, run);
+    }
 }
 
 #[test]
-fn a_store_that_failed_goes_on(rt: HostRuntime) {
+fn a_crash_leaves_the_journal_or_that_and_the_batch(rt: HostRuntime) {
     let alloc = rt.alloc();
     for seed in 1..=10 {
-        let entries = history(&rt, alloc, &mut Random(seed), 3, 4);
-        for calls in OPENING..OPENING + 4 * ENTRY + 1 {
-            for torn in [b"".as_slice(), &[0], &[1], &[1, 1, 1, 1]] {
-                go_on(&rt, alloc, &entries, calls, torn);
-            }
-        }
+        let mut random = Random(seed);
+        let desk = history(&rt, alloc, &mut random, 30);
+        three_runs(&rt, alloc, &mut random, desk.journal());
     }
-}
-
-/// A file that another wrote is not the journal's.
-#[test]
-fn a_store_that_failed_refuses_another_file(rt: HostRuntime) {
-    let alloc = rt.alloc();
-    let entries = history(&rt, alloc, &mut Random(7), 3, 3);
-    let (mut store, _) = store_over(&rt, alloc, &[], OPENING + ENTRY, b"\x02 of another");
-    same(&rt, &store_all(&mut store, &entries), &1, &"stored");
-    same(&rt, &store_all(&mut store, &entries), &0, &"another file");
-    holds(&rt, store.device().is_none(), "no device");
-}
-
-fn shutdown() -> Entry {
-    Entry {
-        seat: 1,
-        call: Call::Shutdown,
-        reply: Reply::Done,
-    }
-}
-
-/// Several entries that are stored at once.
-#[test]
-fn a_batch_is_stored_whole(rt: HostRuntime) {
-    let alloc = rt.alloc();
-    let three = [shutdown(), shutdown(), shutdown()];
-    let (mut store, _) = store_over(&rt, alloc, &[], OPENING + ENTRY, &[]);
-    holds(&rt, store.store(&[]).is_ok(), "nothing");
-    holds(&rt, store.store(&three).is_ok(), "three");
-    holds(&rt, store.store(&three[..2]).is_err(), "two more");
-    let file = left(&rt, &store, &[]);
-    expect_file(&rt, alloc, &file, &three, 3);
 }

@@ -5,30 +5,28 @@
 #[cfg(test)]
 mod blocks;
 #[cfg(test)]
-mod bound;
-#[cfg(test)]
 mod crashes;
 #[cfg(test)]
 mod digests;
 #[cfg(test)]
+mod failing;
+#[cfg(test)]
+mod faults;
+#[cfg(test)]
 mod histories;
 #[cfg(test)]
-mod log_crashes;
-#[cfg(test)]
 mod log_files;
-#[cfg(test)]
-mod media;
-#[cfg(test)]
-mod prefaces;
 #[cfg(test)]
 mod printing;
 #[cfg(test)]
 mod records;
 #[cfg(test)]
-mod restarts;
-#[cfg(test)]
-mod retries;
-#[cfg(test)]
 mod rewritings;
 #[cfg(test)]
 mod same;
+#[cfg(test)]
+mod samples;
+#[cfg(test)]
+mod spare;
+#[cfg(test)]
+mod stores;

@@ -1,5 +1,7 @@
 mod damage;
+mod expected;
 mod files;
-mod lines;
 mod memory;
-mod samples;
+mod rows;
+
+pub(crate) use expected::expect_printed;

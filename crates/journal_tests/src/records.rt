@@ -1,239 +1,99 @@
+use crate::printing::expect_printed;
 use crate::same::same;
-use chronicle::Who;
-use desk_core::{Call, Entry, Finding, Reply, Setting, Slot};
+use crate::samples::file_of;
 use entry_record::{Stored, read_gives_back};
-use probe_core::{Rule, Start};
-use std::process::Abort;
 
-/// A call, its slot as a number.
-#[derive(Clone, Copy)]
-enum Asked {
-    Register(u8, Rule),
-    Retire(u8),
-    Observe(u8, Finding),
-    Set(u8, Setting),
-    Shutdown,
-    Resume,
-}
+/// The preface of a file with as many names as there are slots.
+static SIXTEEN: [&[u8]; 17] = [
+    b"healthd journal 1\0\0\0\0\0\0\0\0\0\0\0\0\x10",
+    b"db",
+    b"api",
+    b"",
+    b"a",
+    b"b",
+    b"c",
+    b"d",
+    b"e",
+    b"f",
+    b"g",
+    b"h",
+    b"i",
+    b"j",
+    b"k",
+    b"l",
+    b"m",
+];
 
-/// Who asked in which seat for what, at which time, what was answered, and the bytes of all that, written out by the format.
-struct Row {
-    micros: u64,
-    who: Who,
-    seat: u16,
-    reply: Reply,
-    asked: Asked,
-    bytes: &'static [u8],
-}
-
-static ROWS: [Row; 12] = [
-    // `register db threshold 2 1` of a setup, at the first slot.
-    Row {
-        micros: 0x0102_0304_0506_0708,
-        who: Who::Setup,
-        seat: 0,
-        reply: Reply::Done,
-        asked: Asked::Register(0, Rule::Threshold(2, 1, Start::Up)),
-        bytes: &[
+/// The bytes of an entry, written out by the format, and its line, as a session answers `entry 0`.
+static RECORDS: [(&[u8], &str); 12] = [
+    (
+        &[
             8, 7, 6, 5, 4, 3, 2, 1, 0, 0, 0, 0, 0, 0, 0, 2, 0, 0, 0, 1, 0, 0, 0, 0,
         ],
-    },
+        "0 4271-05-11T22:23:10.382856Z setup register db threshold 2 1: done\n",
+    ),
     // The longest one.
-    Row {
-        micros: 1,
-        who: Who::Session(0x0a0b_0c0d),
-        seat: 0x0102,
-        reply: Reply::Replaced,
-        asked: Asked::Register(15, Rule::Threshold(1_000, 999, Start::Unknown)),
-        bytes: &[
+    (
+        &[
             1, 0, 0, 0, 0, 0, 0, 0, 1, 13, 12, 11, 10, 2, 1, 1, 0, 15, 0, 232, 3, 0, 0, 231, 3, 0,
             0, 1,
         ],
-    },
+        "0 1970-01-01T00:00:00.000001Z session 168496141 register m threshold 1000 999 unknown: replaced\n",
+    ),
     // The greatest numbers.
-    Row {
-        micros: u64::MAX,
-        who: Who::Session(u32::MAX),
-        seat: u16::MAX,
-        reply: Reply::Done,
-        asked: Asked::Register(1, Rule::Threshold(u32::MAX, u32::MAX, Start::Up)),
-        bytes: &[
+    (
+        &[
             255, 255, 255, 255, 255, 255, 255, 255, 1, 255, 255, 255, 255, 255, 255, 0, 0, 1, 0,
             255, 255, 255, 255, 255, 255, 255, 255, 0,
         ],
-    },
-    Row {
-        micros: 256,
-        who: Who::Setup,
-        seat: 0,
-        reply: Reply::Done,
-        asked: Asked::Register(2, Rule::Manual),
-        bytes: &[0, 1, 0, 0, 0, 0, 0, 0, 0, 0, 0, 0, 0, 2, 1],
-    },
-    Row {
-        micros: 0,
-        who: Who::Setup,
-        seat: 0,
-        reply: Reply::Done,
-        asked: Asked::Register(3, Rule::Depends(0x8006)),
-        bytes: &[0, 0, 0, 0, 0, 0, 0, 0, 0, 0, 0, 0, 0, 3, 2, 6, 128],
-    },
-    Row {
-        micros: 0,
-        who: Who::Session(1),
-        seat: 0,
-        reply: Reply::Missing,
-        asked: Asked::Retire(5),
-        bytes: &[0, 0, 0, 0, 0, 0, 0, 0, 1, 1, 0, 0, 0, 0, 0, 2, 1, 5],
-    },
-    Row {
-        micros: 0,
-        who: Who::Session(1),
-        seat: 0,
-        reply: Reply::WrongKind,
-        asked: Asked::Observe(0, Finding::Pass),
-        bytes: &[0, 0, 0, 0, 0, 0, 0, 0, 1, 1, 0, 0, 0, 0, 0, 3, 2, 0],
-    },
-    Row {
-        micros: 0,
-        who: Who::Expiry,
-        seat: 7,
-        reply: Reply::Ignored,
-        asked: Asked::Observe(15, Finding::Fail),
-        bytes: &[0, 0, 0, 0, 0, 0, 0, 0, 2, 7, 0, 4, 3, 15],
-    },
-    Row {
-        micros: 0,
-        who: Who::Setup,
-        seat: 0,
-        reply: Reply::Done,
-        asked: Asked::Set(4, Setting::Up),
-        bytes: &[0, 0, 0, 0, 0, 0, 0, 0, 0, 0, 0, 0, 4, 4],
-    },
-    Row {
-        micros: 0,
-        who: Who::Setup,
-        seat: 0,
-        reply: Reply::Done,
-        asked: Asked::Set(4, Setting::Down),
-        bytes: &[0, 0, 0, 0, 0, 0, 0, 0, 0, 0, 0, 0, 5, 4],
-    },
-    Row {
-        micros: 0,
-        who: Who::Setup,
-        seat: 0,
-        reply: Reply::Done,
-        asked: Asked::Shutdown,
-        bytes: &[0, 0, 0, 0, 0, 0, 0, 0, 0, 0, 0, 0, 6],
-    },
-    Row {
-        micros: 0,
-        who: Who::Setup,
-        seat: 0,
-        reply: Reply::Done,
-        asked: Asked::Resume,
-        bytes: &[0, 0, 0, 0, 0, 0, 0, 0, 0, 0, 0, 0, 7],
-    },
-];
-
-fn slot(rt: &impl Abort, number: u8) -> Slot {
-    Slot::new(number).expect(rt, "a slot")
-}
-
-fn call(rt: &impl Abort, asked: Asked) -> Call {
-    match asked {
-        Asked::Register(number, rule) => Call::Register(slot(rt, number), rule),
-        Asked::Retire(number) => Call::Retire(slot(rt, number)),
-        Asked::Observe(number, finding) => Call::Observe(slot(rt, number), finding),
-        Asked::Set(number, setting) => Call::Set(slot(rt, number), setting),
-        Asked::Shutdown => Call::Shutdown,
-        Asked::Resume => Call::Resume,
-    }
-}
-
-fn stored(rt: &impl Abort, row: &Row) -> Stored {
-    let entry = Entry {
-        seat: row.seat,
-        call: call(rt, row.asked),
-        reply: row.reply,
-    };
-    Stored {
-        entry,
-        micros: row.micros,
-        who: row.who,
-    }
-}
-
-fn expect(rt: &impl Abort, found: &Option<Stored>, expected: &Option<Stored>, bytes: &[u8]) {
-    same(rt, found, expected, &bytes);
-}
-
-#[test]
-fn writes_and_reads_each_row(rt: HostRuntime) {
-    for row in &ROWS {
-        let stored = stored(&rt, row);
-        same(&rt, &stored.write().as_bytes(), &row.bytes, &"written");
-        let back = read_gives_back(&stored);
-        let expected = Some(stored);
-        expect(&rt, &Stored::read(row.bytes), &expected, row.bytes);
-        expect(&rt, &back, &expected, row.bytes);
-    }
-}
-
-fn refuses_fronts_of(rt: &impl Abort, bytes: &[u8]) {
-    for count in 0..bytes.len() {
-        let is_refused = Stored::read(&bytes[..count]).is_none();
-        assert!(rt; is_refused, "{count} of {bytes:?}");
-    }
-}
-
-#[test]
-fn refuses_too_few_bytes(rt: HostRuntime) {
-    for row in &ROWS {
-        refuses_fronts_of(&rt, row.bytes);
-    }
-}
-
-static REFUSED: [(&str, &[u8]); 11] = [
-    (
-        "a byte behind shutdown",
-        &[0, 0, 0, 0, 0, 0, 0, 0, 0, 0, 0, 0, 6, 0],
+        "0 9999-12-31T23:59:59.999999Z session 4294967295 register api threshold 4294967295 4294967295: done\n",
     ),
     (
-        "a byte behind a retired slot",
-        &[0, 0, 0, 0, 0, 0, 0, 0, 0, 0, 0, 0, 1, 5, 0],
+        &[0, 1, 0, 0, 0, 0, 0, 0, 0, 0, 0, 0, 0, 2, 1],
+        "0 1970-01-01T00:00:00.000256Z setup register - manual: done\n",
     ),
     (
-        "a byte behind a start",
-        &[
-            0, 0, 0, 0, 0, 0, 0, 0, 0, 0, 0, 0, 0, 0, 0, 2, 0, 0, 0, 1, 0, 0, 0, 0, 0,
-        ],
+        &[0, 0, 0, 0, 0, 0, 0, 0, 0, 0, 0, 0, 0, 3, 2, 6, 128],
+        "0 1970-01-01T00:00:00.000000Z setup register a depends api - m: done\n",
     ),
     (
-        "a byte behind a mask",
-        &[0, 0, 0, 0, 0, 0, 0, 0, 0, 0, 0, 0, 0, 3, 2, 6, 128, 0],
+        &[0, 0, 0, 0, 0, 0, 0, 0, 1, 1, 0, 0, 0, 0, 0, 2, 1, 5],
+        "0 1970-01-01T00:00:00.000000Z session 1 retire c: missing\n",
     ),
-    ("nobody", &[0, 0, 0, 0, 0, 0, 0, 0, 3, 0, 0, 0, 6]),
-    ("no reply", &[0, 0, 0, 0, 0, 0, 0, 0, 0, 0, 0, 5, 6]),
-    ("no call", &[0, 0, 0, 0, 0, 0, 0, 0, 0, 0, 0, 0, 8]),
     (
-        "no call, and a slot",
-        &[0, 0, 0, 0, 0, 0, 0, 0, 0, 0, 0, 0, 8, 0],
+        &[0, 0, 0, 0, 0, 0, 0, 0, 1, 1, 0, 0, 0, 0, 0, 3, 2, 0],
+        "0 1970-01-01T00:00:00.000000Z session 1 pass db: wrong kind\n",
     ),
-    ("no rule", &[0, 0, 0, 0, 0, 0, 0, 0, 0, 0, 0, 0, 0, 0, 3]),
     (
-        "no start",
-        &[
-            0, 0, 0, 0, 0, 0, 0, 0, 0, 0, 0, 0, 0, 0, 0, 2, 0, 0, 0, 1, 0, 0, 0, 2,
-        ],
+        &[0, 0, 0, 0, 0, 0, 0, 0, 2, 7, 0, 4, 3, 15],
+        "0 1970-01-01T00:00:00.000000Z expiry fail m: ignored\n",
     ),
-    ("a slot of 16", &[0, 0, 0, 0, 0, 0, 0, 0, 0, 0, 0, 0, 1, 16]),
+    (
+        &[0, 0, 0, 0, 0, 0, 0, 0, 0, 0, 0, 0, 4, 4],
+        "0 1970-01-01T00:00:00.000000Z setup up b: done\n",
+    ),
+    (
+        &[0, 0, 0, 0, 0, 0, 0, 0, 0, 0, 0, 0, 5, 4],
+        "0 1970-01-01T00:00:00.000000Z setup down b: done\n",
+    ),
+    (
+        &[0, 0, 0, 0, 0, 0, 0, 0, 0, 0, 0, 0, 6],
+        "0 1970-01-01T00:00:00.000000Z setup shutdown: done\n",
+    ),
+    (
+        &[0, 0, 0, 0, 0, 0, 0, 0, 0, 0, 0, 0, 7],
+        "0 1970-01-01T00:00:00.000000Z setup resume: done\n",
+    ),
 ];
 
 #[test]
-fn refuses_what_no_entry_has(rt: HostRuntime) {
-    for (case, bytes) in &REFUSED {
-        let is_refused = Stored::read(bytes).is_none();
-        assert!(rt; is_refused, "{case}");
+fn reads_writes_and_prints_each_record(rt: HostRuntime) {
+    let alloc = rt.alloc();
+    for &(record, line) in &RECORDS {
+        let file = file_of(&rt, alloc, &SIXTEEN, &[record], &[0]);
+        expect_printed(&rt, alloc, &file, false, Ok(line));
+        let stored = Stored::read(record).expect(&rt, "an entry");
+        same(&rt, &stored.write().as_bytes(), &record, &line);
+        same(&rt, &read_gives_back(&stored), &Some(stored), &line);
     }
 }

@@ -1,28 +1,14 @@
-//! Tests of `live_server`. They see public calls alone.
+//! Tests of `live_server`, `reactor`, `server` and `live_run`. They see public calls alone.
 #![tactic(auto)]
 
 #[cfg(test)]
-mod calls;
-#[cfg(test)]
-mod clocks;
-#[cfg(test)]
-mod descriptors;
-#[cfg(test)]
-mod ends;
-#[cfg(test)]
-mod entrances;
-#[cfg(test)]
-mod full;
+mod host;
 #[cfg(test)]
 mod live_runs;
 #[cfg(test)]
-mod looks;
+mod loops;
 #[cfg(test)]
 mod machines;
-#[cfg(test)]
-mod order;
-#[cfg(test)]
-mod places;
 #[cfg(test)]
 mod queues;
 #[cfg(test)]
@@ -32,8 +18,6 @@ mod same;
 #[cfg(test)]
 mod scenes;
 #[cfg(test)]
-mod stop;
+mod stage;
 #[cfg(test)]
-mod waking;
-#[cfg(test)]
-mod watches;
+mod steps;

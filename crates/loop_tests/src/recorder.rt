@@ -1,12 +1,12 @@
 //! What a loop asks its door.
 
-use crate::scenes::{OneLoop, Scene};
+use crate::host::{At, Manner, round_at};
 use desk_core::{Behind, Watch};
 use health_wire::Serving;
+use live_server::{EventServer, News};
 use plain::Inquiry;
 use std::alloc::{AllocError, Global};
 use std::process::Abort;
-use std::time::Clock;
 use web_call::Door;
 
 /// The most that a recorder takes down.
@@ -82,26 +82,19 @@ impl<D: Door> Door for Recorder<'_, D> {
 }
 
 /// What a loop asks its door first in a round, and how often it asks it.
-fn round_of<R: Clock + Abort, D: Door>(
-    rt: &R,
-    place: &mut OneLoop,
+pub(crate) fn asked_in_round<D: Door>(
+    rt: &impl Abort,
+    server: &mut EventServer,
+    clock: &At,
+    manner: Option<Manner>,
     door: &mut D,
+    news: &News,
 ) -> ([u8; MOST], usize) {
     let mut recorder = Recorder {
         door,
         asked: [b'.'; MOST],
         count: 0,
     };
-    let round = place.server.round(rt, &mut recorder, &place.news);
-    round.expect(rt, "a round");
+    round_at(server, clock, manner, &mut recorder, news).expect(rt, "a round");
     (recorder.asked, recorder.count)
-}
-
-/// The same over the registry.
-pub(crate) fn asked_in_round<R: Clock + Abort>(
-    rt: &R,
-    place: &mut OneLoop,
-    scene: &Scene,
-) -> ([u8; MOST], usize) {
-    round_of(rt, place, &mut scene.door())
 }

@@ -1,100 +1,67 @@
-use super::requests::CHECK_OF_EMPTY;
 use super::responses::{SERVING, WATCH_OF_UNKNOWN};
 use super::*;
-use client::{Lent, ask_through};
 use std::io::ErrorKind;
 use test_support::{Fault, FaultyReader, FaultyWriter};
 
+const BROKEN: Fault = Fault::Error(ErrorKind::BrokenPipe);
+
 /// What a faulty call does: it moves no byte, or returns an error, which ends the call at once, of whatever kind.
-static FAULTS: [Fault; 3] = [
-    Fault::Nothing,
-    Fault::Error(ErrorKind::ConnectionReset),
-    Fault::Error(ErrorKind::Interrupted),
-];
+static FAULTS: [Fault; 3] = [BROKEN, Fault::Error(ErrorKind::Interrupted), Fault::Nothing];
 
-/// Asks over a reader whose read of this number is faulty, and tells the fault of the call, how often it was called, and whether it
-/// failed, as it told the call. No writer fails.
-fn ask_faulty(
-    alloc: Global,
-    input: &[u8],
-    method: Method,
-    faulty: usize,
-    fault: Fault,
-) -> (Option<AskFault>, usize, bool) {
-    let mut reader = FaultyReader::new(input, faulty, fault);
-    let mut written = Vec::new(alloc);
-    let result = ask(alloc, &mut reader, &mut written, method, "", 2);
-    let calls = reader.calls();
-    let mut again = FaultyReader::new(input, faulty, fault);
-    let mut lent = Lent::new(&mut again);
-    let through = ask_through(
-        alloc,
-        &mut lent,
-        &mut Lent::new(&mut written),
-        method,
-        "",
-        2,
-    );
-    let is_same = result.as_ref().err() == through.as_ref().err();
-    (result.err(), calls, lent.failed() && is_same)
-}
+/// A response, and with how many calls it is read whole: one for each byte of a head, and of a chunk's line, and one for each flag, length,
+/// content and end of a chunk.
+type Row = (&'static [u8], Method, usize);
 
-/// Responses that are read whole, each with so many calls: one for each byte of a head, and of a chunk's line, and one for each
-/// flag, length, content and end of a chunk.
-static READS: [(&[u8], Method, usize); 2] = [
+static READS: [Row; 2] = [
     (SERVING, Method::Check, 106),
     (WATCH_OF_UNKNOWN, Method::Watch, 122),
 ];
 
+/// How many bytes a request has. A flush is one call more.
+const REQUEST_LEN: usize = 144;
+
+/// Asks over a reader, and a writer of one byte a call, whose read and whose call of this number is faulty: the end, how often was read, and
+/// how many writes and flushes there were.
+fn expect(
+    rt: &impl Abort,
+    alloc: Global,
+    row: &Row,
+    fault: Fault,
+    calls: (usize, usize),
+    expected: (Option<AskFault>, usize, usize),
+) {
+    let (input, method, _) = *row;
+    let (read, write) = calls;
+    let mut reader = FaultyReader::new(input, read, fault);
+    let mut writer = FaultyWriter::new(alloc, 1, write, fault);
+    let result = ask(alloc, &mut reader, &mut writer, method, "", 2);
+    let found = (result.err(), reader.calls(), writer.calls());
+    same(rt, &found, &expected, &(method, fault, read, write));
+}
+
+/// Each call of one response, with this fault. A flush that is told to take nothing succeeds.
+fn expect_each(rt: &impl Abort, alloc: Global, row: &Row, fault: Fault) {
+    let calls = REQUEST_LEN.saturating_add(1);
+    for read in 1..=row.2 {
+        let expected = (Some(AskFault::Read), read, calls);
+        expect(rt, alloc, row, fault, (read, 0), expected);
+    }
+    for write in 1..=REQUEST_LEN {
+        let expected = (Some(AskFault::Write), 0, write);
+        expect(rt, alloc, row, fault, (0, write), expected);
+    }
+    expect(rt, alloc, row, fault, (0, 0), (None, row.2, calls));
+}
+
+/// Each write of the request is one of its bytes, and the flush stands behind them.
 #[test]
-fn ends_at_each_faulty_read(rt: HostRuntime) {
-    for &(input, method, calls) in &READS {
-        let whole = ask_faulty(rt.alloc(), input, method, 0, Fault::Nothing);
-        same(&rt, &whole, &(None, calls, false), &method);
+fn ends_at_each_faulty_call_and_flushes_once_behind_the_request(rt: HostRuntime) {
+    for row in &READS {
         for &fault in &FAULTS {
-            for faulty in 1..=calls {
-                let found = ask_faulty(rt.alloc(), input, method, faulty, fault);
-                same(
-                    &rt,
-                    &found,
-                    &(Some(AskFault::Read), faulty, true),
-                    &(faulty, fault),
-                );
-            }
+            expect_each(&rt, rt.alloc(), row, fault);
         }
+        let flush = REQUEST_LEN.saturating_add(1);
+        let expected = (Some(AskFault::Write), 0, flush);
+        expect(&rt, rt.alloc(), row, BROKEN, (0, flush), expected);
     }
-}
-
-/// Asks with a writer of one byte a call, whose call behind so many bytes is faulty. Nothing may be read.
-fn expect_front(rt: &impl Abort, alloc: Global, taken: usize, fault: Fault) {
-    let faulty = taken.saturating_add(1);
-    let mut writer = FaultyWriter::new(alloc, 1, faulty, fault);
-    let mut rest = SERVING;
-    let result = ask(alloc, &mut rest, &mut writer, Method::Check, "", 1);
-    let found = (result.err(), writer.written(), writer.calls(), rest.len());
-    let front = CHECK_OF_EMPTY.get(..taken).unwrap_or(b"");
-    let expected = (Some(AskFault::Write), front, faulty, 127);
-    same(rt, &found, &expected, &(taken, fault));
-}
-
-#[test]
-fn a_writer_that_fails_has_a_front_of_the_request(rt: HostRuntime) {
-    for &fault in &FAULTS {
-        for taken in 0..CHECK_OF_EMPTY.len() {
-            expect_front(&rt, rt.alloc(), taken, fault);
-        }
-    }
-    // the flush behind the last byte
-    let broken = Fault::Error(ErrorKind::BrokenPipe);
-    expect_front(&rt, rt.alloc(), CHECK_OF_EMPTY.len(), broken);
-}
-
-#[test]
-fn flushes_once_behind_the_request(rt: HostRuntime) {
-    let mut writer = FaultyWriter::new(rt.alloc(), 1, 0, Fault::Nothing);
-    let mut rest = SERVING;
-    let result = ask(rt.alloc(), &mut rest, &mut writer, Method::Check, "", 1);
-    let found = (writer.written(), writer.flushes());
-    let end = [CHECK_OF_EMPTY.len()];
-    same(&rt, &found, &(CHECK_OF_EMPTY, end.as_slice()), &result);
 }

@@ -1,8 +1,6 @@
 //! Responses, each as health-checking.md and PROTOCOL-WEB.md of grpc and RFC 9112 have it.
 
-use std::alloc::Global;
-use std::process::Abort;
-use web_call::HEAD_END;
+use super::Seen;
 
 /// A Check of a service that is serving: a head of 100 bytes and a body of 27.
 pub(super) const SERVING: &[u8] = b"HTTP/1.1 200 OK\r\n\
@@ -42,31 +40,5 @@ pub(super) const WATCH_OF_UNKNOWN: &[u8] = b"HTTP/1.1 200 OK\r\n\
 /// The head of a response in chunks.
 pub(super) const CHUNKED: &[u8] = b"HTTP/1.1 200 OK\r\ntransfer-encoding: chunked\r\n\r\n";
 
-/// The bytes, and then so many times one byte that there are `size` in all.
-pub(super) fn padded(
-    rt: &impl Abort,
-    alloc: Global,
-    front: &[u8],
-    size: usize,
-    byte: u8,
-) -> Vec<u8> {
-    let mut bytes = Vec::from_slice(alloc, front).expect(rt, "memory");
-    bytes.resize(size, byte).expect(rt, "memory");
-    bytes
-}
-
-/// The parts, one behind the other.
-pub(super) fn bytes_of(rt: &impl Abort, alloc: Global, parts: &[&[u8]]) -> Vec<u8> {
-    let mut bytes = Vec::new(alloc);
-    for part in parts {
-        bytes.extend_from_slice(*part).expect(rt, "memory");
-    }
-    bytes
-}
-
-/// A response with this body, whose length its head tells.
-pub(super) fn of_length(rt: &impl Abort, alloc: Global, body: &[u8]) -> Vec<u8> {
-    let len = body.len().to_string(alloc).expect(rt, "memory");
-    let line = b"HTTP/1.1 200 OK\r\ncontent-length: ";
-    bytes_of(rt, alloc, &[line, len.as_bytes(), HEAD_END, body])
-}
+/// What the first of these responses tells.
+pub(super) const TOLD: Seen<'static> = Ok((&[1], Some((0, b""))));

@@ -1,5 +1,6 @@
 //! A registry for tests, and what a server has counted.
 
+use crate::parts::catalogue_of;
 use desk_core::{Catalogue, Desk, Setting, Slot};
 use plain::{Figures, answer, inquiry_of};
 use probe_core::Manual;
@@ -9,10 +10,10 @@ use std::process::Abort;
 /// The names of the catalogue, of which the last is never registered.
 static NAMES: [&str; 5] = ["", "a/b", "50% \"größe\"", "line\nfeed\\", "gone"];
 
-/// Those that are set down.
-static DOWN: [u8; 2] = [1, 3];
+/// Those that are registered, and whether they are set down.
+static SLOTS: [(u8, bool); 4] = [(0, false), (1, true), (2, false), (3, true)];
 
-pub(crate) const FIGURES: Figures = Figures {
+static FIGURES: Figures = Figures {
     most: 10,
     connections: 3,
     watches: 1,
@@ -30,54 +31,28 @@ pub(crate) struct Staged {
     board: u64,
 }
 
-fn catalogue(rt: &impl Abort, alloc: Global) -> Catalogue {
-    let mut names = Vec::new(alloc);
-    for name in &NAMES {
-        names
-            .push(String::from_str(alloc, name).expect(rt, "memory"))
-            .expect(rt, "memory");
-    }
-    Catalogue::new(alloc, names).expect(rt, "memory")
-}
-
-fn register(desk: &mut Desk<Manual>, number: u8) {
-    if let Some(slot) = Slot::new(number) {
-        drop(desk.register(0, slot, Manual::new()));
-    }
-}
-
-fn set_down(desk: &mut Desk<Manual>, number: u8) {
-    if let Some(slot) = Slot::new(number) {
-        let _ = desk.set(0, slot, Setting::Down);
-    }
-}
-
 impl Staged {
     pub(crate) fn new(rt: &impl Abort, alloc: Global) -> Staged {
-        let mut desk = Desk::new(alloc, 1_000);
-        for number in 0..4 {
-            register(&mut desk, number);
-        }
-        for number in &DOWN {
-            set_down(&mut desk, *number);
+        let mut desk: Desk<Manual> = Desk::new(alloc, 1_000);
+        for &(number, is_down) in &SLOTS {
+            if let Some(slot) = Slot::new(number) {
+                drop(desk.register(0, slot, Manual::new()));
+                if is_down {
+                    let _ = desk.set(0, slot, Setting::Down);
+                }
+            }
         }
         Staged {
-            catalogue: catalogue(rt, alloc),
+            catalogue: catalogue_of(rt, alloc, &NAMES),
             board: desk.board(),
         }
     }
 
     /// What a request of this head is answered; nothing where it is left to calls.
-    pub(crate) fn answer(&self, alloc: Global, head: &[u8]) -> Result<Option<Vec<u8>>, AllocError> {
+    pub(crate) fn answer(&self, alloc: Global, head: &[u8]) -> Result<Vec<u8>, AllocError> {
         match inquiry_of(head) {
-            Some(inquiry) => Ok(Some(answer(
-                alloc,
-                &inquiry,
-                &self.catalogue,
-                self.board,
-                &FIGURES,
-            )?)),
-            None => Ok(None),
+            Some(inquiry) => answer(alloc, &inquiry, &self.catalogue, self.board, &FIGURES),
+            None => Ok(Vec::new(alloc)),
         }
     }
 }

@@ -1,95 +1,99 @@
-use crate::same::same;
+use crate::same::{holds, same};
 use observation::{Kind, Target, TargetFault};
 
+/// Targets as they are written, their parts, and what is sent to them.
+static READ: [(&str, (&str, Kind, &str, u16), &[u8]); 11] = [
+    (
+        "db=tcp://localhost:5432",
+        ("db", Kind::Tcp, "localhost", 5432),
+        b"",
+    ),
+    ("-=tcp://10.0.0.1:1", ("-", Kind::Tcp, "10.0.0.1", 1), b""),
+    (
+        "a.b=tcp://[::1]:65535",
+        ("a.b", Kind::Tcp, "::1", 65535),
+        b"",
+    ),
+    ("db=tcp://h:1", ("db", Kind::Tcp, "h", 1), b""),
+    (
+        "a=http://h",
+        ("a", Kind::Http, "h", 80),
+        b"GET / HTTP/1.1\r\nhost: h\r\nuser-agent: healthd\r\nconnection: close\r\n\r\n",
+    ),
+    (
+        "web=http://web-1.example",
+        ("web", Kind::Http, "web-1.example", 80),
+        b"GET / HTTP/1.1\r\nhost: web-1.example\r\nuser-agent: healthd\r\nconnection: close\r\n\r\n",
+    ),
+    (
+        "web=http://[::1]/a?b=c",
+        ("web", Kind::Http, "::1", 80),
+        b"GET /a?b=c HTTP/1.1\r\nhost: [::1]\r\nuser-agent: healthd\r\nconnection: close\r\n\r\n",
+    ),
+    (
+        "web=http://w:8080/a//b",
+        ("web", Kind::Http, "w", 8080),
+        b"GET /a//b HTTP/1.1\r\nhost: w:8080\r\nuser-agent: healthd\r\nconnection: close\r\n\r\n",
+    ),
+    (
+        "a=http://h:8/b?c",
+        ("a", Kind::Http, "h", 8),
+        b"GET /b?c HTTP/1.1\r\nhost: h:8\r\nuser-agent: healthd\r\nconnection: close\r\n\r\n",
+    ),
+    (
+        "far=grpc-web://h:50052/api",
+        ("far", Kind::GrpcWeb, "h", 50052),
+        b"POST /grpc.health.v1.Health/Check HTTP/1.1\r\nhost: localhost\r\n\
+        content-type: application/grpc-web+proto\r\nx-grpc-web: 1\r\n\
+        content-length: 10\r\n\r\n\0\0\0\0\x05\x0a\x03api",
+    ),
+    (
+        "a=grpc-web://h:8/ab",
+        ("a", Kind::GrpcWeb, "h", 8),
+        b"POST /grpc.health.v1.Health/Check HTTP/1.1\r\nhost: localhost\r\n\
+        content-type: application/grpc-web+proto\r\nx-grpc-web: 1\r\n\
+        content-length: 9\r\n\r\n\0\0\0\0\x04\x0a\x02ab",
+    ),
+];
+
 #[test]
-fn reads_targets(rt: HostRuntime) {
-    static ROWS: [(&str, &str, Kind, &str, u16); 7] = [
-        (
-            "db=tcp://localhost:5432",
-            "db",
-            Kind::Tcp,
-            "localhost",
-            5432,
-        ),
-        ("-=tcp://10.0.0.1:1", "-", Kind::Tcp, "10.0.0.1", 1),
-        ("a.b=tcp://[::1]:65535", "a.b", Kind::Tcp, "::1", 65535),
-        (
-            "web=http://web-1.example",
-            "web",
-            Kind::Http,
-            "web-1.example",
-            80,
-        ),
-        ("web=http://[::1]/a?b=c", "web", Kind::Http, "::1", 80),
-        ("web=http://w:8080/a//b", "web", Kind::Http, "w", 8080),
-        (
-            "far=grpc-web://h:50052/api",
-            "far",
-            Kind::GrpcWeb,
-            "h",
-            50052,
-        ),
-    ];
-    for &(text, name, kind, host, port) in &ROWS {
+fn reads_targets_and_writes_requests(rt: HostRuntime) {
+    for &(text, parts, request) in &READ {
         let target = Target::read(rt.alloc(), text).expect(&rt, text);
-        same(&rt, &target.name(), &name, &text);
-        same(&rt, &target.kind(), &kind, &text);
-        same(&rt, &target.host(), &host, &text);
-        same(&rt, &target.port(), &port, &text);
+        let sent = target.request(rt.alloc()).expect(&rt, "a request");
+        let (name, kind, host, port) = parts;
+        holds(&rt, target.kind() == kind, text);
+        let found = (target.name(), target.host(), target.port(), sent.as_slice());
+        same(&rt, &found, &(name, host, port, request), &text);
     }
 }
+
+static MISTAKES: [(&str, TargetFault); 19] = [
+    ("", TargetFault::NoUrl),
+    ("tcp://localhost:1", TargetFault::NoUrl),
+    ("=tcp://localhost:1", TargetFault::NoName),
+    ("a b=tcp://localhost:1", TargetFault::BadName),
+    ("db=localhost:5432", TargetFault::BadScheme),
+    ("db=https://localhost", TargetFault::BadScheme),
+    ("db=tcp:/localhost:1", TargetFault::BadScheme),
+    ("db=TCP://localhost:1", TargetFault::BadScheme),
+    ("web=http://h/a b", TargetFault::BadByte),
+    ("web=http://h/a#b", TargetFault::BadByte),
+    ("db=tcp://h:1/", TargetFault::PathOnTcp),
+    ("db=tcp://h", TargetFault::NoPort),
+    ("db=tcp://h:", TargetFault::NoPort),
+    ("far=grpc-web://h/api", TargetFault::NoPort),
+    ("db=tcp://h:0", TargetFault::BadPort),
+    ("db=tcp://h:65536", TargetFault::BadPort),
+    ("db=tcp://:1", TargetFault::NoHost),
+    ("db=tcp://u@h:1", TargetFault::BadHost),
+    ("db=tcp://::1:1", TargetFault::BadHost),
+];
 
 #[test]
 fn refuses_mistakes(rt: HostRuntime) {
-    static ROWS: [(&str, TargetFault); 19] = [
-        ("", TargetFault::NoUrl),
-        ("tcp://localhost:1", TargetFault::NoUrl),
-        ("=tcp://localhost:1", TargetFault::NoName),
-        ("a b=tcp://localhost:1", TargetFault::BadName),
-        ("db=localhost:5432", TargetFault::BadScheme),
-        ("db=https://localhost", TargetFault::BadScheme),
-        ("db=tcp:/localhost:1", TargetFault::BadScheme),
-        ("db=TCP://localhost:1", TargetFault::BadScheme),
-        ("web=http://h/a b", TargetFault::BadByte),
-        ("web=http://h/a#b", TargetFault::BadByte),
-        ("db=tcp://h:1/", TargetFault::PathOnTcp),
-        ("db=tcp://h", TargetFault::NoPort),
-        ("db=tcp://h:", TargetFault::NoPort),
-        ("far=grpc-web://h/api", TargetFault::NoPort),
-        ("db=tcp://h:0", TargetFault::BadPort),
-        ("db=tcp://h:65536", TargetFault::BadPort),
-        ("db=tcp://:1", TargetFault::NoHost),
-        ("db=tcp://u@h:1", TargetFault::BadHost),
-        ("db=tcp://::1:1", TargetFault::BadHost),
-    ];
-    for &(text, fault) in &ROWS {
+    for &(text, fault) in &MISTAKES {
         let found = Target::read(rt.alloc(), text).err();
         same(&rt, &found, &Some(fault), &text);
-    }
-}
-
-#[test]
-fn writes_requests(rt: HostRuntime) {
-    static ROWS: [(&str, &str); 4] = [
-        ("db=tcp://h:1", ""),
-        (
-            "a=http://h",
-            "GET / HTTP/1.1\r\nhost: h\r\nuser-agent: healthd\r\nconnection: close\r\n\r\n",
-        ),
-        (
-            "a=http://h:8/b?c",
-            "GET /b?c HTTP/1.1\r\nhost: h:8\r\nuser-agent: healthd\r\nconnection: close\r\n\r\n",
-        ),
-        (
-            "a=grpc-web://h:8/ab",
-            "POST /grpc.health.v1.Health/Check HTTP/1.1\r\nhost: localhost\r\n\
-            content-type: application/grpc-web+proto\r\nx-grpc-web: 1\r\n\
-            content-length: 9\r\n\r\n\0\0\0\0\x04\x0a\x02ab",
-        ),
-    ];
-    for &(text, request) in &ROWS {
-        let target = Target::read(rt.alloc(), text).expect(&rt, text);
-        let found = target.request(rt.alloc()).expect(&rt, "a request");
-        same(&rt, &found.as_slice(), &request.as_bytes(), &text);
     }
 }

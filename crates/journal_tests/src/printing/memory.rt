@@ -1,55 +1,36 @@
 //! Printing where memory is scarce, and to an output that fails.
 
-use super::samples::{TWO_LINES, file_of, two_entries};
-use crate::same::same;
+use super::expected::{FILE, THREE_LINES};
+use crate::same::{holds, same};
 use journal_lines::{PrintingFault, print_entries};
 use std::alloc::{AllocError, Global};
 use std::io::ErrorKind;
-use std::process::Abort;
 use test_support::{Fault, FaultyWriter, Scarcity};
 
-/// More steps of memory than printing two entries needs.
+/// More steps of memory than printing three entries needs.
 const STEPS: usize = 1_000;
 
-fn file(rt: &impl Abort, alloc: Global) -> Vec<u8> {
-    file_of(rt, alloc, &two_entries(rt, alloc))
-}
-
-/// What comes of printing with so many steps of memory.
-fn printed_within(
-    alloc: Global,
-    scarcity: &Scarcity,
-    steps: usize,
-    file: &[u8],
-    is_json: bool,
-) -> Result<Result<(), PrintingFault>, AllocError> {
-    let _filler = scarcity.leave_steps(steps)?;
-    let mut output = Vec::new(alloc);
-    Ok(print_entries(alloc, file, is_json, &mut output))
-}
-
-/// With how many steps of memory printing was refused, and what came of it with one more.
-fn refusals(
-    alloc: Global,
-    file: &[u8],
-    is_json: bool,
-) -> Result<(usize, Result<(), PrintingFault>), AllocError> {
+/// With how many steps of memory printing was refused before it was done.
+fn refusals(alloc: Global, is_json: bool) -> Result<usize, AllocError> {
     let scarcity = Scarcity::with_small_room(alloc)?;
     for steps in 0..STEPS {
-        match printed_within(alloc, &scarcity, steps, file, is_json)? {
+        let _filler = scarcity.leave_steps(steps)?;
+        let mut output = Vec::new(alloc);
+        match print_entries(alloc, FILE, is_json, &mut output) {
             Err(PrintingFault::Memory) => {}
-            told => return Ok((steps, told)),
+            Ok(()) => return Ok(steps),
+            Err(_) => return Ok(0),
         }
     }
-    Ok((STEPS, Err(PrintingFault::Memory)))
+    Ok(STEPS)
 }
+
+static FORMS: [bool; 2] = [false, true];
 
 #[test]
 fn refuses_each_growth(rt: HostRuntime) {
-    let file = file(&rt, rt.alloc());
-    for is_json in [false, true] {
-        let (refused, told) = refusals(rt.alloc(), &file, is_json).expect(&rt, "memory");
-        assert!(rt; told.is_ok(), "{told:?} at {refused}");
+    for &is_json in &FORMS {
+        let refused = refusals(rt.alloc(), is_json).expect(&rt, "memory");
         assert!(rt; 10 < refused && refused < STEPS, "{refused}");
     }
 }
@@ -58,15 +39,12 @@ fn refuses_each_growth(rt: HostRuntime) {
 #[test]
 fn an_output_that_fails_is_told(rt: HostRuntime) {
     let alloc = rt.alloc();
-    let file = file(&rt, alloc);
     let fault = Fault::Error(ErrorKind::BrokenPipe);
-    for faulty in 1..10 {
-        let mut writer = FaultyWriter::new(alloc, 7, faulty, fault);
-        let told = print_entries(alloc, &file, false, &mut writer);
-        let is_told = matches!(told, Err(PrintingFault::Write(_)));
-        assert!(rt; is_told, "call {faulty}");
-        let written = writer.written();
-        assert!(rt; TWO_LINES.as_bytes().starts_with(written), "call {faulty}");
-        same(&rt, &written.len(), &((faulty - 1) * 7), &faulty);
+    for taken in 0..9 {
+        let mut writer = FaultyWriter::new(alloc, 7, taken + 1, fault);
+        let told = print_entries(alloc, FILE, false, &mut writer);
+        holds(&rt, matches!(told, Err(PrintingFault::Write(_))), "told");
+        let front = THREE_LINES.as_bytes().get(..taken * 7);
+        same(&rt, &Some(writer.written()), &front, &taken);
     }
 }

@@ -1,9 +1,10 @@
-use crate::live_runs::ready::{Loops, Ready, set_up};
+use crate::live_runs::ready::{LIMITS, Ready, set_up};
 use crate::live_runs::scarce::scarce;
-use crate::same::same;
+use crate::loops::Loops;
+use crate::same::{holds, same};
 use live_run::LoopsFault;
 use std::alloc::Global;
-use std::net::{Net, TcpListener, TcpStream};
+use std::net::{Net, TcpStream};
 use std::process::Abort;
 use std::sync::Wait;
 use std::thread;
@@ -37,9 +38,9 @@ fn run_leaving<R: Abort + Wait + Threads + Clock + Sync>(ready: Ready<'_, R>, le
 /// Runs a hall that is to end at once with so much memory left, and tells whether there was enough.
 fn runs_in<R>(rt: &R, alloc: Global, left: usize) -> bool
 where
-    R: Abort + Wait + Threads + Clock + Sync + Net<Listener = TcpListener, Stream = TcpStream>,
+    R: Abort + Wait + Threads + Clock + Sync + Net<Stream = TcpStream>,
 {
-    let Loops { servers, news, .. } = Loops::new(rt, alloc);
+    let Loops { servers, news, .. } = Loops::new(rt, alloc, LIMITS);
     news.end();
     let ready = Ready {
         rt,
@@ -51,25 +52,27 @@ where
     run_leaving(ready, left)
 }
 
-/// How many runs had enough memory, and how many had not.
-fn run_by_steps<R>(rt: &R, alloc: Global) -> (u32, u32)
+/// How many runs had enough memory.
+fn run_by_steps<R>(rt: &R, alloc: Global) -> usize
 where
-    R: Abort + Wait + Threads + Clock + Sync + Net<Listener = TcpListener, Stream = TcpStream>,
+    R: Abort + Wait + Threads + Clock + Sync + Net<Stream = TcpStream>,
 {
-    let mut found = (0u32, 0u32);
+    let mut enough = 0usize;
     for steps in 0..ROOM / STEP {
         if runs_in(rt, alloc, steps * STEP) {
-            found.0 = found.0.wrapping_add(1);
-        } else {
-            found.1 = found.1.wrapping_add(1);
+            enough = enough.saturating_add(1);
         }
     }
-    found
+    enough
 }
 
 #[test]
 fn tells_that_memory_was_refused(rt: HostRuntime) {
     // The stack of the first thread grows as it is used, and cannot once all memory is taken. That of another is whole from its start.
-    let (found, ()) = thread::join(&rt, || run_by_steps(&rt, rt.alloc()), || ());
-    assert!(rt; found.0 > 0 && found.1 > 0, "{found:?}");
+    let (enough, ()) = thread::join(&rt, || run_by_steps(&rt, rt.alloc()), || ());
+    holds(
+        &rt,
+        enough > 0 && enough < ROOM / STEP,
+        "enough memory, and too little",
+    );
 }

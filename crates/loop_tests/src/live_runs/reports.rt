@@ -34,7 +34,7 @@ call 4 fault read
 call 5 fault write
 call 6 fault memory
 call 7 unopened
-journal 2
+journal 1
 ";
 
 #[test]
@@ -42,7 +42,6 @@ fn tells_how_each_call_ended(rt: HostRuntime) {
     let alloc = rt.alloc();
     let mut desk: Desk<Manual> = Desk::new(alloc, 3);
     desk.shutdown(0).expect(&rt, "a shutdown");
-    desk.resume(0).expect(&rt, "a resumption");
     let served = Served {
         calls: Vec::from_slice(alloc, ENDS.as_slice()).expect(&rt, "memory"),
         orders: Vec::new(alloc),

@@ -1,3 +1,5 @@
+use crate::same::same;
+use desk_core::{Refusal, Reply};
 use std::alloc::Global;
 use std::process::Abort;
 use test_support::Scarcity;
@@ -15,4 +17,16 @@ pub(super) fn scarce(
     let scarcity = Scarcity::new(alloc, room).expect(rt, "a room");
     let filler = scarcity.leave(left).expect(rt, "a filler");
     (scarcity, filler)
+}
+
+/// How many of the changes got a reply. The others were refused out of memory.
+pub(super) fn replies_of(rt: &impl Abort, results: &[Result<Reply, Refusal>]) -> usize {
+    let mut replies = 0usize;
+    for result in results {
+        match result {
+            Ok(_) => replies = replies.saturating_add(1),
+            Err(refusal) => same(rt, refusal, &Refusal::NoMemory, &replies),
+        }
+    }
+    replies
 }

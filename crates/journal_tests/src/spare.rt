@@ -1,0 +1,104 @@
+//! A journal's file in memory.
+
+ghost use Rattle.std.specs.Prelude.{◌≡◌, ◌++◌, ◌∷◌, [], ℕ, List, IfOk};
+ghost use Rattle.record_log.specs.Log.{IsReady, blocks};
+ghost use Rattle.record_log.specs.MemoryView.{memory_bytes, memory_may_leave};
+
+use journal_store::Medium;
+use record_log::{DeviceError, Memory, RecordLog};
+use std::alloc::Global;
+use std::process::Abort;
+
+/// Whether a file is put in the place of another, or that fails, with the old file there or the new one.
+#[derive(Clone, Copy)]
+pub(crate) enum Replacing {
+    Works,
+    LeavesOld,
+    LeavesNew,
+}
+
+/// A file, which each device that is opened anew has.
+#[derive(Drop)]
+pub(crate) struct Spare {
+    alloc: Global,
+    file: Vec<u8>,
+    pub(crate) replacing: Replacing,
+    // How many more do not work: the last of these takes no entry, and those before it are not opened.
+    pub(crate) failing: usize,
+}
+
+/// How many calls of a device opening an empty file takes.
+pub(crate) const OPENING: usize = 3;
+
+impl Spare {
+    ghost use Rattle.std.specs.Prelude.{IsErr};
+
+    pub(crate) fn of(rt: &impl Abort, alloc: Global, file: &[u8]) -> Spare {
+        Spare {
+            alloc,
+            file: file.to_vec(alloc).expect(rt, "memory"),
+            replacing: Replacing::Works,
+            failing: 0,
+        }
+    }
+
+    /// A file could not be put in its place, and this one is there.
+    fn failed(&mut self, left: &[u8]) -> Result<RecordLog<Memory>, DeviceError>
+        ensures { IsErr result }
+    {
+        self.file = left.to_vec(self.alloc)?;
+        Err(DeviceError::Failed)
+    }
+}
+
+impl Medium for Spare {
+    ghost use Rattle.std.specs.Prelude.{◌≡◌, ◌++◌, ◌∷◌, [], ℕ, List, IfOk};
+    ghost use Rattle.record_log.specs.Log.{IsReady, blocks};
+    ghost use Rattle.record_log.specs.MemoryView.{memory_bytes, memory_may_leave};
+
+    type Device = Memory;
+
+    fn hold(&mut self, _device: Memory) {}
+
+    fn reopen(&mut self) -> Result<Memory, DeviceError> {
+        self.replacing = Replacing::Works;
+        let mut device = Memory::new(self.alloc, self.file.as_slice().to_vec(self.alloc)?)?;
+        let failing = self.failing;
+        self.failing = failing.saturating_sub(1);
+        if failing > 1 {
+            return Err(DeviceError::Failed);
+        }
+        if failing == 1 {
+            device.stop_after(OPENING);
+        }
+        Ok(device)
+    }
+
+    fn replace(
+        &mut self,
+        old: RecordLog<Memory>,
+        file: &[u8],
+    ) -> Result<RecordLog<Memory>, DeviceError>
+        requires whole { (records : List (List ℕ)) × (file.now ≡ blocks records ++ 0 ∷ []) }
+        ensures ready { (records : List (List ℕ)) → file.now ≡ blocks records ++ 0 ∷ []
+            → IfOk result (λ log. IsReady memory_bytes memory_may_leave log records) }
+    {
+        match self.replacing {
+            Replacing::Works => log_over(self.alloc, file),
+            Replacing::LeavesOld => self.failed(old.device.bytes()),
+            Replacing::LeavesNew => self.failed(file),
+        }
+    }
+}
+
+/// A log of a file in memory.
+fn log_over(alloc: Global, file: &[u8]) -> Result<RecordLog<Memory>, DeviceError>
+    ensures { (records : List (List ℕ)) → file.now ≡ blocks records ++ 0 ∷ []
+        → IfOk result (λ log. IsReady memory_bytes memory_may_leave log records) }
+{
+    let mut log = RecordLog::new(Memory::new(alloc, file.to_vec(alloc)?)?);
+    match log.open(alloc) {
+        Ok(_) => Ok(log),
+        Err(_) => Err(DeviceError::Failed),
+    }
+}
