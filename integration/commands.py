@@ -206,6 +206,14 @@ TOO_LARGE = b"\x80\0\0\0\x2fgrpc-status:8\r\ngrpc-message:request too large\r\n"
 TWO_SERVICES = b"\0\0\0\0\x08\x0a\1a\x48\5\x0a\1b"
 LONGEST = b"\0\0\0\x1f\xfb".ljust(8_192, b"\x80")
 LISTED = ["a=not_serving", "=serving", "b=serving", "c=unknown"]
+TWO_NAMES = TWO_SERVICES[5:]
+FRONTS = [SERVING, MALFORMED, MALFORMED, NOT_SERVING, MALFORMED, NOT_SERVING, MALFORMED, MALFORMED, SERVING]
+
+
+def framed(message):
+    return b"\0" + len(message).to_bytes(4, "big") + message
+
+
 BODIES = [
     (b"\0\0\0\0\0", SERVING), (b"\0\0\0\0\3\x0a\1a", NOT_SERVING), (b"\0\0\0\0\4\x0a\2zz", UNKNOWN_SERVICE),
     (b"\0\0\0\0\3\x0a\1c", UNKNOWN), (TWO_SERVICES, SERVING),
@@ -219,6 +227,21 @@ BODIES = [
     (b"\x80\0\0\0\0", MALFORMED), (b"\2\0\0\0\0", MALFORMED), (b"\0\0\0\0\0\0", MALFORMED),
     *((TWO_SERVICES[:length], MALFORMED) for length in range(len(TWO_SERVICES))),
     (LONGEST, MALFORMED), (LONGEST + b"\0", TOO_LARGE),
+    # a frame that says more than there is, and flags that no request has
+    (b"\0\3\0\0\0\x0a\1a", MALFORMED), (b"\x7f\0\0\0\0", MALFORMED),
+    (b"\xff", MALFORMED), (b"\0\0\0\0\0" + OK, MALFORMED), (b"\0\0\0\0\0\0\0\0\0\0\1", MALFORMED),
+    (b"\0\0\0\0\3\x0a\1a\1\0\0\0\0", COMPRESSED),
+    # each front of a message with a name, a field that is not known, and another name, and each of these fields alone
+    *((framed(TWO_NAMES[:length]), answer) for length, answer in enumerate(FRONTS)), (framed(b"\x08\1"), SERVING),
+    # the empty name of a later field, and a name that is no text before one that is
+    (framed(b"\x0a\1a\x0a\0"), SERVING), (framed(b"\x0a\1\xff\x0a\1a"), NOT_SERVING), (framed(b"\x0a\1\xff\x0a"), MALFORMED),
+    # eight bytes and four, and these cut
+    (framed(b"\x0a\1a\x09\1\2\3\4\5\6\7\x08\x0d\1\2\3\4"), NOT_SERVING), (framed(b"\x09\1\2\3\4\5\6\7"), MALFORMED),
+    (framed(b"\x0d\1\2\3"), MALFORMED),
+    # the least and the greatest number of a field, and one more or less, wire types that there are not, and varints of ten bytes and of more
+    (framed(b"\0"), MALFORMED), (framed(b"\xf8\xff\xff\xff\x0f\0"), SERVING), (framed(b"\x80\x80\x80\x80\x10\0"), MALFORMED),
+    *((framed(bytes([8 + wire_type])), MALFORMED) for wire_type in (3, 4, 6, 7)), (framed(b"\x80\x80"), MALFORMED),
+    (framed(b"\x08" + b"\xff" * 9 + b"\x7f"), SERVING), (framed(b"\x80" * 10), MALFORMED), (framed(b"\x0a" + b"\x80" * 10), MALFORMED),
 ]
 for body, answer in BODIES:
     says(["body", body.hex(), *LISTED], (0, answer.hex() + "\n", ""))
@@ -449,12 +472,24 @@ ASKS = [
     ([], b"nothing of HTTP\r\n\r\n", (1, "", "healthd: bad response\n")),
     (["--timeout", "60"], b"nothing of HTTP\r\n\r\n", (1, "", "healthd: bad response\n")),
 ]
+# Trailers, by the first line of each name, in any case and without the spaces and tabs at the ends of its value.
+TRAILERS = [
+    (b"grpc-message:a\r\ngrpc-message:b\r\ngrpc-status:2", "grpc-status 2 a\n"), (b"grpc-status:5\r\ngrpc-status:0\r\ngrpc-message:a\r\n", "grpc-status 5 a\n"),
+    (b"GRPC-Message: x\r\na:b\r\ngrpc-status:\t7", "grpc-status 7 x\n"), (b"grpc-status :3\r\ngrpc-status:2\r\ngrpc-message:a", "grpc-status 2 a\n"),
+    (b"grpc-message:\t a b: c \t\r\nGrpc-Status: \t14 \r\n", "grpc-status 14 a b: c\n"), (b"grpc-message:a\r\ngrpc-status:000000007", "grpc-status 7 a\n"),
+    (b"grpc-message:a\r\ngrpc-status:999999999", "grpc-status 999999999 a\n"), (b"grpc-status: 0\r\n", "grpc-status 0\n"), *((block, None) for block in (
+        b"", b"\r\n", b"grpc-status:0\r\nab", b"grpc-status:0\r\n\r\n", b"grpc-message:x", b"grpc-status:x", b"grpc-status:", b"grpc-status:+1",
+        b"grpc-status:1234567890", b"grpc-status:1\r", b"grpc-status:x\r\ngrpc-status:0\r\n")),
+]
+for block, printed in TRAILERS:
+    body = b"\x80" + len(block).to_bytes(4, "big") + block
+    ASKS.append(([], HEAD % len(body) + body, (0, printed, "") if printed else (1, "", "healthd: bad response\n")))
 for options, answer, expected in ASKS:
     scripted = Scripted(socket.create_server(("127.0.0.1", 0)), answering(answer))
     found = ran("ask", "--port", str(scripted.listener.getsockname()[1]), *options)
     said = scripted.end()
     asked = request_for(options[1] if options[:1] == ["--name"] else "")
-    holds(f"ask {' '.join(options)} is answered {answer[:24]!r}.. of {len(answer)} bytes", found == expected, f"{found}, and not {expected}")
+    holds(f"ask {' '.join(options)} is answered {answer[:24]!r}..{answer[-16:]!r} of {len(answer)} bytes", found == expected, f"{found}, and not {expected}")
     holds(f"and it asked for what ask {' '.join(options)} says", said.startswith(b"POST /grpc.health.v1.Health/Check ")
           and said.endswith(b"\r\n\r\n" + asked), str(said))
 scripted = Scripted(socket.create_server(("127.0.0.1", 0)), answering(ANSWERED))

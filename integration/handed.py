@@ -1,11 +1,12 @@
 """A supervisor's socket: the server is stopped and started on it under load, and no client is lost."""
 import os
+import re
 import socket
 import tempfile
 import threading
 import time
 
-from servers import OK, REQUEST, Server, head, holds, read_all
+from servers import OK, REQUEST, Server, head, holds, measured, read_all, timed
 
 CALLS = 10_000
 CLIENTS = 8
@@ -63,6 +64,86 @@ with socket.create_server(("127.0.0.1", 0)) as second:
     both = Server(socket_of=(listener, second))
     holds("of two sockets the first is listened at", both.port == port, str(both.lines))
     both.stop()
+
+
+def flags_of(server, each):
+    """How the server has this socket open."""
+    of_each = f"socket:[{os.fstat(each.fileno()).st_ino}]"
+    names = [name for name in os.listdir(f"/proc/{server.process.pid}/fd") if os.readlink(f"/proc/{server.process.pid}/fd/{name}") == of_each]
+    found = set()
+    for name in names:
+        with open(f"/proc/{server.process.pid}/fdinfo/{name}") as file:
+            found.add(int(re.search(r"flags:\t(\d+)", file.read())[1], 8))
+    return found
+
+
+def exporting(lines):
+    """Has a shell say this to the program that it becomes."""
+    return ("/bin/bash", "-c", f'{lines}; exec "$@"', "sh")
+
+
+# What is handed over, and what the environment has to say for it.
+with socket.create_server(("127.0.0.1", 0)) as fresh:
+    # Standard error is closed too, since the log would have the other number.
+    one = Server(socket_of=fresh, before=exporting("exec 4<&- 2>&-; export LISTEN_FDS=2"))
+    holds("of two numbers of which one is open, that is taken", (one.port, len(one.lines)) == (fresh.getsockname()[1], 2), str(one.lines))
+    flags = {flag & (os.O_NONBLOCK | os.O_CLOEXEC) for flag in flags_of(one, fresh) if flag & os.O_CLOEXEC}
+    holds("the socket does not wait, and is closed at exec", flags == {os.O_NONBLOCK | os.O_CLOEXEC}, str(flags_of(one, fresh)))
+    one.stop()
+    for lines in ("LISTEN_FDS=0", "LISTEN_FDS=", "LISTEN_FDS=01", "LISTEN_FDS=+1", "LISTEN_FDS=-1", "LISTEN_FDS=' 1'", "LISTEN_FDS='1 '", "LISTEN_FDS=1x",
+                  "LISTEN_FDS=1025", "LISTEN_FDS=4294967297", "LISTEN_PID=", "LISTEN_PID=1", "LISTEN_PID=0$$", "LISTEN_PID=$(($$ + 4294967296))",
+                  "LISTEN_PID=' '$$"):
+        own = Server(socket_of=fresh, before=exporting(f"export {lines}"))
+        holds(f"nothing is handed over by {lines}", own.port != fresh.getsockname()[1], str(own.lines))
+        own.stop()
+    for lines in ("LISTEN_FDS", "LISTEN_PID"):
+        own = Server(socket_of=fresh, before=exporting(f"unset {lines}"))
+        holds(f"nor without {lines}", own.port != fresh.getsockname()[1], str(own.lines))
+        own.stop()
+    streaming, other_end = socket.create_connection(fresh.getsockname()), fresh.accept()[0]
+with streaming, other_end, socket.socket(socket.AF_UNIX) as unix:
+    unix.bind(f"{folder}/listening")
+    unix.listen()
+    for name, each in (("a connection", streaming), ("a Unix socket that listens", unix)):
+        wrong = Server(socket_of=(each,), starts=False)
+        holds(f"{name} is refused", (wrong.process.returncode, wrong.said())
+              == (1, "healthd: LISTEN_FDS: descriptor 3 is no listening TCP socket\n"), wrong.said())
+os.remove(f"{folder}/listening")
+
+
+def has_room(name):
+    """Whether the socket of this name takes a datagram at once."""
+    with socket.socket(socket.AF_UNIX, socket.SOCK_DGRAM) as sender:
+        sender.setblocking(False)
+        try:
+            sender.sendto(b"x", name)
+        except BlockingIOError:
+            return False
+    return True
+
+
+# Whom the server tells, and that it waits for nobody who is told.
+ABSTRACT = f"healthd-{os.getpid()}"
+with socket.socket(socket.AF_UNIX, socket.SOCK_DGRAM) as named:
+    named.bind(f"\0{ABSTRACT}")
+    named.settimeout(10)
+    telling = Server(env={"NOTIFY_SOCKET": f"@{ABSTRACT}"})
+    holds("READY=1 arrives at a name of the abstract namespace", named.recv(100) == b"READY=1")
+    telling.stop()
+    holds("and STOPPING=1", named.recv(100) == b"STOPPING=1")
+with socket.socket(socket.AF_UNIX, socket.SOCK_DGRAM) as full:
+    full.bind(f"\0{ABSTRACT}-full")
+    holds("a supervisor that reads nothing has no room in the end", not all(has_room(f"\0{ABSTRACT}-full") for _ in range(100_000)))
+    telling = Server(env={"NOTIFY_SOCKET": f"@{ABSTRACT}-full"})
+    answer, seconds = timed(telling.check)
+    holds("a Check is answered beside a supervisor that has no room", answer.endswith(OK), str(answer))
+    measured("a Check beside a supervisor that has no room", seconds, 1)
+    _, seconds = timed(telling.stop)
+    measured("`stop` beside a supervisor that has no room", seconds, 3)
+for name in ("", "@", "/", "notify", "vsock:2:1234", "/" + "x" * 107, "/" + "x" * 300):
+    telling = Server(env={"NOTIFY_SOCKET": name})
+    holds(f"a run goes on where NOTIFY_SOCKET is {name[:20]!r} of {len(name)} bytes", telling.check().endswith(OK))
+    telling.stop()
 with open("/dev/null") as null:
     wrong = Server(socket_of=(null,), starts=False)
     holds("what is no listening socket is refused", (wrong.process.returncode, wrong.said())

@@ -112,6 +112,8 @@ for line in ("WARN  db: not heard from for 1 s, 1 fail made, entry 7", "WARN  al
     holds(f"its log has {line}", lines(full).count(line) == 1, str(lines(full)))
 line = "WARN  a change of expiry was refused: full"
 holds("a fail that is refused again and again is told once", lines(full).count(line) == 1, str(lines(full)))
+row = json.loads(shown(full, "status", "--json"))[0]
+holds("a fail that the server makes is no report", (row["since"]["entry"], row["reported"]["entry"], row["status"]) == (0, 4, "serving"), str(row))
 full.stop()
 
 # Where there is a report place alone.

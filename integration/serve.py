@@ -1,11 +1,13 @@
 """`healthd serve`: so many calls by so many workers, beside the orders of its script."""
 import socket
 import subprocess
+import time
 
-from servers import HEALTHD, HERE, Watcher, holds, rest_of
+from servers import HEALTHD, HERE, OK, SERVING, Watcher, head, holds, measured, read_all, request_for, rest_of
 
 REFUSED_TYPE = (b"POST /grpc.health.v1.Health/Check HTTP/1.1\r\ncontent-type: application/grpc-web-text\r\n"
                 b"content-length: 5\r\n\r\n")
+REFUSAL = b"HTTP/1.1 415 Unsupported Media Type\r\nconnection: close\r\ncontent-length: 0\r\n\r\n"
 
 
 class Serving:
@@ -62,6 +64,55 @@ holds("a Check beside a client that is silent", found == ["SERVING", "grpc-statu
 silent.close()
 status, lines, _ = two.ended()
 holds("how both ended", (status, ends(lines), lines[-1]) == (0, ["fault read", "status 0"], "journal 1"), str(lines))
+
+# What a connection carries. The name is as long as one may be, so that each of its bytes counts, and stands behind a head that is as long
+# as one may be.
+NAME = "".join(chr(ord("a") + number % 26) for number in range(128))
+body = b"\0\0\0\0\x83\x0a\x80\1" + NAME.encode()
+begin, end = head("Check", body).split(b"\r\n", 1)
+long = begin + b"\r\nx: " + b"y" * (8_192 - len(begin + end) - len("\r\nx: \r\n")) + b"\r\n" + end
+carried = Serving(f"catalogue a {NAME} -\nmax 10\nregister {NAME} manual\nregister a manual\n", 1, 5)
+with carried.connect() as client:
+    client.setsockopt(socket.IPPROTO_TCP, socket.TCP_NODELAY, 1)
+    text = long + body
+    for place in range(0, len(text), 7):
+        client.sendall(text[place:place + 7])
+        time.sleep(0.0002)
+    found = read_all(client)
+holds("a request of 8,328 bytes that comes in parts of seven", (len(long), len(text)) == (8_192, 8_328) and found.endswith(SERVING + OK), str(found))
+
+# A client whose body is not read gets its whole answer, and may still send for a tenth of a second, without a reset.
+with carried.connect() as client:
+    client.sendall(REFUSED_TYPE.replace(b": 5", b": 40960") + b"b" * 40_960)
+    found = read_all(client)
+    client.sendall(b"late")
+holds("the answer to a request whose body is not read", found == REFUSAL, str(found))
+with carried.connect() as client:
+    client.sendall(REFUSED_TYPE)
+    found = read_all(client)
+    client.sendall(b"late")
+    time.sleep(0.3)
+    error = client.getsockopt(socket.SOL_SOCKET, socket.SO_ERROR)
+holds("what comes behind an answer is read, and its connection is not reset", (found, error) == (REFUSAL, 0), f"{found} {error}")
+
+# One that stays once it was answered keeps its only worker for no longer. It sees the end of its answer before that.
+staying = carried.connect()
+staying.sendall(head("Check", request_for("a")) + request_for("a"))
+answer = b""
+while not answer.endswith(OK):
+    answer += staying.recv(4096)
+begins = time.monotonic()
+rest = read_all(staying)
+measured("the end of an answer behind its last byte", time.monotonic() - begins, 0.05)
+with carried.connect() as client:
+    client.sendall(head("Check", request_for("a")) + request_for("a"))
+    found = read_all(client)
+measured("a Check behind a client that stays", time.monotonic() - begins, 0.6)
+staying.close()
+holds("both have the same answer", (answer, rest) == (found, b"") and found.endswith(SERVING + OK), f"{answer} {rest} {found}")
+found = carried.ended()
+holds("how the five ended", found == (0, ["call 0 status 0", "call 1 http 415", "call 2 http 415", "call 3 status 0", "call 4 status 0",
+                                          "journal 2"], ""), str(found))
 
 # A Watch that opens before the orders is left by its client after three statuses. One that opens between them or after them ends.
 TOLD = [["SERVING", "NOT_SERVING", "SERVING"], ["NOT_SERVING", "SERVING", "grpc-status 14 watch ended"],

@@ -1,4 +1,5 @@
 """Services that are expected to be heard, over real time."""
+import json
 import os
 import signal
 import socket
@@ -9,6 +10,7 @@ import time
 from servers import HEALTHD, NOT_SERVING, SERVING, Server, ask_line, holds, measured, timed
 
 SCRIPT = "catalogue a db -\nregister a threshold 3\nregister db manual\nregister - depends a\n"
+REPORT = f"/tmp/healthd-silence-{os.getpid()}"
 LATE = 0.2  # a tenth of a second, and one for the scheduling of this machine
 
 
@@ -35,6 +37,12 @@ class Watch:
         return time.monotonic() - begins
 
 
+def expected(server):
+    """How often `a` is expected to be heard, as `status` tells it."""
+    ran = subprocess.run([HEALTHD, "status", "--control", server.control, "--json"], capture_output=True, text=True, timeout=30)
+    return json.loads(ran.stdout)[0]["expected_seconds"]
+
+
 def expires(name, watch, least, most):
     seconds = watch.told(NOT_SERVING, most + 2)
     holds(f"{name} is not early", seconds is None or seconds >= least, f"{seconds} s")
@@ -43,16 +51,30 @@ def expires(name, watch, least, most):
 
 
 # What a line is answered, and what a script may say.
-server = Server("--report", "/tmp/healthd-silence-report", script=SCRIPT)
+server = Server("--report", REPORT, script=SCRIPT)
 session = server.session()
 ANSWERS = [("expect a 60", "done"), ("expect a 0", "done"), ("expect db 5", "wrong kind"), ("expect - 5", "wrong kind"),
            ("expect nobody 5", "refused not listed"), ("expect a 86400", "done"), ("expect a 86401", "bad line"),
-           ("expect a", "bad line"), ("expect a 0", "done")]
+           ("expect a", "bad line"), ("expect a 0", "done"), ("expect a 05", "done"), ("expect a 0000086400", "done"),
+           ("expect a 00000000005", "bad line"), ("expect a 4294967295", "bad line"), ("expect a 4294967296", "bad line"),
+           ("expect a -1", "bad line"), ("expect a +1", "bad line"), ("expect a 1.5", "bad line"), ("expect a five", "bad line"),
+           ("expect a -", "bad line"), ("expect", "bad line"), ("expect a 5 6", "bad line"), ("expect  a 5", "bad line"),
+           ("expect a 5 ", "bad line"), (" expect a 5", "bad line"), ("Expect a 5", "bad line"), ("expect -- 7", "refused not listed"),
+           ("expect 5 5", "refused not listed"), ("expect expect 5", "refused not listed"), ("expect ü 60", "refused not listed"),
+           ("expect a 0", "done")]
 for line, answer in ANSWERS:
     said = ask_line(session, line)
     holds(f"`{line}` is answered", said == answer, said)
 holds("it is no entry", server.stats()["entries"] == 3)
-holds("who reports may not expect", server.tell("expect", "a", "5", place="/tmp/healthd-silence-report") == ("not allowed", 3))
+holds("it is told that nothing is expected", expected(server) is None)
+ask_line(session, "expect a 70")
+ask_line(session, "expect a 60")
+holds("it is told what is expected last", expected(server) == 60, str(expected(server)))
+time.sleep(0.3)
+holds("and some rounds later", expected(server) == 60, str(expected(server)))
+ask_line(session, "expect a 0")
+holds("and that it is no more", expected(server) is None, str(expected(server)))
+holds("who reports may not expect", server.tell("expect", "a", "5", place=REPORT) == ("not allowed", 3))
 
 # An expectation, and the watcher that is told.
 watch = Watch(server)
@@ -87,6 +109,29 @@ time.sleep(1.2)
 holds("an expectation that was ended", ask_line(session, "check a") == "serving")
 ask_line(session, "expect a 1")
 expires("an expectation that was set again", watch, 0.95, 1 + LATE)
+
+# Two in one piece, a shutdown, and a retirement.
+ask_line(session, "pass a")
+holds("a pass brings it back again", watch.told(SERVING, 2) is not None)
+session.sendall(b"expect a 60\nexpect a 1\n")
+with session.makefile("rb") as answers:
+    holds("both are answered", answers.read(10) == b"done\ndone\n")
+expires("the later of two expectations", watch, 0.95, 1 + LATE)
+ask_line(session, "pass a")
+holds("a pass brings it back behind that", watch.told(SERVING, 2) is not None)
+ask_line(session, "shutdown")
+holds("the server is shut down", watch.told(NOT_SERVING, 2) is not None)
+before = server.stats()
+time.sleep(1.3)
+holds("nothing expires while it is", server.stats()["entries"] == before["entries"], str(server.stats()))
+ask_line(session, "resume")
+holds("a resume brings it back", watch.told(SERVING, 2) is not None)
+expires("a service behind a resume", watch, 0.95, 1 + LATE)
+ask_line(session, "retire a")
+ask_line(session, "register a threshold 3")
+holds("a retirement brings it back, registered anew", watch.told(SERVING, 2) is not None)
+time.sleep(1.3)
+holds("and has ended its expectation", (ask_line(session, "check a"), expected(server)) == ("serving", None), str(expected(server)))
 said, seconds = timed(server.stop)
 holds("the end", said == 0)
 measured("`stop` beside a Watch", seconds, 1)
@@ -123,6 +168,22 @@ pouring.join()
 holds("none is early beside a session that pours", seconds > 0.9, f"{seconds} s, {early}")
 measured("fifteen services expire beside a session that pours", seconds, 1 + 2 * LATE)
 holds("each is counted once", server.stats()["expired"] == 15, str(server.stats()))
+server.stop()
+
+# It waits between its rounds.
+server = Server("--quiet", script=SCRIPT + "expect a 3600\n")
+holds("a script's expectation is told", expected(server) == 3_600, str(expected(server)))
+
+
+def ticks():
+    with open(f"/proc/{server.process.pid}/stat") as file:
+        return sum(int(it) for it in file.read().rpartition(")")[2].split()[11:13])
+
+
+before = ticks()
+time.sleep(2)
+taken = ticks() - before
+holds("a server that waits for a report takes next to no time of the processor", taken < 0.1 * os.sysconf("SC_CLK_TCK"), f"{taken} ticks in 2 s")
 server.stop()
 
 # What a script expects.

@@ -1,6 +1,6 @@
 use crate::rows::Answer;
-use desk_core::{Call, Desk, Finding, Keep, Setting, Slot};
-use probe_core::{Manual, Rule};
+use desk_core::{Desk, Finding, Keep, Setting, Slot};
+use probe_core::Manual;
 
 /// One of the six changes, of one slot.
 #[derive(Clone, Copy, Debug, PartialEq, Eq)]
@@ -28,23 +28,5 @@ pub(crate) fn ask<K: Keep>(desk: &mut Desk<Manual, K>, slot: Slot, asked: Asked)
         Asked::Set => desk.set(0, slot, Setting::Down),
         Asked::Shutdown => desk.shutdown(0),
         Asked::Resume => desk.resume(0),
-    }
-}
-
-/// Makes the change by `change`.
-pub(crate) fn change<K: Keep>(desk: &mut Desk<Manual, K>, slot: Slot, asked: Asked) -> Answer {
-    let changed = match asked {
-        Asked::Register => {
-            desk.change(0, Call::Register(slot, Rule::Manual), Some(Manual::new()))
-        }
-        Asked::Retire => desk.change(0, Call::Retire(slot), None),
-        Asked::Observe => desk.change(0, Call::Observe(slot, Finding::Pass), None),
-        Asked::Set => desk.change(0, Call::Set(slot, Setting::Down), None),
-        Asked::Shutdown => desk.change(0, Call::Shutdown, None),
-        Asked::Resume => desk.change(0, Call::Resume, None),
-    };
-    match changed {
-        Ok(made) => Ok(made.reply),
-        Err((refusal, _)) => Err(refusal),
     }
 }

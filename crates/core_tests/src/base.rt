@@ -1,13 +1,7 @@
-//! Tests of small crates at the bottom: `test_support`, `open_files`, `log_lines`, `overdue` and `connection_table`. They see public
-//! calls alone.
+//! Tests of `log_lines` and `connection_table`, and of the comparisons that all tests rest on, by public calls alone.
 
-mod allowances;
-mod bounds;
 mod connections;
-mod limits;
 mod lines;
-mod minutes;
 mod support;
-mod timers;
 mod waiting;
 mod writers;

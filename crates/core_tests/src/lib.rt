@@ -1,14 +1,10 @@
-//! Tests of `tail`, `probe_core` and `desk_core`, by public calls alone.
+//! Tests of the crates without threads at the bottom, by public calls alone.
 #![tactic(auto)]
 
 #[cfg(test)]
 mod asked;
 #[cfg(test)]
 mod base;
-#[cfg(test)]
-mod book;
-#[cfg(test)]
-mod catalogues;
 #[cfg(test)]
 mod chronicles;
 #[cfg(test)]
@@ -18,19 +14,9 @@ mod given_back;
 #[cfg(test)]
 mod handed;
 #[cfg(test)]
-mod histories;
-#[cfg(test)]
-mod keeping;
-#[cfg(test)]
-mod look_back;
-#[cfg(test)]
-mod makers;
-#[cfg(test)]
 mod memory;
 #[cfg(test)]
-mod numbers;
-#[cfg(test)]
-mod reasons;
+mod refusal_numbers;
 #[cfg(test)]
 mod rows;
 #[cfg(test)]
@@ -38,14 +24,6 @@ mod same;
 #[cfg(test)]
 mod script_texts;
 #[cfg(test)]
-mod scripts;
-#[cfg(test)]
-mod sixteen;
-#[cfg(test)]
-mod stored;
-#[cfg(test)]
 mod tails;
-#[cfg(test)]
-mod thresholds;
 #[cfg(test)]
 mod wire;

@@ -46,16 +46,6 @@ fn expect_sixteen_of_forty<R: Abort>(rt: &R, tail: &Tail<u64>) {
 }
 
 #[test]
-fn keeps_the_last_sixteen_or_all(rt: HostRuntime) {
-    let mut some = Tail::new(rt.alloc(), Some(16));
-    put(&mut some, 40).expect(&rt, "memory");
-    expect_sixteen_of_forty(&rt, &some);
-    let mut all = Tail::new(rt.alloc(), None);
-    put(&mut all, 40).expect(&rt, "memory");
-    same(&rt, &(all.forgotten(), all.kept().len()), &(0, 40), &"all");
-}
-
-#[test]
 fn a_tail_at_its_limit_takes_no_memory(rt: HostRuntime) {
     let alloc: Global = rt.alloc();
     let mut full = Tail::new(alloc, Some(16));

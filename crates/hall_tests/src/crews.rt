@@ -1,7 +1,5 @@
 mod ends;
 mod flips;
-mod gates;
-mod gathers;
 mod letters;
 mod memory;
 mod orders;

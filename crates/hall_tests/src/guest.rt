@@ -3,8 +3,7 @@
 ghost use Rattle.std.specs.Prelude.{◌≡◌};
 ghost use Rattle.hall.specs.Seats.{IsOf};
 
-use crate::drops::Counters;
-use desk_core::{Catalogue, Keep, Watch};
+use desk_core::{Catalogue, Keep};
 use hall::{Hall, Seat};
 use probe_core::{Manual, Probe};
 use std::alloc::Global;
@@ -18,17 +17,13 @@ pub(crate) struct Guest<P: Probe, K: Keep> {
     pub(crate) probes: Vec<P>,
     /// The probe that came back last.
     pub(crate) held: Option<P>,
-    pub(crate) watch: Option<Watch>,
-    /// What counts the drops of the probes, if something does.
-    pub(crate) counters: Option<Counters>,
 }
 
-/// The probes of two seats, the next ones last, and what counts the drops of those of the first.
+/// The probes of two seats, the next ones last.
 #[derive(Drop)]
 pub(crate) struct Probes<P: Probe> {
     pub(crate) first: Vec<P>,
     pub(crate) second: Vec<P>,
-    pub(crate) counters: Option<Counters>,
 }
 
 pub(crate) fn catalogue(rt: &impl Abort, alloc: Global, names: &[&str]) -> Catalogue {
@@ -40,19 +35,13 @@ pub(crate) fn catalogue(rt: &impl Abort, alloc: Global, names: &[&str]) -> Catal
     Catalogue::new(alloc, listed).expect(rt, "a catalogue")
 }
 
-fn guest_of<P: Probe, K: Keep>(
-    seat: Seat<P, K>,
-    probes: Vec<P>,
-    counters: Option<Counters>,
-) -> Guest<P, K>
+fn guest_of<P: Probe, K: Keep>(seat: Seat<P, K>, probes: Vec<P>) -> Guest<P, K>
     ensures { result.seat ≡ seat }
 {
     Guest {
         seat,
         probes,
         held: None,
-        watch: None,
-        counters,
     }
 }
 
@@ -69,8 +58,8 @@ pub(crate) fn two_seats<R: Abort, P: Probe, K: Keep>(
 {
     let names = catalogue(rt, alloc, names);
     let (hall, mut seats) = Hall::new(alloc, names, max_entries, 2).expect(rt, "a hall");
-    let second = guest_of(seats.pop().unwrap(), probes.second, None);
-    let first = guest_of(seats.pop().unwrap(), probes.first, probes.counters);
+    let second = guest_of(seats.pop().unwrap(), probes.second);
+    let first = guest_of(seats.pop().unwrap(), probes.first);
     (hall, first, second)
 }
 
@@ -82,9 +71,5 @@ pub(crate) fn manuals(rt: &impl Abort, alloc: Global) -> Probes<Manual> {
         first.push(Manual::new()).expect(rt, "memory");
         second.push(Manual::new()).expect(rt, "memory");
     }
-    Probes {
-        first,
-        second,
-        counters: None,
-    }
+    Probes { first, second }
 }

@@ -2,29 +2,13 @@
 #![tactic(auto)]
 
 #[cfg(test)]
-mod changes;
-#[cfg(test)]
-mod closes;
-#[cfg(test)]
 mod copies;
 #[cfg(test)]
 mod crews;
 #[cfg(test)]
-mod doors;
-#[cfg(test)]
-mod drops;
-#[cfg(test)]
-mod faults;
-#[cfg(test)]
 mod guest;
 #[cfg(test)]
 mod keeping;
-#[cfg(test)]
-mod memory;
-#[cfg(test)]
-mod race;
-#[cfg(test)]
-mod races;
 #[cfg(test)]
 mod rows;
 #[cfg(test)]

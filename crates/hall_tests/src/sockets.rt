@@ -4,11 +4,10 @@ use crate::same::{holds, same};
 use call_socket::{Accept, RequestReader, ResponseWriter, discard, ends_of};
 use crew::Job;
 use std::alloc::Global;
-use std::io;
 use std::io::{Read, Write};
-use std::net::{Net, Shutdown, TcpListener, TcpStream};
+use std::net::{Net, TcpListener, TcpStream};
 use std::process::Abort;
-use std::time::{Clock, Duration};
+use std::time::Duration;
 use test_support::Scarcity;
 
 const HOST: &str = "127.0.0.1";
@@ -68,52 +67,6 @@ fn carries_bytes_both_ways(rt: HostRuntime) {
     expect_rest(&rt, rt.alloc(), &mut client, b"");
 }
 
-/// Bytes that tell where they stand.
-fn long_text(rt: &impl Abort, alloc: Global) -> Vec<u8> {
-    let mut text = Vec::new(alloc);
-    for number in 0..20_000u32 {
-        text.push((number % 251) as u8).expect(rt, "memory");
-    }
-    text
-}
-
-/// All that comes in, in parts of seven bytes.
-fn read_in_parts(rt: &impl Abort, alloc: Global, reader: &mut RequestReader) -> Vec<u8> {
-    let mut text = Vec::new(alloc);
-    let mut bytes = [0u8; 7];
-    for _ in 0..20_001u32 {
-        let count = reader.read(&mut bytes).expect(rt, "read");
-        let part = bytes.get(..count).unwrap_or(b"");
-        text.extend_from_slice(part).expect(rt, "memory");
-    }
-    text
-}
-
-#[test]
-fn carries_a_long_text_in_small_parts(rt: HostRuntime) {
-    let (listener, mut client) = connected(&rt);
-    let (mut reader, mut writer) = ends_in(&rt, rt.alloc(), &listener, 1_000);
-    let text = long_text(&rt, rt.alloc());
-    client.write_all(&text).expect(&rt, "written");
-    client.shutdown(Shutdown::Write).expect(&rt, "ended");
-    let request = read_in_parts(&rt, rt.alloc(), &mut reader);
-    holds(&rt, request == text, "the request");
-    writer.write_all(&text).expect(&rt, "written");
-    drop(writer);
-    expect_rest(&rt, rt.alloc(), &mut client, &text);
-}
-
-#[test]
-fn a_request_can_be_read_behind_the_end_of_its_response(rt: HostRuntime) {
-    let (listener, mut client) = connected(&rt);
-    let (mut reader, writer) = ends_in(&rt, rt.alloc(), &listener, 1_000);
-    drop(writer);
-    client.write_all(b"late").expect(&rt, "written");
-    let mut bytes = [0u8; 4];
-    reader.read_exact(&mut bytes).expect(&rt, "the request");
-    same(&rt, &bytes, b"late", &"the request");
-}
-
 #[test]
 fn sends_each_write_at_once(rt: HostRuntime) {
     let (listener, _client) = connected(&rt);
@@ -143,34 +96,6 @@ fn gives_up_on_a_client_that_takes_nothing(rt: HostRuntime) {
     holds(&rt, !is_taken, "not taken");
 }
 
-/// A connection that was closed with bytes unread would be reset, and could take no more.
-#[test]
-fn is_not_reset_where_a_body_was_not_read(rt: HostRuntime) {
-    let (listener, mut client) = connected(&rt);
-    let (reader, mut writer) = ends_in(&rt, rt.alloc(), &listener, 1_000);
-    let body = [b'b'; 4_096];
-    for _ in 0..10u8 {
-        client.write_all(&body).expect(&rt, "written");
-    }
-    writer.write_all(ANSWER).expect(&rt, "written");
-    drop(writer);
-    drop(reader);
-    expect_rest(&rt, rt.alloc(), &mut client, ANSWER);
-    holds(&rt, client.write(b"late").is_ok(), "no reset");
-}
-
-#[test]
-fn waits_a_tenth_of_a_second_for_what_still_comes(rt: HostRuntime) {
-    let (listener, _client) = connected(&rt);
-    let (reader, writer) = ends_in(&rt, rt.alloc(), &listener, 20_000);
-    drop(writer);
-    let begins = rt.monotonic().expect(&rt, "a clock");
-    drop(reader);
-    let ends = rt.monotonic().expect(&rt, "a clock");
-    let waited = ends.saturating_sub(begins);
-    holds(&rt, waited < Duration::from_secs(10), "not for long");
-}
-
 #[test]
 fn throws_away_what_still_comes_up_to_a_bound(rt: HostRuntime) {
     let bytes = [0u8; 70_000];
@@ -179,26 +104,6 @@ fn throws_away_what_still_comes_up_to_a_bound(rt: HostRuntime) {
         discard(&mut input);
         same(&rt, &input.len(), &unread, &len);
     }
-}
-
-/// A reader that fails, and counts its calls.
-#[derive(Drop)]
-struct Failing {
-    reads: u32,
-}
-
-impl Read for Failing {
-    fn read(&mut self, _buf: &mut [u8]) -> io::Result<usize> {
-        self.reads = self.reads.saturating_add(1);
-        Err(io::ErrorKind::TimedOut.into())
-    }
-}
-
-#[test]
-fn throws_nothing_away_behind_an_error(rt: HostRuntime) {
-    let mut input = Failing { reads: 0 };
-    discard(&mut input);
-    same(&rt, &input.reads, &1, &"reads");
 }
 
 #[test]

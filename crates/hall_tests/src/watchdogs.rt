@@ -3,8 +3,5 @@
 mod begun;
 mod reading;
 mod reporting;
-mod rows;
-mod scene;
 mod sixteen;
 mod telling;
-mod watching;

@@ -1,9 +1,8 @@
-use crate::same::{holds, same};
+use crate::same::same;
 use log_lines::{Event, Limit, Line, Status, Who};
 use std::alloc::Global;
 use std::net::{IpAddr, Ipv4Addr, Ipv6Addr, SocketAddr};
 use std::process::Abort;
-use test_support::Scarcity;
 
 const TIME: &str = "2026-11-26T01:45:09.123456Z";
 
@@ -238,16 +237,4 @@ fn tells_where_the_server_serves(rt: HostRuntime) {
         1,
         "2026-11-26T01:45:09.123456Z INFO  serving on [::1]:1, 1 service, 1 entry\n",
     )
-}
-
-#[test]
-fn says_when_memory_is_refused(rt: HostRuntime) {
-    let scarcity = Scarcity::new(rt.alloc(), 0).expect(&rt, "memory");
-    let line = Line {
-        time: TIME,
-        event: Event::LeftOut(3),
-    };
-    let refused = line.to_string(rt.alloc()).is_err();
-    drop(scarcity);
-    holds(&rt, refused, "no memory");
 }

@@ -1,4 +1,4 @@
-use crate::same::{holds, same};
+use crate::same::same;
 use log_lines::Waiting;
 use std::alloc::Global;
 use std::process::Abort;
@@ -39,20 +39,4 @@ fn writes_whole_lines_where_it_can(rt: HostRuntime) {
         }
         assert!(rt; waiting.is_empty(), "row {case}");
     }
-}
-
-#[test]
-fn has_room_for_64_kib(rt: HostRuntime) {
-    let mut waiting = Waiting::new(rt.alloc()).expect(&rt, "memory");
-    let half = line_of(&rt, rt.alloc(), 32_768);
-    holds(&rt, waiting.push(&half), "first");
-    holds(
-        &rt,
-        !waiting.push(&line_of(&rt, rt.alloc(), 32_769)),
-        "more",
-    );
-    holds(&rt, waiting.push(&half), "second");
-    holds(&rt, !waiting.push(b"\n"), "full");
-    waiting.drop_front(1);
-    holds(&rt, waiting.push(b"\n"), "room again");
 }

@@ -1,11 +1,11 @@
 use crate::same::{holds, same};
-use log_lines::{Allowance, Event, Line, Minutely, Outlet, Writer};
+use log_lines::{Outlet, Writer};
 use std::alloc::Global;
-use std::fs::{File, OpenOptions};
+use std::fs::OpenOptions;
+use std::io;
 use std::io::{PipeReader, PipeWriter, Read};
 use std::os::fd::AsRawFd;
 use std::process::Abort;
-use std::{fs, io, thread};
 use test_support::Scarcity;
 
 /// The end of a pipe that lines are written to.
@@ -156,29 +156,6 @@ fn standard_error_has_a_descriptor_of_its_own(rt: HostRuntime) {
     assert!(rt; outlet.descriptor > 2, "{:?}", outlet.descriptor);
 }
 
-/// Fills a writer to a file, and tells whether something waits once it was written.
-fn fill_file(rt: &impl Abort, alloc: Global, file: &File, expected: &mut Vec<u8>) -> bool {
-    let outlet = Outlet {
-        descriptor: file.as_raw_fd(),
-        is_shared: false,
-    };
-    let mut writer = Writer::new(alloc, outlet).expect(rt, "memory");
-    fill(rt, alloc, &mut writer, 0, 100, expected);
-    writer.write_now()
-}
-
-#[test]
-fn a_file_takes_all(rt: HostRuntime) {
-    let path = "/tmp/log-lines-takes-all";
-    let file = File::create(&rt, path).expect(&rt, "a file");
-    let mut expected = Vec::new(rt.alloc());
-    let is_left = fill_file(&rt, rt.alloc(), &file, &mut expected);
-    let found = fs::read(&rt, path).expect(&rt, "the file");
-    fs::remove_file(&rt, path).expect(&rt, "its end");
-    let is_all = found.as_slice() == expected.as_slice();
-    same(&rt, &(is_all, is_left), &(true, false), &"file");
-}
-
 /// An outlet that nothing is written to.
 const UNUSED: Outlet = Outlet {
     descriptor: -1,
@@ -191,99 +168,4 @@ fn takes_its_memory_at_once(rt: HostRuntime) {
     let refused = Writer::new(rt.alloc(), UNUSED).is_err();
     drop(scarcity);
     holds(&rt, refused, "64 KiB of 16 KiB");
-}
-
-#[test]
-fn takes_no_memory_later(rt: HostRuntime) {
-    let mut writer = Writer::new(rt.alloc(), UNUSED).expect(&rt, "memory");
-    let scarcity = Scarcity::new(rt.alloc(), 0).expect(&rt, "memory");
-    let taken = writer.push(&[b'\n'; 65_536]);
-    let dropped = writer.push(b"\n");
-    drop(scarcity);
-    same(&rt, &(taken, dropped), &(true, false), &"no more later");
-}
-
-fn push(rt: &impl Abort, alloc: Global, writer: &mut Writer, event: Event<'_>) -> bool {
-    let time = "2026-11-26T01:45:09.123456Z";
-    let line = Line { time, event }.to_string(alloc).expect(rt, "memory");
-    writer.push(line.as_bytes())
-}
-
-/// Takes a line of this time, if one may be written, and writes what there is room for.
-fn tell(
-    rt: &impl Abort,
-    alloc: Global,
-    writer: &mut Writer,
-    allowance: &mut Allowance,
-    now_millis: u64,
-    event: Event<'_>,
-) -> bool {
-    if let Some(count) = allowance.left_out(now_millis) {
-        push(rt, alloc, writer, Event::LeftOut(count));
-    }
-    if allowance.take(now_millis) {
-        push(rt, alloc, writer, event);
-    }
-    writer.write_now()
-}
-
-/// Tells 105 lines in a second, and one in the next.
-fn tell_all(rt: &impl Abort, alloc: Global, writer: &mut Writer) {
-    let mut allowance = Allowance::new();
-    for _ in 0..105 {
-        let is_left = tell(rt, alloc, writer, &mut allowance, 7, Event::Ended("a"));
-        holds(rt, !is_left, "a");
-    }
-    tell(rt, alloc, writer, &mut allowance, 1_007, Event::Ended("b"));
-}
-
-/// What is written of them.
-fn lines_of_all(rt: &impl Abort, alloc: Global) -> String {
-    let mut lines = String::new(alloc);
-    for _ in 0..100 {
-        lines
-            .push_str("2026-11-26T01:45:09.123456Z INFO  ended: a\n")
-            .expect(rt, "memory");
-    }
-    lines
-        .push_str("2026-11-26T01:45:09.123456Z WARN  5 lines left out\n")
-        .expect(rt, "memory");
-    lines
-        .push_str("2026-11-26T01:45:09.123456Z INFO  ended: b\n")
-        .expect(rt, "memory");
-    lines
-}
-
-#[test]
-fn tells_how_many_lines_were_left_out(rt: HostRuntime) {
-    let (mut reader, end) = io::pipe(&rt).expect(&rt, "a pipe");
-    let mut writer = Writer::new(rt.alloc(), shared(&end)).expect(&rt, "memory");
-    tell_all(&rt, rt.alloc(), &mut writer);
-    drop(end);
-    let mut found = Vec::new(rt.alloc());
-    reader.read_to_end(&mut found).expect(&rt, "the lines");
-    let expected = lines_of_all(&rt, rt.alloc());
-    let is_all = found.as_slice() == expected.as_bytes();
-    holds(&rt, is_all, "lines");
-}
-
-#[test]
-fn a_thread_takes_what_tells(rt: HostRuntime) {
-    let (mut reader, end) = io::pipe(&rt).expect(&rt, "a pipe");
-    let mut writer = Writer::new(rt.alloc(), shared(&end)).expect(&rt, "memory");
-    let mut allowance = Allowance::new();
-    let mut minutely = Minutely::new();
-    let (has_told, _) = thread::join(
-        &rt,
-        || allowance.take(0) && minutely.may_tell(0) && writer.push(b"x\n") && !writer.write_now(),
-        || true,
-    );
-    holds(&rt, has_told, "thread");
-    let mut found = [0u8; 8];
-    same(
-        &rt,
-        &reader.read(&mut found).expect(&rt, "a read"),
-        &2,
-        &"read",
-    );
 }

@@ -18,62 +18,6 @@ fn expect(rt: &impl Abort, chronicle: &Chronicle, place: u32, expected: &Option<
     same(rt, &chronicle.noted(place), expected, &place);
 }
 
-#[test]
-fn tells_when_entries_were_made_and_who_asked(rt: HostRuntime) {
-    let chronicle = Chronicle::new(rt.alloc()).expect(&rt, "memory");
-    let entries = [
-        (2, 1_795_657_509_123_456, Who::Session(7)),
-        (0, 0, Who::Setup),
-        (4, 4_294_967_296, Who::Expiry),
-        (70_000, 4_294_967_295, Who::Session(u32::MAX)),
-        (u32::MAX, u64::MAX, Who::Session(0)),
-    ];
-    for (place, micros, who) in entries {
-        expect(&rt, &chronicle, place, &None);
-        chronicle.note(place, micros, who);
-    }
-    for (place, micros, who) in entries {
-        expect(&rt, &chronicle, place, &note_of(micros, who));
-    }
-    for place in [1, 3, 65_536, 65_538, 4_464, 135_536, 65_535] {
-        expect(&rt, &chronicle, place, &None);
-    }
-}
-
-#[test]
-fn tells_who_sits_at_a_seat(rt: HostRuntime) {
-    let chronicle = Chronicle::new(rt.alloc()).expect(&rt, "memory");
-    same(&rt, &chronicle.sitting(7), &None, &"nobody");
-    let sitting = [
-        (0, 1, Who::Expiry),
-        (1, 0, Who::Setup),
-        (7, u64::MAX, Who::Session(3)),
-        (1_023, 2, Who::Session(u32::MAX)),
-        (7, 3, Who::Session(4)),
-    ];
-    for (seat, micros, who) in sitting {
-        chronicle.sit(seat, micros, who);
-        same(&rt, &chronicle.sitting(seat), &Some((micros, who)), &seat);
-    }
-    same(&rt, &chronicle.sitting(0), &Some((1, Who::Expiry)), &"0");
-    same(&rt, &chronicle.sitting(8), &None, &"8");
-    // There is no such seat.
-    chronicle.sit(1_024, 1, Who::Expiry);
-    same(&rt, &chronicle.sitting(1_024), &None, &"1_024");
-}
-
-#[test]
-fn a_note_gives_way_to_that_of_an_entry_65536_later(rt: HostRuntime) {
-    let chronicle = Chronicle::new(rt.alloc()).expect(&rt, "memory");
-    chronicle.note(9, 1, Who::Setup);
-    chronicle.note(65_545, 2, Who::Session(2));
-    expect(&rt, &chronicle, 9, &None);
-    // A slow writer of an older place.
-    chronicle.note(9, 1, Who::Setup);
-    expect(&rt, &chronicle, 9, &None);
-    expect(&rt, &chronicle, 65_545, &note_of(2, Who::Session(2)));
-}
-
 /// How many entries setup made, and then the first and the last place whose note is kept, if one is.
 static SETUPS: [(u32, Option<(u32, u32)>); 6] = [
     (0, None),

@@ -114,14 +114,6 @@ fn tells_refusals_in_order_and_how_many_were_lost(rt: HostRuntime) {
     }
 }
 
-#[test]
-fn a_cursor_of_the_future_is_told_nothing(rt: HostRuntime) {
-    let chronicle = Chronicle::new(rt.alloc()).expect(&rt, "memory");
-    chronicle.refuse(1, Who::Session(1), 1);
-    let mut cursor = u64::MAX;
-    expect_told(&rt, &chronicle, &mut cursor, None, u64::MAX);
-}
-
 // Whoever takes one down has its place and has not put it in yet.
 #[test]
 fn a_refusal_that_is_being_taken_down_is_awaited(rt: HostRuntime) {

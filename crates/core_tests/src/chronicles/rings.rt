@@ -5,7 +5,6 @@ use record_ring::{Missing, Record, Ring};
 use std::process::Abort;
 use std::sync::atomic::{AtomicU64, Ordering};
 use std::thread;
-use test_support::Scarcity;
 
 /// What the tests put in at a place. Each part of it tells the place.
 fn record_at(place: u64) -> Record {
@@ -103,23 +102,6 @@ fn keeps_the_newest_place_of_each_slot(rt: HostRuntime) {
         }
         expect(&rt, &ring, u64::MAX, Err(Missing::Awaited));
     }
-}
-
-#[test]
-fn keeps_nothing_without_slots(rt: HostRuntime) {
-    let ring = Ring::new(rt.alloc(), 0).expect(&rt, "memory");
-    ring.put(0, record_at(0));
-    expect(&rt, &ring, 0, Err(Missing::Awaited));
-}
-
-/// 2 MiB and 512 bytes in a room of 16 KiB.
-#[test]
-fn a_ring_is_refused_without_memory(rt: HostRuntime) {
-    let scarcity = Scarcity::with_small_room(rt.alloc()).expect(&rt, "memory");
-    let large = Ring::new(rt.alloc(), 65_536).is_err();
-    let small = Ring::new(rt.alloc(), 16).is_ok();
-    drop(scarcity);
-    same(&rt, &(large, small), &(true, true), &"large and small");
 }
 
 /// How many places the threads put in, and how many threads there are.

@@ -63,20 +63,6 @@ fn a_record_of_parts_of_two_laps_is_not_believed(rt: HostRuntime) {
     }
 }
 
-#[test]
-fn its_words_are_put_in_from_the_low_half_of_its_time_on(rt: HostRuntime) {
-    let slot = Slot::new();
-    for (part, word) in PARTS.iter().zip(&slot.words()) {
-        word.put(0, *part);
-    }
-    let expected = Record {
-        micros: 0x2_0000_0001,
-        session: 4,
-        sort: 8,
-    };
-    same(&rt, &slot.record(0), &Ok(expected), &"in order");
-}
-
 /// What is found of laps in a new slot, which stands at the lap before the first.
 const NEW: [(u32, Result<u32, Missing>); 4] = [
     (0, AWAITED),

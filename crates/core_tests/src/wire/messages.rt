@@ -1,133 +1,8 @@
 use crate::same::same;
-use health_wire::{
-    Field, Serving, Value, WireFault, fields, read_request, read_response, write_request,
-    write_response,
-};
+use health_wire::{WireFault, fields, write_request};
 use std::alloc::Global;
 use std::process::Abort;
 use test_support::Scarcity;
-
-static REQUESTS: [(&[u8], Result<&str, WireFault>); 27] = [
-    (b"", Ok("")),
-    (b"\x0a\x01a", Ok("a")),
-    (b"\x0a\x02a", Err(WireFault::Truncated)),
-    (b"\x0a", Err(WireFault::Truncated)),
-    (b"\x0b", Err(WireFault::BadTag)),
-    (b"\x00", Err(WireFault::BadTag)),
-    (
-        b"\x80\x80\x80\x80\x80\x80\x80\x80\x80\x80",
-        Err(WireFault::BadVarint),
-    ),
-    (b"\x80\x80", Err(WireFault::Truncated)),
-    (b"\x0a\x01\xff", Err(WireFault::NotText)),
-    (b"\x0a\x01\xff\x0a\x01a", Ok("a")),
-    (b"\x08\x01", Ok("")),
-    // a longer spelling of the length 1
-    (b"\x0a\x81\x00a", Ok("a")),
-    // a field of each other wire type is unknown
-    (
-        b"\x0a\x01a\x09\x01\x02\x03\x04\x05\x06\x07\x08\x0d\x01\x02\x03\x04",
-        Ok("a"),
-    ),
-    (
-        b"\x09\x01\x02\x03\x04\x05\x06\x07",
-        Err(WireFault::Truncated),
-    ),
-    (b"\x0d\x01\x02\x03", Err(WireFault::Truncated)),
-    // the greatest field number, and one more
-    (b"\xf8\xff\xff\xff\x0f\x00", Ok("")),
-    (b"\x80\x80\x80\x80\x10\x00", Err(WireFault::BadTag)),
-    // a fault of the wire comes before a name that is no text
-    (b"\x0a\x01\xff\x0a", Err(WireFault::Truncated)),
-    // of two faults the first one from the left counts
-    (
-        b"\x0b\x80\x80\x80\x80\x80\x80\x80\x80\x80\x80",
-        Err(WireFault::BadTag),
-    ),
-    (
-        b"\x0a\x80\x80\x80\x80\x80\x80\x80\x80\x80\x80",
-        Err(WireFault::BadVarint),
-    ),
-    // the empty name of a later field counts too
-    (b"\x0a\x01a\x0a\x00", Ok("")),
-    // each longer front of a request
-    (b"\x0a\x01", Err(WireFault::Truncated)),
-    (b"\x0a\x01a\x48", Err(WireFault::Truncated)),
-    (b"\x0a\x01a\x48\x05", Ok("a")),
-    (b"\x0a\x01a\x48\x05\x0a", Err(WireFault::Truncated)),
-    (b"\x0a\x01a\x48\x05\x0a\x01", Err(WireFault::Truncated)),
-    (b"\x0a\x01a\x48\x05\x0a\x01b", Ok("b")),
-];
-
-#[test]
-fn reads_the_last_service_name_or_the_first_fault(rt: HostRuntime) {
-    for (bytes, expected) in &REQUESTS {
-        same(&rt, &read_request(*bytes), expected, bytes);
-    }
-}
-
-static RESPONSES: [(&[u8], Result<u64, WireFault>); 7] = [
-    (b"", Ok(0)),
-    (b"\x08\x02", Ok(2)),
-    (b"\x08\x01\x08\x02", Ok(2)),
-    (
-        b"\x08\xff\xff\xff\xff\xff\xff\xff\xff\xff\x7f",
-        Ok(u64::MAX),
-    ),
-    (b"\x0a\x01a", Ok(0)),
-    (b"\x08", Err(WireFault::Truncated)),
-    (b"\x0f", Err(WireFault::BadTag)),
-];
-
-#[test]
-fn reads_the_last_status_number_or_the_first_fault(rt: HostRuntime) {
-    for (bytes, expected) in &RESPONSES {
-        same(&rt, &read_response(*bytes), expected, bytes);
-    }
-}
-
-/// A field of each wire type.
-const FOUR_FIELDS: &[u8] =
-    b"\x0a\x01a\x48\x05\x11\x01\x02\x03\x04\x05\x06\x07\x08\x1d\x01\x02\x03\x04";
-
-static FIELDS: [Field<'static>; 4] = [
-    Field {
-        number: 1,
-        value: Value::Bytes(b"a"),
-    },
-    Field {
-        number: 9,
-        value: Value::Varint(5),
-    },
-    Field {
-        number: 2,
-        value: Value::Eight([1, 2, 3, 4, 5, 6, 7, 8]),
-    },
-    Field {
-        number: 3,
-        value: Value::Four([1, 2, 3, 4]),
-    },
-];
-
-#[test]
-fn reads_fields_in_order(rt: HostRuntime) {
-    let found = fields(rt.alloc(), FOUR_FIELDS).expect(&rt, "fields");
-    same(&rt, &found.as_slice(), &FIELDS.as_slice(), &FOUR_FIELDS);
-}
-
-static STATUSES: [(Serving, &[u8]); 4] = [
-    (Serving::Unknown, b""),
-    (Serving::Serving, b"\x08\x01"),
-    (Serving::NotServing, b"\x08\x02"),
-    (Serving::ServiceUnknown, b"\x08\x03"),
-];
-
-#[test]
-fn writes_each_status(rt: HostRuntime) {
-    for (status, expected) in &STATUSES {
-        same(&rt, &write_response(*status).as_slice(), expected, status);
-    }
-}
 
 /// A name of 128 bytes, whose length takes two.
 const LONG_NAME: &str = "nnnnnnnnnnnnnnnnnnnnnnnnnnnnnnnnnnnnnnnnnnnnnnnnnnnnnnnnnnnnnnnn\
@@ -164,11 +39,6 @@ fn end_of_names(alloc: Global) -> End {
         }
     }
     End::Whole
-}
-
-#[test]
-fn writes_a_name_behind_its_shortest_length(rt: HostRuntime) {
-    same(&rt, &end_of_names(rt.alloc()), &End::Whole, &"names");
 }
 
 // always_out_of_memory, a body that never has memory, meets its contract. The last end of each test below refuses it.

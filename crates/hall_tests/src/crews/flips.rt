@@ -136,14 +136,13 @@ fn serve_watches<R: Wait + Threads + Sync + Clock + Abort>(
     rt: &R,
     alloc: Global,
     scene: &Scene,
-    looks: u32,
     pages: &mut [Vec<u8>],
 ) -> Found {
     let opened = AtomicU32::new(0);
     let mut plan = plan_of(WATCHES);
     plan.most = 10_000;
     plan.seats = WATCHES + 3;
-    plan.looks = looks;
+    plan.looks = u32::MAX;
     let awaited = u32::from(WATCHES);
     let open = &scene.open;
     let probe = Paced::new(rt, &scene.heard, open, open, awaited, PAUSE);
@@ -216,27 +215,14 @@ fn expect_told<R: Abort>(rt: &R, alloc: Global, calls: &[CallEnd], pages: &[Vec<
     }
 }
 
-/// With a Look more it would tell a later change: the orders wait for it.
-fn expect_few(rt: &impl Abort, calls: &[CallEnd], looks: u32) {
-    for end in calls {
-        let messages = messages_of(rt, end);
-        let is_few = messages <= looks.saturating_add(1);
-        assert!(rt; is_few, "{messages} messages of {looks} looks");
-    }
-}
-
-fn expect_watches<R: Wait + Threads + Sync + Clock + Abort>(rt: &R, alloc: Global, looks: u32) {
+fn expect_watches<R: Wait + Threads + Sync + Clock + Abort>(rt: &R, alloc: Global) {
     let mut pages = empty_pages(rt, alloc);
     let scene = Scene::new();
-    let found = serve_watches(rt, alloc, &scene, looks, &mut pages);
-    same(rt, &found.entries, &Some(FLIPS as usize + 1), &looks);
+    let found = serve_watches(rt, alloc, &scene, &mut pages);
+    same(rt, &found.entries, &Some(FLIPS as usize + 1), &"entries");
     let made = made_before(rt, &scene);
     let calls = found.calls.expect(rt, "a report");
-    if looks == u32::MAX {
-        expect_told(rt, alloc, &calls, &pages, made);
-    } else {
-        expect_few(rt, &calls, looks);
-    }
+    expect_told(rt, alloc, &calls, &pages, made);
 }
 
 // A worker that ends its Watches early fails here, and one whose bell is made too late; a crew that rings before its orders, that rings
@@ -245,13 +231,6 @@ fn expect_watches<R: Wait + Threads + Sync + Clock + Abort>(rt: &R, alloc: Globa
 #[test]
 fn a_watch_tells_each_change_up_to_the_last(rt: HostRuntime) {
     for _ in 0..3u32 {
-        expect_watches(&rt, rt.alloc(), u32::MAX);
-    }
-}
-
-#[test]
-fn a_watch_takes_no_more_looks_than_its_limit(rt: HostRuntime) {
-    for looks in [0u32, 3] {
-        expect_watches(&rt, rt.alloc(), looks);
+        expect_watches(&rt, rt.alloc());
     }
 }

@@ -2,8 +2,6 @@ use crate::same::same;
 use crew::Ring;
 use std::process::Abort;
 use std::sync::Wait;
-use std::thread;
-use std::thread::Threads;
 use web_call::{Bell, Turn};
 
 /// Waits so often as there are turns expected.
@@ -32,43 +30,7 @@ fn expect_own_looks<R: Wait + Abort>(rt: &R) {
     expect_turns(rt, &mut ring.bell(rt), &[Turn::End, Turn::End]);
 }
 
-/// Counts the Looks of a bell up to its End, or up to the most.
-fn count_looks<B: Bell + Drop>(mut bell: B, most: u32) -> u32 {
-    for looks in 0..most {
-        if bell.wait() == Turn::End {
-            return looks;
-        }
-    }
-    most
-}
-
-fn ring_often<R: Wait>(rt: &R, ring: &Ring, rings: u32) {
-    for _ in 0..rings {
-        ring.ring(rt);
-    }
-    ring.end(rt);
-}
-
-/// How many Looks a bell gives in a thread, beside one that rings so often.
-fn looks_beside<R: Wait + Threads + Sync>(rt: &R, rings: u32) -> u32 {
-    let ring = Ring::new();
-    let bell = ring.bell(rt);
-    thread::join(
-        rt,
-        || count_looks(bell, 2_000),
-        || ring_often(rt, &ring, rings),
-    )
-    .0
-}
-
-fn expect_looks<R: Wait + Threads + Sync + Abort>(rt: &R) {
-    expect_own_looks(rt);
-    for rings in [0, 1, 1_000] {
-        same(rt, &looks_beside(rt, rings), &rings, &"looks");
-    }
-}
-
 #[test]
-fn gives_a_look_for_each_ring_from_then_on_in_another_thread_too(rt: HostRuntime) {
-    expect_looks(&rt);
+fn gives_a_look_for_each_ring_from_then_on(rt: HostRuntime) {
+    expect_own_looks(&rt);
 }

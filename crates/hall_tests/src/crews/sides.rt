@@ -1,43 +1,17 @@
-//! Calls beside one another, and lists of orders: each waits, but not for ever, until the others have begun.
+//! Lists of orders beside one another: each waits, but not for ever, until the others have begun.
 
 use crate::crews::flips::flips;
-use crate::crews::gates::Gate;
 use crate::crews::letters::Note;
 use crate::crews::paced::{Heard, PAUSE, Paced};
-use crate::crews::plans::{Found, orders_of, plan_of, serve, serve_notes};
+use crate::crews::plans::{Found, orders_of, plan_of, serve};
 use crate::same::same;
-use crew::{CallEnd, OpenTurnstile};
+use crew::OpenTurnstile;
 use desk_core::Order;
-use grpc_frame::Code;
 use std::alloc::Global;
 use std::process::Abort;
 use std::sync::Wait;
 use std::thread::Threads;
 use std::time::Clock;
-use test_support::requests::CHECK_OF_EMPTY;
-use web_call::Outcome;
-
-const CHECKED: CallEnd = CallEnd::Done(Outcome::Status(Code::Ok));
-
-fn expect_two<R: Wait + Threads + Sync + Clock + Abort>(rt: &R, alloc: Global) {
-    let requests = [Some(CHECK_OF_EMPTY), Some(CHECK_OF_EMPTY)];
-    let gate = Gate::new(rt, 2);
-    let (found, _) = serve_notes(rt, alloc, &plan_of(2), &[], &requests, &gate);
-    same(rt, &gate.given_up(), &0, &"the gate");
-    let calls = found.calls.expect(rt, "a report");
-    same(
-        rt,
-        &calls.as_slice(),
-        &[CHECKED, CHECKED].as_slice(),
-        &"calls",
-    );
-}
-
-// `one_thread_serves_all`, a crew that serves all calls on one thread, gives up at the gate.
-#[test]
-fn two_workers_serve_their_calls_at_the_same_time(rt: HostRuntime) {
-    expect_two(&rt, rt.alloc());
-}
 
 /// How many orders a list has, which is more than are made before the other lists begin.
 const ORDERS: u32 = 200;

@@ -1,20 +1,9 @@
 //! What each scene begins with.
 
-use desk_core::Catalogue;
 use std::alloc::Global;
 use std::process::Abort;
 use std::sync::Arc;
 use watchdog::{Expectations, Watchdog};
-
-/// A catalogue of these names.
-pub(crate) fn catalogue_of(rt: &impl Abort, alloc: Global, texts: &[&str]) -> Catalogue {
-    let mut names = Vec::new(alloc);
-    for text in texts {
-        let name = String::from_str(alloc, text).expect(rt, "memory");
-        names.push(name).expect(rt, "memory");
-    }
-    Catalogue::new(alloc, names).expect(rt, "a catalogue")
-}
 
 /// What is expected, and the watchdog that sees to it.
 pub(crate) fn watchdog_of(rt: &impl Abort, alloc: Global) -> (Arc<Expectations>, Watchdog) {

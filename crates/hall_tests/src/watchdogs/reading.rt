@@ -1,6 +1,5 @@
 use std::io;
-use std::process::Abort;
-use std::time::{Clock, Duration, Instant};
+use std::time::{Clock, Duration};
 
 /// A clock that stands still at so many milliseconds, or cannot be read.
 #[derive(Drop)]
@@ -16,9 +15,4 @@ impl Clock for At {
     fn since_1970(&self) -> io::Result<Duration> {
         self.monotonic()
     }
-}
-
-/// The reading of the clock at so many milliseconds.
-pub(crate) fn reading(rt: &impl Abort, millis: u64) -> Instant {
-    Instant::now(&At(Some(millis))).expect(rt, "a reading")
 }

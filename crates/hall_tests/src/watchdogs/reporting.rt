@@ -2,8 +2,9 @@
 
 ghost use Rattle.hall.specs.Seats.{IsOf};
 
+use crate::guest::catalogue;
 use crate::same::same;
-use crate::watchdogs::begun::{catalogue_of, watchdog_of};
+use crate::watchdogs::begun::watchdog_of;
 use crate::watchdogs::reading::At;
 use desk_core::{Finding, KeepMany};
 use hall::{Hall, Seat};
@@ -53,7 +54,7 @@ impl<R: Wait> Clock for Reporting<'_, R> {
     }
 }
 
-/// Has a round by this clock, and compares whether it changes a status.
+/// Has a round by this clock, and compares whether it changes a status, and for how many milliseconds the next one may be away.
 fn expect_round<R: Wait + Abort, C: Clock>(
     rt: &R,
     hall: &Hall<Threshold, KeepMany>,
@@ -61,12 +62,15 @@ fn expect_round<R: Wait + Abort, C: Clock>(
     own: &mut Seat<Threshold, KeepMany>,
     clock: &C,
     shows: bool,
+    patience: u64,
 )
     requires own { IsOf hall.now own.old }
     ensures own { IsOf hall.now own.new }
 {
     let round = watchdog.round(rt, clock, hall, own).expect(rt, "a round");
     same(rt, &round.shows, &shows, &round.at);
+    let found = watchdog.patience(round.at).as_millis();
+    same(rt, &found, &u128::from(patience), &round.at);
 }
 
 /// The report counts from the round behind it on.
@@ -80,7 +84,7 @@ fn play_over<R: Wait + Abort>(
     requires own { IsOf hall.now own.old }
     requires others { IsOf hall.now others }
 {
-    expect_round(rt, hall, watchdog, own, &At(Some(0)), false);
+    expect_round(rt, hall, watchdog, own, &At(Some(0)), false, 50);
     let clock = Reporting {
         millis: 500,
         reporter: RefCell::new(Reporter {
@@ -89,11 +93,11 @@ fn play_over<R: Wait + Abort>(
             seat: others,
         }),
     };
-    expect_round(rt, hall, watchdog, own, &clock, false);
-    expect_round(rt, hall, watchdog, own, &At(Some(900)), false);
-    expect_round(rt, hall, watchdog, own, &At(Some(1_500)), false);
-    expect_round(rt, hall, watchdog, own, &At(Some(1_899)), false);
-    expect_round(rt, hall, watchdog, own, &At(Some(1_900)), true);
+    expect_round(rt, hall, watchdog, own, &clock, false, 50);
+    expect_round(rt, hall, watchdog, own, &At(Some(900)), false, 50);
+    expect_round(rt, hall, watchdog, own, &At(Some(1_500)), false, 50);
+    expect_round(rt, hall, watchdog, own, &At(Some(1_899)), false, 1);
+    expect_round(rt, hall, watchdog, own, &At(Some(1_900)), true, 50);
 }
 
 /// Registers `a`.
@@ -106,7 +110,7 @@ fn register<R: Wait>(rt: &R, hall: &Hall<Threshold, KeepMany>, seat: &mut Seat<T
 
 /// Has `a` be expected every second, over a new hall.
 fn play<R: Wait + Abort>(rt: &R, alloc: Global) {
-    let catalogue = catalogue_of(rt, alloc, &["a", ""]);
+    let catalogue = catalogue(rt, alloc, &["a", ""]);
     let slot = catalogue.slot("a").expect(rt, "a slot");
     let (expectations, mut watchdog) = watchdog_of(rt, alloc);
     let made = Hall::<Threshold, KeepMany>::new(alloc, catalogue, 100, 2);

@@ -3,8 +3,9 @@
 ghost use Rattle.std.specs.Prelude.{IfOk};
 ghost use Rattle.hall.specs.Seats.{IsOf};
 
+use crate::guest::catalogue;
 use crate::same::same;
-use crate::watchdogs::begun::{catalogue_of, handle_of, watchdog_of};
+use crate::watchdogs::begun::{handle_of, watchdog_of};
 use crate::watchdogs::sixteen::KeepSixteen;
 use chronicle::Who;
 use desk_core::{Finding, Keep, KeepMany, Refusal};
@@ -268,7 +269,7 @@ fn play<R: Wait + Abort, K: Keep>(
     let (expectations, mut watchdog) = watchdog_of(rt, alloc);
     let handle = handle_of(rt, &expectations);
     let mut diary = Diary::new(alloc, outlet, handle, setup_of(rt, most)).expect(rt, "memory");
-    let catalogue = catalogue_of(rt, alloc, &["db", "api", ""]);
+    let catalogue = catalogue(rt, alloc, &["db", "api", ""]);
     let made = Hall::<Threshold, K>::new(alloc, catalogue, most, 2);
     let (hall, mut seats) = made.expect(rt, "a hall");
     let mut others = seats.pop().expect(rt, "a seat");

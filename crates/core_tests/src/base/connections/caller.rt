@@ -3,7 +3,6 @@
 ghost use Rattle.std.specs.Prelude.{◌≡◌, ◌+◌, ◌≤◌, IsTrue};
 ghost use Rattle.connection_table.specs.Table.{held_count, with_connection};
 
-use super::rows::counts_of;
 use crate::same::{holds, same};
 use connection_table::Table;
 
@@ -34,6 +33,11 @@ fn serve(table: &mut Table<u32>, connection: u32) -> Option<usize>
     table.admit(token - 2);
     table.remove(token - 2);
     Some(token)
+}
+
+/// How many connections are held, how many of them are admitted as Watches, and how many ended.
+fn counts_of(table: &Table<u32>) -> (usize, usize, u64) {
+    (table.len(), table.watches(), table.ended())
 }
 
 #[test]
