@@ -84,8 +84,7 @@ def exporting(lines):
 
 # What is handed over, and what the environment has to say for it.
 with socket.create_server(("127.0.0.1", 0)) as fresh:
-    # Standard error is closed too, since the log would have the other number.
-    one = Server(socket_of=fresh, before=exporting("exec 4<&- 2>&-; export LISTEN_FDS=2"))
+    one = Server(socket_of=fresh, before=exporting("exec 4<&-; export LISTEN_FDS=2"))
     holds("of two numbers of which one is open, that is taken", (one.port, len(one.lines)) == (fresh.getsockname()[1], 2), str(one.lines))
     flags = {flag & (os.O_NONBLOCK | os.O_CLOEXEC) for flag in flags_of(one, fresh) if flag & os.O_CLOEXEC}
     holds("the socket does not wait, and is closed at exec", flags == {os.O_NONBLOCK | os.O_CLOEXEC}, str(flags_of(one, fresh)))

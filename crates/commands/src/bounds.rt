@@ -7,7 +7,7 @@ use live_server::ServerLimits;
 pub const MAX_LOOPS: u16 = 64;
 
 /// How much a server holds at once: so many connections, and so many open Watches among them.
-#[derive(Clone, Copy, Debug, PartialEq, Eq)]
+#[derive(Clone, Copy, PartialEq, Eq)]
 pub struct Bounds {
     connections: u32,
     watches: u32,

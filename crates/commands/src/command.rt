@@ -72,9 +72,18 @@ fn run<'a>(alloc: Global) -> Result<Command<'a>, AllocError> {
 /// The command line of a run that is refused, with the text that clap has for such.
 pub fn bad_option(alloc: Global, bad: BadOption<'_>) -> Result<clap::Error, AllocError> {
     let message = format!(in alloc; "{bad}")?;
-    run(alloc)?
-        .bin_name("healthd run")?
-        .error(ErrorKind::ValueValidation, &message)
+    refused(run(alloc)?, "healthd run", &message)
+}
+
+/// A command line that is refused for this reason, with the text that clap has for such.
+fn refused(
+    command: Command<'_>,
+    name: &'static str,
+    message: &str,
+) -> Result<clap::Error, AllocError> {
+    command
+        .bin_name(name)?
+        .error(ErrorKind::ValueValidation, message)
 }
 
 fn ask<'a>(alloc: Global) -> Result<Command<'a>, AllocError> {
@@ -87,9 +96,7 @@ pub fn bad_host(alloc: Global, host: &str) -> Result<clap::Error, AllocError> {
     let message = format!(in alloc;
         "invalid value '{host}' for '--host <ADDR>': not an IP address"
     )?;
-    ask(alloc)?
-        .bin_name("healthd ask")?
-        .error(ErrorKind::ValueValidation, &message)
+    refused(ask(alloc)?, "healthd ask", &message)
 }
 
 /// A command that asks a running server.
@@ -141,9 +148,7 @@ fn history<'a>(alloc: Global, control: Option<&'a str>) -> Result<Command<'a>, A
 
 /// The command line of a `tell` that is refused for this reason, with the text that clap has for such.
 fn bad_tell(alloc: Global, message: &str) -> Result<clap::Error, AllocError> {
-    tell(alloc, None)?
-        .bin_name("healthd tell")?
-        .error(ErrorKind::ValueValidation, message)
+    refused(tell(alloc, None)?, "healthd tell", message)
 }
 
 /// The text is no place of a server that takes changes.
@@ -154,17 +159,13 @@ pub fn bad_place(alloc: Global, text: &str) -> Result<clap::Error, AllocError> {
 /// The same, where `status` is to ask there.
 pub fn bad_status_place(alloc: Global, text: &str) -> Result<clap::Error, AllocError> {
     let message = no_place(alloc, text)?;
-    status(alloc, None)?
-        .bin_name("healthd status")?
-        .error(ErrorKind::ValueValidation, &message)
+    refused(status(alloc, None)?, "healthd status", &message)
 }
 
 /// The same, where `history` is to ask there.
 pub fn bad_history_place(alloc: Global, text: &str) -> Result<clap::Error, AllocError> {
     let message = no_place(alloc, text)?;
-    history(alloc, None)?
-        .bin_name("healthd history")?
-        .error(ErrorKind::ValueValidation, &message)
+    refused(history(alloc, None)?, "healthd history", &message)
 }
 
 fn no_place(alloc: Global, text: &str) -> Result<String, AllocError> {
@@ -200,9 +201,7 @@ fn observe<'a>(alloc: Global, control: Option<&'a str>) -> Result<Command<'a>, A
 /// The command line of an `observe` that is refused, with the text that clap has for such.
 pub fn bad_observe(alloc: Global, bad: BadObserve<'_>) -> Result<clap::Error, AllocError> {
     let message = format!(in alloc; "{bad}")?;
-    observe(alloc, None)?
-        .bin_name("healthd observe")?
-        .error(ErrorKind::ValueValidation, &message)
+    refused(observe(alloc, None)?, "healthd observe", &message)
 }
 
 fn journal<'a>(alloc: Global) -> Result<Command<'a>, AllocError> {

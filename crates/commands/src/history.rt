@@ -17,7 +17,7 @@ use std::{io, thread};
 const PAUSE_MILLIS: u64 = 250;
 
 /// Which entries of the history are printed, and how.
-#[derive(Clone, Copy, PartialEq, Eq)]
+#[derive(Clone, Copy)]
 pub struct HistoryOptions {
     /// How many of the newest entries. Without it all that are kept.
     pub last: Option<u32>,

@@ -4,7 +4,7 @@ use std::io::ErrorKind;
 use thiserror::Error;
 
 /// Why a run can't go on from the history in a file.
-#[derive(Clone, Copy, Debug, PartialEq, Eq, Error)]
+#[derive(Clone, Copy, Debug, Error)]
 pub enum JournalCause {
     /// Another process has the file.
     #[error("in use")]

@@ -10,7 +10,7 @@ use std::fmt;
 const MAX_SECONDS: u32 = 86_400;
 
 /// What the command `observe` is told, beside its targets.
-#[derive(Clone, Copy, Debug, PartialEq, Eq)]
+#[derive(Clone, Copy)]
 pub struct ObserveOptions<'a> {
     /// Where its reports are told.
     pub place: Place<'a>,
@@ -22,7 +22,7 @@ pub struct ObserveOptions<'a> {
 }
 
 /// Why a command line of `observe` is refused, where each of its options by itself is one.
-#[derive(Clone, Copy, Debug, PartialEq, Eq)]
+#[derive(Clone, Copy)]
 pub enum BadObserve<'a> {
     /// The text is no place of a server.
     Place(&'a str),

@@ -17,7 +17,7 @@ use std::io::ErrorKind;
 use thiserror::Error;
 
 /// What ends the command `run` with status 1. Its text follows `healthd: ` on standard error.
-#[derive(Debug, Drop, PartialEq, Eq, Error)]
+#[derive(Debug, Drop, Error)]
 pub enum RunFailure<'a> {
     #[error("read {0}: {1}")]
     Read(Source<'a>, Cause),

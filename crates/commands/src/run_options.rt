@@ -26,7 +26,7 @@ impl fmt::Display for Source<'_> {
 }
 
 /// What the command `run` is told.
-#[derive(Clone, Copy, Debug, PartialEq, Eq)]
+#[derive(Clone, Copy)]
 pub struct RunOptions<'a> {
     pub listen: SocketAddr,
     /// Where plain requests are answered, if they are.
@@ -46,7 +46,7 @@ pub struct RunOptions<'a> {
 }
 
 /// Why the options of a run are refused, where each by itself is one.
-#[derive(Clone, Copy, Debug, PartialEq, Eq)]
+#[derive(Clone, Copy)]
 pub enum BadOption<'a> {
     /// The text is no address with a port.
     Listen(&'a str),

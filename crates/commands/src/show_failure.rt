@@ -8,7 +8,7 @@ use std::alloc::{AllocError, AllocFailed};
 use thiserror::Error;
 
 /// What ends the commands `status` and `history` with status 1. Its text follows `healthd: ` on standard error.
-#[derive(Debug, Drop, PartialEq, Eq, Error)]
+#[derive(Debug, Drop, Error)]
 pub enum ShowFailure<'a> {
     #[error("{0}")]
     Told(TellFailure<'a>),

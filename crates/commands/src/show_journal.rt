@@ -6,7 +6,7 @@ use std::rt::Files;
 use thiserror::Error;
 
 /// What ends the command `journal` with status 1. Its text follows `healthd: ` on standard error.
-#[derive(Clone, Copy, Debug, PartialEq, Eq, Error)]
+#[derive(Clone, Copy, Debug, Error)]
 pub enum JournalFailure<'a> {
     #[error("journal {0}: not a file")]
     NotAFile(&'a str),

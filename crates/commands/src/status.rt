@@ -14,7 +14,7 @@ use std::rt::Env;
 use std::time::{Clock, Duration};
 
 /// How services are printed.
-#[derive(Clone, Copy, PartialEq, Eq)]
+#[derive(Clone, Copy)]
 pub enum Form {
     Table,
     /// A table whose statuses have colours.

@@ -16,10 +16,12 @@ impl Supervisor {
     /// What the environment says to the process of this id, which has opened nothing yet. Where it names no socket to be told, nobody
     /// is told.
     pub fn from_env<R: Env>(rt: &R, process_id: u32) -> Supervisor {
+        // The sockets are looked for before anything else is opened, which would have the number of one.
+        let sockets = HandedOver::from_env(rt, process_id);
         Supervisor {
-            outlet: Outlet::standard_error(),
-            sockets: HandedOver::from_env(rt, process_id),
+            sockets,
             notifier: Notifier::from_env(rt).unwrap_or_else(|_| Notifier::nobody()),
+            outlet: Outlet::standard_error(),
         }
     }
 

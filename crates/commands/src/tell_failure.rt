@@ -8,7 +8,7 @@ use std::io::ErrorKind;
 use thiserror::Error;
 
 /// What ends the command `tell` with status 1. Its text follows `healthd: ` on standard error.
-#[derive(Clone, Copy, Debug, PartialEq, Eq, Error)]
+#[derive(Clone, Copy, Debug, Error)]
 pub enum TellFailure<'a> {
     #[error("connect {0}: {1}")]
     Connect(Place<'a>, Cause),

@@ -153,7 +153,7 @@ fn three_runs(rt: &impl Abort, alloc: Global, random: &mut Random, entries: &[En
 #[test]
 fn a_crash_leaves_the_journal_or_that_and_the_batch(rt: HostRuntime) {
     let alloc = rt.alloc();
-    for seed in 1..=10 {
+    for seed in 1..=100 {
         let mut random = Random(seed);
         let desk = history(&rt, alloc, &mut random, 30);
         three_runs(&rt, alloc, &mut random, desk.journal());
