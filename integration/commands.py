@@ -68,6 +68,7 @@ TAKEN = [
     *((["tell", "--control", NONE, *words], (1, "", f"healthd: connect {NONE}: not found\n")) for words in (
         [], ["check", "-"], ["--timeout", "3600", "stop"])),
     (["tell", "--control", "127.0.0.1:1", "check", "-"], (1, "", "healthd: connect 127.0.0.1:1: connection refused\n")),
+    *((["tell", "--control", path, "check", "-"], (1, "", f"healthd: connect {path}: not found\n")) for path in ("/127.0.0.1:9", "/" + "a" * 106)),
     (["status", "--control", NONE], (1, "", f"healthd: connect {NONE}: not found\n")),
     (["status", "--control", NONE, "--json", "--timeout", "2"], (1, "", f"healthd: connect {NONE}: not found\n")),
     (["history", "--control", "127.0.0.1:1", "--follow"], (1, "", "healthd: connect 127.0.0.1:1: connection refused\n")),
@@ -145,7 +146,11 @@ REFUSED += [
     (["run", "--plain", "8082"], f"invalid value '8082' for '--plain <ADDR>': {ADDRESS}"),
     (["run", "--control", "-", "--plain", ""], f"invalid value '' for '--plain <ADDR>': {ADDRESS}"),
     *((["run", "--control", text], f"invalid value '{text}' for '--control <PLACE>': {NO_PLACE}")
-      for text in ("0.0.0.0:8081", "10.0.0.1:8081", "localhost:8081", "run/healthd", "")),
+      for text in (
+          # addresses that other machines reach, or that a socket would have on all networks; no port, no number, a name; no path of a socket,
+          # for which the system has 108 bytes with a NUL
+          "0.0.0.0:8081", "10.0.0.1:8081", "[::]:8081", "[::ffff:127.0.0.1]:8081", "128.0.0.1:8081", "127.0.0.1", "127.0.0.1:65536",
+          "localhost:8081", "run/healthd", "", "/" + "a" * 107)),
     *((["run", "--report", text], f"invalid value '{text}' for '--report <PLACE>': {NO_PLACE}") for text in ("0.0.0.0:8081", "run/healthd")),
     (["run", "--report", "", "--control", "-"], f"invalid value '-' for '--control <PLACE>': {NO_PLACE}"),
     (["run", "--watches", "10001"], "invalid value '10001' for '--watches <W>': more than the 10000 connections\n"),

@@ -7,7 +7,7 @@ import subprocess
 import threading
 import time
 
-from servers import HEALTHD, Server, holds, measured, timed, until
+from servers import HEALTHD, NOT_SERVING, OK as OK_TRAILERS, SERVING, Server, holds, measured, timed, until
 
 NAMES = "good bad moved away silent closed cut slowly down other refused"
 SCRIPT = "".join([f"catalogue {NAMES} -\n", *(f"register {name} threshold 1 1 unknown\n" for name in NAMES.split()), "register - manual\n"])
@@ -198,11 +198,67 @@ process.kill()
 process.wait(5)
 holds("an observer that waits takes next to no time of the processor", ticks < 0.1 * os.sysconf("SC_CLK_TCK"), f"{ticks} ticks in 4 s")
 
+# What each answer is, also where it breaks off: then the target has closed.
+def says(*parts):
+    """Reads a request with its body, and sends these bytes."""
+    def serve(target, client):
+        asked = b""
+        while b"\r\n\r\n" not in asked or asked.startswith(b"POST ") and len(asked.partition(b"\r\n\r\n")[2]) < 5:
+            part = client.recv(4096)
+            if not part:
+                return
+            asked += part
+        for part in parts:
+            client.sendall(part)
+    return serve
+
+
+PASS, CLOSED, MALFORMED, TOO_LONG = "pass", "fail: closed before its answer", "fail: malformed answer", "fail: too long an answer"
+HEAD = b"HTTP/1.1 200 OK\r\ncontent-length: %d\r\n\r\n"
+NOT_FOUND = b"\x80\0\0\0\x0fgrpc-status:5\r\n"
+ANSWERS = [
+    ("http", b"HTTP/1.1 200 OK\r\n", PASS), ("http", b"HTTP/1.0 204\r\nx: y\r\n", PASS), ("http", b"HTTP/1.1 302 Found\n", PASS),
+    ("http", b"HTTP/1.1 399 \r\n", PASS), ("http", b"HTTP/1.1 400 No\r\n", "fail: status 400"), ("http", b"HTTP/1.1 500 No\r\n", "fail: status 500"),
+    ("http", b"HTTP/1.1 199 No\r\n", "fail: status 199"),
+    *(("http", line, MALFORMED) for line in (b"HTTP/2.0 200 OK\r\n", b"HTTP/1.1 20\r\n", b"SSH-2.0-OpenSSH\r\n", b"\r\nHTTP/1.1 200 OK\r\n")),
+    ("grpc-web", HEAD % 27 + SERVING + OK_TRAILERS, PASS), ("grpc-web", HEAD % 27 + NOT_SERVING + OK_TRAILERS, "fail: not_serving"),
+    ("grpc-web", HEAD % 20 + NOT_FOUND, "fail: gRPC code 5"), ("grpc-web", b"HTTP/1.1 503 No\r\n\r\n", "fail: status 503"),
+    ("grpc-web", b"SSH-2.0-OpenSSH\r\n\r\n", MALFORMED),
+    # a frame with the flag 194
+    ("grpc-web", HEAD % 27 + SERVING + b"\xc2\x80", MALFORMED),
+    # answers that are cut
+    *(("http", cut, CLOSED) for cut in (b"", b"HTTP/1.1 20", b"HTTP/1.1 200 OK\r")),
+    *(("grpc-web", cut, CLOSED) for cut in (
+        b"", b"HTTP/1.1 200 OK\r\n", HEAD % 27, HEAD % 27 + SERVING, HEAD % 27 + NOT_SERVING + OK_TRAILERS[:-1])),
+    # up to 8,192 bytes
+    ("http", b"a" * 8_191, CLOSED), ("grpc-web", b"a" * 8_191, CLOSED), ("http", b"a" * 8_192, TOO_LONG),
+    ("grpc-web", HEAD % 20_000 + b"\0" + (19_000).to_bytes(4, "big") + b"a" * 8_192, TOO_LONG),
+]
+targets = [Target(says(said)) for _, said, _ in ANSWERS]
+printed, said, code = observe(server, "--once", "--every", "6", "--timeout", "5",
+                              *(f"good={kind}://127.0.0.1:{target.port}/" for (kind, _, _), target in zip(ANSWERS, targets)))
+found = printed.splitlines()
+holds("each answer has a line", (len(found), code) == (len(ANSWERS), 3), f"{printed} {code} {said}")
+for (kind, came, expected), line in zip(ANSWERS, found):
+    holds(f"{kind} is answered {came[:50]!r}..{came[-20:]!r} of {len(came)} bytes", line == f"good {expected}", f"{line}, and not {expected}")
+
 # What is refused.
 for words, expected in [(["--timeout", "5", "a=tcp://h:1"], "not below"), (["a=tcp://h:1/x"], "a path"), (["a=udp://h:1"], "another scheme"),
                         (["a"], "no URL"), (["a=tcp://h"], "no port"), ([], "TARGET")]:
     printed, said, code = observe(server, *words)
     holds(f"{words} is refused", code == 2 and expected in said, f"{code} {said}")
+MISTAKES = [
+    ("", "no URL"), ("tcp://localhost:1", "no URL"), ("=tcp://localhost:1", "no name"), ("a b=tcp://localhost:1", "a space or a control character in the name"),
+    *((text, "another scheme") for text in ("db=localhost:5432", "db=https://localhost", "db=tcp:/localhost:1", "db=TCP://localhost:1")),
+    ("web=http://h/a b", "a character that a URL has not"), ("web=http://h/a#b", "a character that a URL has not"),
+    ("web=http://h/\u00fc", "a character that a URL has not"), ("db=tcp://h:1/", "a path"),
+    *((text, "no port") for text in ("db=tcp://h", "db=tcp://h:", "far=grpc-web://h/api")), ("db=tcp://h:0", "no such port"),
+    ("db=tcp://h:65536", "no such port"), ("db=tcp://:1", "no host"), ("db=tcp://u@h:1", "no such host"), ("db=tcp://::1:1", "no such host"),
+]
+for text, mistake in MISTAKES:
+    printed, said, code = observe(server, text)
+    holds(f"the target {text!r} is refused", (printed, code) == ("", 2)
+          and said.startswith(f"error: invalid value '{text}' for '<TARGET>...': {mistake}, expected "), f"{code} {said}")
 server.stop()
 healthd.stop()
 os.path.exists(place) and os.remove(place)

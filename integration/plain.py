@@ -133,14 +133,14 @@ for target, expected in (
         ("/status/web1?verbose", "serving"), ("/status/web1?", "serving"), ("/status/web1?a=/b&c=%zz", "serving"),
         ("/healthz?x=1", "serving"), ("/status/?web1", "serving"), ("/status/%77eb1", "serving"), ("/status/web%31", "serving"),
         ("/status/a%2fb", "serving"), ("/status/a%2Fb", "serving"), ("/status/a/b", None), ("/status/b+c", "serving"),
-        ("/status/zw%C3%B6lf", "serving"), ("/status/zw%c3%b6lf", "serving"), ("/status/%66%6F%6F", None), ("/status/-", None),
+        ("/status/zw%C3%B6lf", "serving"), ("/status/zw%c3%b6lf", "serving"), ("/status/zw\u00f6lf", "serving"), ("/status/%66%6F%6F", None), ("/status/-", None),
         ("/status/WEB1", None), ("/status/web1%20", None), ("/status/web1%00", None), ("/status/%", None), ("/status/web1%", None),
         ("/status/web1%3", None), ("/status/%zz", None), ("/status/%3g", None), ("/status/%ff", None), ("/status/%c3", None),
         ("/status/web%2531", None), ("/status/50%25", "serving"), ("/status/50%", None), ("/status/" + "x" * 3000, None)):
     same(f"GET {target[:40]}", status(target, expected), asking(target))
 for target in ("/status", "/status/web1/", "//status/web1", "/STATUS/web1", "/healthz/", "/Healthz", "/service", "/services/", "/metrics/",
                "/metric", "/index.html", "/favicon.ico", "/grpc.health.v1.Health/", "/grpc.health.v1.Health/Checks", "/%73ervices",
-               "/../healthz", "*"):
+               "/../healthz", "*", "?", "http://localhost/healthz"):
     for method in ("GET", "HEAD", "POST", "OPTIONS"):
         same(f"{method} {target} is not found", status(target, None, method != "HEAD"), asking(target, method))
 

@@ -10,10 +10,7 @@ use std::process::Abort;
 use web_call::Method;
 
 mod bodies;
-mod chunks;
 mod faults;
-mod following;
-mod heads;
 mod requests;
 mod responses;
 

@@ -1,4 +1,3 @@
 //! Tests of `plain`. They see public calls alone.
 
-mod answers;
 pub(crate) mod staged;

@@ -15,8 +15,6 @@ mod doors;
 #[cfg(test)]
 mod exchanges;
 #[cfg(test)]
-mod heads;
-#[cfg(test)]
 mod inquiries;
 #[cfg(test)]
 mod memory;

@@ -1,6 +1,4 @@
 //! Tests of the crates that observe targets, `observation` and `observing`. They see public calls alone.
 
-mod answers;
 mod long;
-mod looks;
 mod targets;

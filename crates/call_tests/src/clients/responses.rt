@@ -1,7 +1,5 @@
 //! Responses, each as health-checking.md and PROTOCOL-WEB.md of grpc and RFC 9112 have it.
 
-use super::Seen;
-
 /// A Check of a service that is serving: a head of 100 bytes and a body of 27.
 pub(super) const SERVING: &[u8] = b"HTTP/1.1 200 OK\r\n\
     connection: close\r\n\
@@ -10,9 +8,6 @@ pub(super) const SERVING: &[u8] = b"HTTP/1.1 200 OK\r\n\
     \r\n\
     \0\0\0\0\x02\x08\x01\
     \x80\0\0\0\x0fgrpc-status:0\r\n";
-
-/// The body of that response.
-pub(super) const SERVING_BODY: &[u8] = b"\0\0\0\0\x02\x08\x01\x80\0\0\0\x0fgrpc-status:0\r\n";
 
 pub(super) const UNKNOWN_SERVICE: &[u8] = b"HTTP/1.1 200 OK\r\n\
     connection: close\r\n\
@@ -36,9 +31,3 @@ pub(super) const WATCH_OF_UNKNOWN: &[u8] = b"HTTP/1.1 200 OK\r\n\
     \r\n\
     0\r\n\
     \r\n";
-
-/// The head of a response in chunks.
-pub(super) const CHUNKED: &[u8] = b"HTTP/1.1 200 OK\r\ntransfer-encoding: chunked\r\n\r\n";
-
-/// What the first of these responses tells.
-pub(super) const TOLD: Seen<'static> = Ok((&[1], Some((0, b""))));

@@ -1,5 +1,5 @@
 use crate::same::{holds, same};
-use observation::{Kind, Target, TargetFault};
+use observation::{Kind, Target};
 
 /// Targets as they are written, their parts, and what is sent to them.
 static READ: [(&str, (&str, Kind, &str, u16), &[u8]); 11] = [
@@ -65,35 +65,5 @@ fn reads_targets_and_writes_requests(rt: HostRuntime) {
         holds(&rt, target.kind() == kind, text);
         let found = (target.name(), target.host(), target.port(), sent.as_slice());
         same(&rt, &found, &(name, host, port, request), &text);
-    }
-}
-
-static MISTAKES: [(&str, TargetFault); 19] = [
-    ("", TargetFault::NoUrl),
-    ("tcp://localhost:1", TargetFault::NoUrl),
-    ("=tcp://localhost:1", TargetFault::NoName),
-    ("a b=tcp://localhost:1", TargetFault::BadName),
-    ("db=localhost:5432", TargetFault::BadScheme),
-    ("db=https://localhost", TargetFault::BadScheme),
-    ("db=tcp:/localhost:1", TargetFault::BadScheme),
-    ("db=TCP://localhost:1", TargetFault::BadScheme),
-    ("web=http://h/a b", TargetFault::BadByte),
-    ("web=http://h/a#b", TargetFault::BadByte),
-    ("db=tcp://h:1/", TargetFault::PathOnTcp),
-    ("db=tcp://h", TargetFault::NoPort),
-    ("db=tcp://h:", TargetFault::NoPort),
-    ("far=grpc-web://h/api", TargetFault::NoPort),
-    ("db=tcp://h:0", TargetFault::BadPort),
-    ("db=tcp://h:65536", TargetFault::BadPort),
-    ("db=tcp://:1", TargetFault::NoHost),
-    ("db=tcp://u@h:1", TargetFault::BadHost),
-    ("db=tcp://::1:1", TargetFault::BadHost),
-];
-
-#[test]
-fn refuses_mistakes(rt: HostRuntime) {
-    for &(text, fault) in &MISTAKES {
-        let found = Target::read(rt.alloc(), text).err();
-        same(&rt, &found, &Some(fault), &text);
     }
 }
