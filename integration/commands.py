@@ -9,9 +9,8 @@ import subprocess
 import tempfile
 import threading
 
-from servers import HEALTHD, Server, holds, request_for, rest_of, until
+from servers import HEALTHD, PLAIN, Server, holds, request_for, rest_of, until
 
-PLAIN = {name: value for name, value in os.environ.items() if name != "HEALTHD_CONTROL"}
 folder = tempfile.mkdtemp(prefix="healthd-commands-", dir="/tmp")
 os.chmod(folder, 0o755)
 NONE = f"{folder}/none"

@@ -7,7 +7,7 @@ import subprocess
 import threading
 import time
 
-from servers import HEALTHD, NOT_SERVING, OK as OK_TRAILERS, SERVING, Server, holds, measured, timed, until
+from servers import HEALTHD, NOT_SERVING, OK as OK_TRAILERS, SERVING, Server, holds, measured, processor_seconds, timed, until
 
 NAMES = "good bad moved away silent closed cut slowly down other refused"
 SCRIPT = "".join([f"catalogue {NAMES} -\n", *(f"register {name} threshold 1 1 unknown\n" for name in NAMES.split()), "register - manual\n"])
@@ -192,13 +192,12 @@ listener.close()
 process = subprocess.Popen([HEALTHD, "observe", "--control", server.control, "--every", "60", f"good=tcp://127.0.0.1:{good.port}"],
                            stdout=subprocess.DEVNULL, stderr=subprocess.DEVNULL)
 time.sleep(4)
-with open(f"/proc/{process.pid}/stat") as file:
-    ticks = sum(int(it) for it in file.read().rpartition(")")[2].split()[11:13])
+taken = processor_seconds(process)
 process.kill()
 process.wait(5)
-holds("an observer that waits takes next to no time of the processor", ticks < 0.1 * os.sysconf("SC_CLK_TCK"), f"{ticks} ticks in 4 s")
+holds("an observer that waits takes next to no time of the processor", taken < 0.1, f"{taken} s in 4 s")
 
-# What each answer is, also where it breaks off: then the target has closed.
+
 def says(*parts):
     """Reads a request with its body, and sends these bytes."""
     def serve(target, client):
@@ -213,6 +212,7 @@ def says(*parts):
     return serve
 
 
+# What each answer is, also where it breaks off: then the target has closed.
 PASS, CLOSED, MALFORMED, TOO_LONG = "pass", "fail: closed before its answer", "fail: malformed answer", "fail: too long an answer"
 HEAD = b"HTTP/1.1 200 OK\r\ncontent-length: %d\r\n\r\n"
 NOT_FOUND = b"\x80\0\0\0\x0fgrpc-status:5\r\n"

@@ -1,10 +1,9 @@
 """What `ask` makes of a response: its head, as RFC 9112 has it, says where its body ends, by a length or by chunks."""
-import os
 import socket
 import subprocess
 import threading
 
-from servers import HEALTHD, OK, SERVING, holds
+from servers import HEALTHD, OK, PLAIN, SERVING, holds
 
 BODY = SERVING + OK
 UNKNOWN = b"\0\0\0\0\0"
@@ -12,7 +11,6 @@ START, CHUNKED = b"HTTP/1.1 200 OK\r\n", b"HTTP/1.1 200 OK\r\ntransfer-encoding:
 LENGTH = b"content-length: 27\r\n\r\n"
 CHUNK, END = b"1b\r\n" + BODY, b"\r\n0\r\n\r\n"
 TOLD, BAD, READ = (0, "SERVING\ngrpc-status 0\n", ""), (1, "", "healthd: bad response\n"), (1, "", "healthd: read\n")
-PLAIN = {name: value for name, value in os.environ.items() if name != "HEALTHD_CONTROL"}
 
 
 def http(code):

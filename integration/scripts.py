@@ -1,13 +1,11 @@
 """What is read in a script: what each of its lines comes to in a replay, which line is bad in one to replay, to serve or to run, what is
 said of one to run that is none, and what a script expects."""
 import json
-import os
 import subprocess
 
-from servers import HEALTHD, Server, holds
+from servers import HEALTHD, PLAIN, Server, holds
 
 SERVE = ["serve", "--port", "1", "--workers", "1", "--calls", "1"]
-PLAIN = {name: value for name, value in os.environ.items() if name != "HEALTHD_CONTROL"}
 
 
 def ran(command, script):

@@ -12,6 +12,8 @@ import time
 HERE = os.path.dirname(os.path.realpath(__file__))
 HEALTHD = os.environ.get("HEALTHD", f"{HERE}/../healthd")
 CHECK = os.path.splitext(os.path.basename(sys.argv[0]))[0]
+# The environment, where it does not say which server is asked.
+PLAIN = {name: value for name, value in os.environ.items() if name != "HEALTHD_CONTROL"}
 # Whether what holds is told, and not only what does not.
 TELLS = True
 LOGGED = re.compile(r"\d{4}-\d\d-\d\dT[\d:.]+Z ")
@@ -40,6 +42,13 @@ def fails(name, why):
     """Ends the check, where what has to be so in any case is not."""
     print(f"FAILED {CHECK} {name}: {why}", flush=True)
     sys.exit(1)
+
+
+def processor_seconds(process):
+    """How many seconds of the processor a process has taken."""
+    with open(f"/proc/{process.pid}/stat") as file:
+        ticks = sum(int(it) for it in file.read().rpartition(")")[2].split()[11:13])
+    return ticks / os.sysconf("SC_CLK_TCK")
 
 
 class Pauses:

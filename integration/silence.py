@@ -7,7 +7,7 @@ import subprocess
 import threading
 import time
 
-from servers import HEALTHD, NOT_SERVING, SERVING, Server, ask_line, holds, measured, timed
+from servers import HEALTHD, NOT_SERVING, SERVING, Server, ask_line, holds, measured, processor_seconds, timed
 
 SCRIPT = "catalogue a db -\nregister a threshold 3\nregister db manual\nregister - depends a\n"
 REPORT = f"/tmp/healthd-silence-{os.getpid()}"
@@ -173,17 +173,10 @@ server.stop()
 # It waits between its rounds.
 server = Server("--quiet", script=SCRIPT + "expect a 3600\n")
 holds("a script's expectation is told", expected(server) == 3_600, str(expected(server)))
-
-
-def ticks():
-    with open(f"/proc/{server.process.pid}/stat") as file:
-        return sum(int(it) for it in file.read().rpartition(")")[2].split()[11:13])
-
-
-before = ticks()
+before = processor_seconds(server.process)
 time.sleep(2)
-taken = ticks() - before
-holds("a server that waits for a report takes next to no time of the processor", taken < 0.1 * os.sysconf("SC_CLK_TCK"), f"{taken} ticks in 2 s")
+taken = processor_seconds(server.process) - before
+holds("a server that waits for a report takes next to no time of the processor", taken < 0.1, f"{taken} s in 2 s")
 server.stop()
 
 # What a script expects.

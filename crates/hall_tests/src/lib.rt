@@ -6,6 +6,8 @@ mod copies;
 #[cfg(test)]
 mod crews;
 #[cfg(test)]
+mod faults;
+#[cfg(test)]
 mod guest;
 #[cfg(test)]
 mod keeping;

@@ -108,7 +108,7 @@ fn register<R: Wait>(rt: &R, hall: &Hall<Threshold, KeepMany>, seat: &mut Seat<T
     let _ = hall.register(rt, seat, "a", Threshold::new(3, 1, Start::Up));
 }
 
-/// Has `a` be expected every second, over a new hall.
+/// Has `a` be expected every second, over a new hall of which nothing was expected before.
 fn play<R: Wait + Abort>(rt: &R, alloc: Global) {
     let catalogue = catalogue(rt, alloc, &["a", ""]);
     let slot = catalogue.slot("a").expect(rt, "a slot");
@@ -121,8 +121,17 @@ fn play<R: Wait + Abort>(rt: &R, alloc: Global) {
         seconds: 1,
         behind: 1,
     };
-    expectations.expect(slot, wish);
     register(rt, &hall, &mut others);
+    expect_round(
+        rt,
+        &hall,
+        &mut watchdog,
+        &mut own,
+        &At(Some(0)),
+        false,
+        1_000,
+    );
+    expectations.expect(slot, wish);
     play_over(rt, &hall, &mut own, others, &mut watchdog);
 }
 
