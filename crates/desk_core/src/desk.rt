@@ -490,14 +490,6 @@ impl<P: Probe, K: Keep> Desk<P, K> {
         word_of(self.history.len(), self.history.statuses())
     }
 
-    /// The same as `board`, with the statuses computed anew from all probes. It is there to be compared with.
-    pub fn board_anew(&self) -> u64
-        ensures word { result ≡ board_of (past self.now.journal) }
-        ensures legal { IsLegal (past self.now.journal) }
-    {
-        word_of(self.history.len(), self.slots.statuses(self.is_shut))
-    }
-
     /// What is shown of the slot now, or of a name that has none, and a watch of what changes from now on.
     pub fn open(&self, slot: Option<Slot>) -> (Watch, Serving)
         ensures watch { result.0 ≡ opened (changes_of (past self.now.journal)) slot }

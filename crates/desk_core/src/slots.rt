@@ -5,9 +5,7 @@ use crate::call::Call;
 use crate::owned::Owned;
 use crate::reply::Reply;
 use crate::slot::Slot;
-use crate::status::status_of;
-use crate::status_word::StatusWord;
-use probe_core::{Event, Probe, Rule, memory_tells_status};
+use probe_core::{Event, Probe, Rule};
 use std::alloc::{AllocError, Global};
 
 /// The probes of all slots. A slot past the end of the places has none.
@@ -19,13 +17,8 @@ pub(crate) struct Slots<P: Probe> {
 impl<P: Probe> Slots<P> {
     ghost use Rattle.std.specs.Prelude.{◌≡◌, ◌≢◌, ◌<◌, ◌≤◌, ℕ, List, [], None, Some, false, length, slice_index_or, slice_set, map, IsOk, OnOk};
     ghost use Rattle.std.specs.Option.{option_copied, option_map};
-    ghost use Rattle.desk_core.specs.declared.entry.Entry.{Entry};
-    ghost use Rattle.desk_core.specs.Past.{past};
-    ghost use Rattle.desk_core.specs.Status.{status_at};
-    ghost use Rattle.desk_core.specs.Board.{status_in};
     ghost use Rattle.desk_core.specs.Slots.{was_reset, HasSame, IsHeard, IsApplied, TakesFromSlot, held_at};
     ghost use Rattle.desk_core.specs.Mutation.{rule_of};
-    ghost use Rattle.desk_core.specs.Desk.{Keeps};
     ghost use Rattle.desk_core.specs.Silence.{falls_at};
     ghost use Rattle.probe_core.specs.declared.rule.Rule.{Rule};
     ghost use Rattle.probe_core.specs.Rule.{HasCounts, opening_memory};
@@ -165,22 +158,6 @@ impl<P: Probe> Slots<P> {
         for index in 0..self.places.len() {
             reset_place(&mut self.places[index]);
         }
-    }
-
-    /// The statuses of all slots, computed anew from the first slot up.
-    pub(crate) fn statuses(&self, is_shut: bool) -> StatusWord
-        ensures { (journal : List Entry) (max_entries : ℕ)
-            → Keeps self.now.places.items is_shut journal max_entries
-            → (i : ℕ) → i < 16 → status_in result i ≡ status_at (past journal) i }
-    {
-        memory_tells_status();
-        let mut statuses = StatusWord::none();
-        for number in 0..Slot::COUNT {
-            let slot = Slot::at(number);
-            let status = status_of(self.get(slot), is_shut, statuses);
-            statuses.set(slot, status);
-        }
-        statuses
     }
 }
 
