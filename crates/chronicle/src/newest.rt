@@ -13,7 +13,7 @@ const QUARTER: u32 = 0x4000_0000;
 type Quarters = [Slot; 4];
 
 /// What an entry is the newest of, for a service.
-#[derive(Clone, Copy, PartialEq, Eq)]
+#[derive(Clone, Copy)]
 pub enum Newest {
     /// Of those that changed its status.
     Change,

@@ -20,7 +20,7 @@ const OK: u16 = 200;
 const LENGTH: &[u8] = b"content-length";
 
 /// How the end of a body is told (RFC 9112, section 6).
-#[derive(Clone, Copy, PartialEq, Eq)]
+#[derive(Clone, Copy)]
 pub(crate) enum Framing {
     Chunked,
     /// So many bytes, at most 1,048,576.

@@ -1,5 +1,5 @@
 /// What stands behind the bytes that were read of a line.
-#[derive(Clone, Copy, PartialEq, Eq)]
+#[derive(Clone, Copy)]
 pub enum LineEnd {
     /// A line feed, which was read too.
     LineFeed,

@@ -120,7 +120,7 @@ impl<P: Probe> Console<P> for OneThread<P> {
 }
 
 /// A server that counts what it is told. It knows of three entries who made them, at the start of 1970, and expects one service.
-#[derive(Clone, Copy, Debug, PartialEq, Eq)]
+#[derive(Clone, Copy, PartialEq, Eq)]
 pub struct Told {
     /// What its sessions may ask for.
     pub rights: Rights,

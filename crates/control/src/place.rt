@@ -8,7 +8,7 @@ use std::net::SocketAddr;
 const MAX_PATH_LEN: usize = 107;
 
 /// Where a server is asked for changes.
-#[derive(Clone, Copy, Debug, PartialEq, Eq)]
+#[derive(Clone, Copy, Debug)]
 pub enum Place<'a> {
     /// A TCP socket. Port 0 has the system pick one.
     Address(SocketAddr),

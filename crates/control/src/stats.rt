@@ -12,7 +12,7 @@ pub struct OpenNow {
 }
 
 /// The calls that have ended.
-#[derive(Clone, Copy, Debug, PartialEq, Eq)]
+#[derive(Clone, Copy, PartialEq, Eq)]
 pub struct Ended {
     pub calls: u64,
     /// Those of them whose time was up.

@@ -1,7 +1,7 @@
 use crate::rights::Rights;
 
 /// What holds for the sessions of a place.
-#[derive(Clone, Copy, Debug, PartialEq, Eq)]
+#[derive(Clone, Copy)]
 pub struct Terms {
     /// What they may ask for.
     pub rights: Rights,

@@ -12,7 +12,7 @@ use std::os::unix::net::SocketAddr;
 use std::{fs, io};
 
 /// Who may connect to a Unix socket, which asks for the right to write.
-#[derive(Clone, Copy, PartialEq, Eq)]
+#[derive(Clone, Copy)]
 pub enum Access {
     /// Its owner alone: its file has the mode 0600.
     Owner,

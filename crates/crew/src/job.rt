@@ -1,7 +1,7 @@
 use std::io::{Read, Write};
 
 /// A job that could not be opened. Nothing was answered.
-#[derive(Clone, Copy, Debug, PartialEq, Eq)]
+#[derive(Clone, Copy, Debug)]
 pub struct Unopened;
 
 /// A call that waits to be served. It may wait where it is opened, and keeps what it needs for that.

@@ -10,7 +10,7 @@ pub trait Turnstile: Sync {
 }
 
 /// A turnstile that holds no call.
-#[derive(Clone, Copy, PartialEq, Eq)]
+#[derive(Clone, Copy)]
 pub struct OpenTurnstile;
 
 impl Turnstile for OpenTurnstile {

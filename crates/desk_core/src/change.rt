@@ -11,7 +11,7 @@ use tail::Tail;
 
 /// What one entry changed for a service's watchers: from it on, until the service's next change, it is shown with this
 /// status, and just before it with another.
-#[derive(Clone, Copy, PartialEq, Eq)]
+#[derive(Clone, Copy)]
 pub struct Change {
     /// The place of the entry in the journal, from 0.
     pub at: u32,

@@ -1,5 +1,5 @@
 /// How long the history of a registry is.
-#[derive(Clone, Copy, Debug, PartialEq, Eq)]
+#[derive(Clone, Copy)]
 pub struct Extent {
     /// All entries that were ever made.
     pub entries: u32,

@@ -71,7 +71,7 @@ impl Keep for KeepMany {
 }
 
 /// For how many entries, and for how many changes, there is memory.
-#[derive(Clone, Copy, Debug, Drop, PartialEq, Eq)]
+#[derive(Clone, Copy, Drop)]
 pub struct Capacity {
     pub entries: usize,
     pub changes: usize,

@@ -15,7 +15,7 @@ pub struct Made<P: Probe> {
 }
 
 /// What came of a change that a registrar was asked for.
-#[derive(Clone, Copy, PartialEq, Eq)]
+#[derive(Clone, Copy)]
 pub struct Effect {
     pub result: Result<Reply, Refusal>,
     /// Whether it changed what is shown of a service.

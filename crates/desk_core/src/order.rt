@@ -3,7 +3,7 @@ use crate::catalogue::Catalogue;
 use crate::name::Name;
 
 /// A change that a server takes while it runs, with the name of its service.
-#[derive(Debug, Drop)]
+#[derive(Drop)]
 pub enum Order {
     Observe(Name, Finding),
     Set(Name, Setting),

@@ -10,7 +10,7 @@ pub struct Cause {
 }
 
 /// Why a service has the status that it has.
-#[derive(Clone, Copy, Debug, PartialEq, Eq)]
+#[derive(Clone, Copy, PartialEq, Eq)]
 pub enum Reason {
     /// It is serving.
     Serving,

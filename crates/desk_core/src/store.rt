@@ -6,7 +6,7 @@ use crate::entry::Entry;
 use crate::keep::Keep;
 
 /// Entries were not stored. What a crash leaves may have all of them or none.
-#[derive(Clone, Copy, Drop, PartialEq, Eq)]
+#[derive(Clone, Copy, Drop)]
 pub struct NotStored;
 
 /// Stores the entry, if there is a store.

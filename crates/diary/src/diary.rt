@@ -22,7 +22,7 @@ use watchdog::Expectations;
 const LAST_TIMES: u32 = 1_024;
 
 /// What a registry has before its server serves.
-#[derive(Clone, Copy, PartialEq, Eq)]
+#[derive(Clone, Copy)]
 pub struct Setup {
     /// Where the server serves.
     pub address: SocketAddr,

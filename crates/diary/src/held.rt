@@ -1,5 +1,5 @@
 /// How much a server holds at once, or has room for.
-#[derive(Clone, Copy, PartialEq, Eq)]
+#[derive(Clone, Copy)]
 pub struct Held {
     /// Connections of clients.
     pub connections: u32,

@@ -4,7 +4,7 @@ ghost use Rattle.std.specs.Int.{w32, to_be_bytes};
 use crate::NoMemory;
 
 /// A frame that was taken off a stream.
-#[derive(Debug, Drop, PartialEq, Eq)]
+#[derive(Drop)]
 pub struct Frame {
     pub flag: u8,
     pub body: Vec<u8>,

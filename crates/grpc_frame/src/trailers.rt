@@ -19,7 +19,7 @@ const TEXT: &[u8] = b"grpc-message:";
 const LINE_END: &[u8] = b"\r\n";
 
 /// What the trailers of a response tell: the number of a status, and its text.
-#[derive(Clone, Copy, PartialEq, Eq)]
+#[derive(Clone, Copy)]
 pub struct Trailers<'a> {
     pub code: u32,
     pub text: &'a [u8],

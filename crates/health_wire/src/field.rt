@@ -18,7 +18,7 @@ const I32: u8 = 5;
 const MAX_FIELD_NUMBER: u32 = 536_870_911;
 
 /// What a field holds: of wire type 0 (VARINT), 1 (I64), 2 (LEN) or 5 (I32).
-#[derive(Clone, Copy, Debug, PartialEq, Eq)]
+#[derive(Clone, Copy)]
 pub enum Value<'a> {
     Varint(u64),
     Eight([u8; 8]),
@@ -27,7 +27,7 @@ pub enum Value<'a> {
 }
 
 /// A field of a message.
-#[derive(Clone, Copy, Debug, PartialEq, Eq)]
+#[derive(Clone, Copy)]
 pub struct Field<'a> {
     pub number: u32,
     pub value: Value<'a>,

@@ -6,7 +6,7 @@ use std::io::ErrorKind;
 use std::{fmt, io};
 
 /// Why the entries of a journal's file are not printed.
-#[derive(Clone, Copy, Debug, Drop)]
+#[derive(Clone, Copy, Drop)]
 pub enum PrintingFault {
     /// There is no plain file.
     NotAFile,

@@ -2,7 +2,7 @@ use std::alloc::AllocError;
 use std::fmt;
 
 /// Why a registry was not restored.
-#[derive(Clone, Copy, Debug, PartialEq, Eq, Drop)]
+#[derive(Clone, Copy, Debug, Drop)]
 pub enum RestoreFault {
     Memory,
     /// There are more entries than a registry may have.

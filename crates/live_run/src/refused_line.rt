@@ -5,7 +5,7 @@ ghost use Rattle.live_run.specs.RefusedLine.{IsFirstRefused, IsMade, is_made};
 use desk_core::{Refusal, Reply};
 
 /// A line of a script whose change was not made as it was asked for.
-#[derive(Clone, Copy, Debug, PartialEq, Eq)]
+#[derive(Clone, Copy, Debug)]
 pub struct RefusedLine {
     /// Its number in the script's text.
     pub number: u32,

@@ -5,7 +5,7 @@ use reactor::{Socket, Stream};
 use std::io;
 
 /// Which of a server's two places a connection came to.
-#[derive(Clone, Copy, Debug, PartialEq, Eq)]
+#[derive(Clone, Copy)]
 pub enum Entrance {
     /// That of calls.
     Calls,

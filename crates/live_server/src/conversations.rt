@@ -17,7 +17,7 @@ pub struct Counts {
 }
 
 /// A look through the keys of a table, for those whose turn it is.
-#[derive(Clone, Copy, PartialEq, Eq)]
+#[derive(Clone, Copy)]
 pub(crate) struct Look {
     /// The key that it goes on from.
     pub(crate) from: usize,

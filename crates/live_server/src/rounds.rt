@@ -322,7 +322,7 @@ fn is_waiting(events: &Events) -> bool {
 }
 
 /// Which of the connections that events name take their turns.
-#[derive(Clone, Copy, PartialEq, Eq)]
+#[derive(Clone, Copy)]
 enum Named {
     /// Those with an open Watch.
     Watches,

@@ -14,7 +14,7 @@ pub struct Tally {
 }
 
 /// The numbers of a tally.
-#[derive(Clone, Copy, PartialEq, Eq)]
+#[derive(Clone, Copy)]
 pub struct Tallied {
     /// Connections that are held.
     pub connections: u64,

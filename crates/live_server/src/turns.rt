@@ -56,7 +56,7 @@ impl Round {
 }
 
 /// Which conversations are given up.
-#[derive(Clone, Copy, PartialEq, Eq)]
+#[derive(Clone, Copy)]
 pub(crate) enum Ending {
     /// Those whose time is up.
     Late,

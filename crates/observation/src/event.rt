@@ -1,5 +1,5 @@
 /// What a look is told.
-#[derive(Clone, Copy, Debug, PartialEq, Eq)]
+#[derive(Clone, Copy)]
 pub enum Event<'a> {
     /// The name of the host has so many addresses.
     Resolved(usize),

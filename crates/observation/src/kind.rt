@@ -1,5 +1,5 @@
 /// How a target is asked.
-#[derive(Clone, Copy, PartialEq, Eq)]
+#[derive(Clone, Copy)]
 pub enum Kind {
     /// By a connection, and nothing more.
     Tcp,

@@ -3,7 +3,7 @@ ghost use Rattle.std.specs.Prelude.{◌<◌};
 use crate::verdict::Verdict;
 
 /// A connection that is tried, to the address of this place among so many, and the reading until which it has time.
-#[derive(Clone, Copy, PartialEq, Eq)]
+#[derive(Clone, Copy)]
 pub struct Dial {
     pub place: usize,
     pub count: usize,
@@ -12,7 +12,7 @@ pub struct Dial {
 }
 
 /// What a look asks for next.
-#[derive(Clone, Copy, PartialEq, Eq)]
+#[derive(Clone, Copy)]
 pub enum Stage {
     /// The addresses of the host.
     Naming,
@@ -25,7 +25,7 @@ pub enum Stage {
 }
 
 /// What comes of an event.
-#[derive(Clone, Copy, PartialEq, Eq)]
+#[derive(Clone, Copy)]
 pub enum Step {
     Stays,
     Goes(Stage),

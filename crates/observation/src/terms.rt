@@ -1,7 +1,7 @@
 ghost use Rattle.std.specs.Prelude.{◌<◌};
 
 /// Every how many milliseconds a target is looked at, and how many a look may take: fewer, so that it is over before the next.
-#[derive(Clone, Copy, Debug, PartialEq, Eq)]
+#[derive(Clone, Copy)]
 pub struct Terms {
     pub period: u32,
     pub limit: u32,

@@ -9,7 +9,7 @@ use std::net::Ipv6Addr;
 const HTTP_PORT: u16 = 80;
 
 /// The URL of a target in its parts, as they are written.
-#[derive(Clone, Copy, PartialEq, Eq)]
+#[derive(Clone, Copy)]
 pub(crate) struct Url<'a> {
     pub(crate) kind: Kind,
     pub(crate) authority: &'a str,

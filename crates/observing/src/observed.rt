@@ -4,7 +4,7 @@ use std::io::ErrorKind;
 use std::{fmt, io};
 
 /// How many reports were told, and the server did what they ask for, and how many were not.
-#[derive(Clone, Copy, PartialEq, Eq)]
+#[derive(Clone, Copy)]
 pub struct Telling {
     pub told: u64,
     pub untold: u64,
@@ -19,7 +19,7 @@ pub struct Observed {
 }
 
 /// Why nothing can be observed.
-#[derive(Clone, Copy, PartialEq, Eq)]
+#[derive(Clone, Copy)]
 pub enum ObserveFault {
     /// There are 2^32 targets or more.
     Targets,

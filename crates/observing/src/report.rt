@@ -1,5 +1,5 @@
 /// What is told of a look at the target of this place.
-#[derive(Clone, Copy, PartialEq, Eq)]
+#[derive(Clone, Copy)]
 pub(crate) struct Report {
     pub(crate) place: usize,
     pub(crate) passes: bool,

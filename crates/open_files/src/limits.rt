@@ -20,7 +20,7 @@ const MAX_TEXT_LEN: u64 = 65_536;
 const NAME: &[u8] = b"Max open files ";
 
 /// How many files a process may have open: the soft limit, which the system refuses to go over.
-#[derive(Clone, Copy, Debug, PartialEq, Eq)]
+#[derive(Clone, Copy)]
 pub enum OpenFiles {
     /// At most so many.
     AtMost(u64),

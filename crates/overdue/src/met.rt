@@ -1,7 +1,7 @@
 use std::time::Instant;
 
 /// What the timer of one service meets, with the reading of the clock.
-#[derive(Clone, Copy, PartialEq, Eq)]
+#[derive(Clone, Copy)]
 pub enum Met {
     /// From now on a report is expected at least every so many seconds; 0 ends that.
     Expected(Instant, u32),

@@ -1,5 +1,5 @@
 /// What a server counts, beside the history of its registry.
-#[derive(Clone, Copy, PartialEq, Eq)]
+#[derive(Clone, Copy)]
 pub struct Figures {
     /// The most entries that the history may have.
     pub most: u32,

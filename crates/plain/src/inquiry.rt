@@ -11,7 +11,7 @@ use httparse::spans::{EMPTY_HEADER_SPAN, parse_request};
 const MAX_LINES: usize = 32;
 
 /// What a request asks for that is no call.
-#[derive(Clone, Copy, PartialEq, Eq)]
+#[derive(Clone, Copy)]
 pub struct Inquiry<'a> {
     pub(crate) verb: Verb,
     pub(crate) target: Target<'a>,

@@ -5,7 +5,7 @@ use crate::verb::Verb;
 use std::alloc::{AllocError, Global};
 
 /// What a response is, beside its body.
-#[derive(Clone, Copy, PartialEq, Eq)]
+#[derive(Clone, Copy)]
 pub(crate) enum Kind {
     Good,
     Unavailable,

@@ -18,7 +18,7 @@ const CHECK: &[u8] = b"/grpc.health.v1.Health/Check";
 const WATCH: &[u8] = b"/grpc.health.v1.Health/Watch";
 
 /// What the path of a request names.
-#[derive(Clone, Copy, PartialEq, Eq)]
+#[derive(Clone, Copy)]
 pub(crate) enum Target<'a> {
     /// The status of the service whose name stands escaped there.
     Status(&'a [u8]),

@@ -8,7 +8,7 @@ const HEAD: &[u8] = b"HEAD";
 const POST: &[u8] = b"POST";
 
 /// A method of HTTP, as far as it matters here.
-#[derive(Clone, Copy, PartialEq, Eq)]
+#[derive(Clone, Copy)]
 pub(crate) enum Verb {
     Get,
     Head,

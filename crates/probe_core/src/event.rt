@@ -1,5 +1,5 @@
 /// What happens to a service: a finding, `Pass` or `Fail`, or a setting, `Up` or `Down`.
-#[derive(Clone, Copy, Debug, PartialEq, Eq)]
+#[derive(Clone, Copy)]
 pub enum Event {
     Pass,
     Fail,

@@ -65,7 +65,7 @@ pub struct Occasion {
 }
 
 /// What was read of what is thrown away.
-#[derive(Clone, Copy, PartialEq, Eq)]
+#[derive(Clone, Copy)]
 enum Drained {
     /// There may be more.
     More,
@@ -78,7 +78,7 @@ enum Drained {
 }
 
 /// What the system reports of a socket.
-#[derive(Clone, Copy, PartialEq, Eq)]
+#[derive(Clone, Copy)]
 enum Reported {
     Nothing,
     Input,

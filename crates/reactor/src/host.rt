@@ -3,7 +3,7 @@ use std::alloc::Global;
 use web_call::Turn;
 
 /// What a step of a host came to.
-#[derive(Clone, Copy, PartialEq, Eq)]
+#[derive(Clone, Copy)]
 pub enum Step {
     /// The machine has gone on, and may have more to send.
     Went,

@@ -30,7 +30,7 @@ pub enum Fate {
 }
 
 /// A turn of a machine.
-#[derive(Clone, Copy, Debug, PartialEq, Eq)]
+#[derive(Clone, Copy)]
 pub struct Turned {
     /// How it leaves the machine.
     pub fate: Fate,
@@ -39,7 +39,7 @@ pub struct Turned {
 }
 
 /// What a piece of work came to.
-#[derive(Clone, Copy, PartialEq, Eq)]
+#[derive(Clone, Copy)]
 enum Piece {
     /// There may be more to do at once.
     Went,

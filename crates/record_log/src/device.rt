@@ -7,7 +7,7 @@ ghost use Rattle.record_log.specs.Device.{IsDurable, Follows, IsTorn, IsWritten,
 use std::alloc::{AllocError, AllocFailed, Global};
 use std::fmt;
 
-#[derive(Clone, Copy, Debug, PartialEq, Eq)]
+#[derive(Clone, Copy, Debug)]
 pub enum DeviceError {
     Memory,
     Failed,

@@ -10,7 +10,7 @@ use std::fmt;
 const MAX_NAME_LEN: usize = 128;
 
 /// What is wrong with the names of a catalogue, in the words that a message has for it.
-#[derive(Clone, Copy, PartialEq, Eq)]
+#[derive(Clone, Copy)]
 pub(crate) enum CatalogueComplaint<'a> {
     NoNames,
     /// How many there are.

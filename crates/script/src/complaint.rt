@@ -14,7 +14,7 @@ use std::alloc::{AllocError, Global};
 use std::fmt;
 
 /// What is wrong with a line of a script to run, in the words that a message has for it.
-#[derive(Clone, Copy, PartialEq, Eq)]
+#[derive(Clone, Copy)]
 pub(crate) enum Complaint<'a> {
     /// The first line is another one.
     NeedsCatalogue,

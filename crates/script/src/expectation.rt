@@ -12,14 +12,14 @@ use std::alloc::{AllocError, Global};
 const MAX_SECONDS: u32 = 86_400;
 
 /// A service has to be reported at least every so many seconds. 0 seconds end that.
-#[derive(Debug, Drop)]
+#[derive(Drop)]
 pub struct Expectation {
     pub name: Name,
     pub seconds: u32,
 }
 
 /// An expectation of a script, with the number of its line in the text.
-#[derive(Debug, Drop)]
+#[derive(Drop)]
 pub struct ScriptExpectation {
     pub expectation: Expectation,
     pub number: u32,

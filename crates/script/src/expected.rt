@@ -13,14 +13,14 @@ use probe_core::Rule;
 use std::alloc::{AllocError, Global};
 
 /// A slot has to be reported at least every so many seconds, 1 or more.
-#[derive(Clone, Copy, Debug, PartialEq, Eq)]
+#[derive(Clone, Copy)]
 pub struct Expected {
     pub slot: Slot,
     pub seconds: u32,
 }
 
 /// An expectation that does not stand, with the number of its line in the text.
-#[derive(Clone, Copy, Debug, PartialEq, Eq)]
+#[derive(Clone, Copy)]
 pub struct RefusedExpectation {
     pub number: u32,
     pub answer: Result<Reply, Refusal>,

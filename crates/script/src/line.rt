@@ -14,7 +14,7 @@ use probe_core::Rule;
 use std::alloc::{AllocError, Global};
 
 /// What a line of a script says.
-#[derive(Debug, Drop)]
+#[derive(Drop)]
 pub enum Line {
     Register(Name, Rule),
     Retire(Name),

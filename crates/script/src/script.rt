@@ -5,7 +5,7 @@ use std::marker::Model;
 
 /// What a script is read for: to be run line by line, with an answer to each; to set a server up and give it orders; or to set one up
 /// alone, in a text that may have comments and lines that end in CR LF.
-#[derive(Clone, Copy, PartialEq, Eq)]
+#[derive(Clone, Copy)]
 pub enum Mode {
     Replay,
     Serve,

@@ -1,7 +1,7 @@
 use std::alloc::{AllocError, AllocFailed};
 
 /// Why a hall was not set up by the entries of an earlier run.
-#[derive(Clone, Copy, PartialEq, Eq, Drop)]
+#[derive(Clone, Copy, Drop)]
 pub enum AgainFault {
     Memory,
     /// The entry of this number, counted from 0, is none that a registry makes behind those before it.

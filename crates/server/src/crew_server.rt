@@ -25,7 +25,7 @@ use web_call::Limits;
 const LIMITS: Limits = Limits { looks: u32::MAX };
 
 /// How many calls are served, and by how many workers.
-#[derive(Clone, Copy, Debug, PartialEq, Eq)]
+#[derive(Clone, Copy)]
 pub struct Capacity {
     pub workers: u16,
     pub calls: u16,

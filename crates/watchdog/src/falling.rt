@@ -11,7 +11,7 @@ use probe_core::Probe;
 use std::sync::Wait;
 
 /// What came of bringing a service down.
-#[derive(Clone, Copy, PartialEq, Eq)]
+#[derive(Clone, Copy)]
 pub struct Fall {
     /// Whether a fail was made.
     pub made: bool,

@@ -5,7 +5,7 @@ ghost use Rattle.watchdog.specs.Wish.{wish_in, word_of};
 pub const MAX_SECONDS: u32 = 86_400;
 
 /// That a service is to be heard at least every so many seconds from a place of the journal on, or with 0 no more.
-#[derive(Clone, Copy, PartialEq, Eq)]
+#[derive(Clone, Copy)]
 pub struct Wish {
     pub seconds: u32,
     /// How many entries stand before it.

@@ -11,7 +11,7 @@ const COMPRESSED_MESSAGE: &str = "compressed message";
 const MALFORMED_REQUEST: &str = "malformed request";
 
 /// What a request asks for, or the status that refuses it.
-#[derive(Clone, Copy, PartialEq, Eq)]
+#[derive(Clone, Copy)]
 pub enum Ask<'a> {
     Status(Code, &'static str),
     Check(&'a str),

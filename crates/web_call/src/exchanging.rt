@@ -24,7 +24,7 @@ use std::io::{Read, Write};
 const BUFFER_LEN: usize = 512;
 
 /// What one exchange may cost.
-#[derive(Clone, Copy, PartialEq, Eq)]
+#[derive(Clone, Copy)]
 pub struct Limits {
     /// The most Looks that a Watch takes.
     pub looks: u32,
