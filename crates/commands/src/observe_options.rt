@@ -136,6 +136,7 @@ pub fn targets_in<'a>(
     for text in texts {
         match Target::read(alloc, text) {
             Ok(target) => targets.push(target)?,
+            Err(TargetFault::OutOfMemory) => return Err(AllocError),
             Err(fault) => return Ok(Err(BadObserve::Target(text, fault))),
         }
     }
