@@ -6,7 +6,7 @@ import tempfile
 import threading
 import time
 
-from servers import HEALTHD, Server, holds, measured, timed
+from servers import HEALTHD, MESSAGE, Server, holds, measured, rest_of, timed
 
 
 def ran(*words, **options):
@@ -35,6 +35,70 @@ with socket.create_server(("127.0.0.1", 0)) as silent:
     # `run` where its address is in use.
     found = ran("run", "--listen", f"127.0.0.1:{port}", "--connections", "10", input="catalogue -\n")
     holds("run tells that its address is in use", found == (1, "", f"healthd: bind 127.0.0.1:{port}: address in use\n"), str(found))
+
+def answering(act, *options):
+    """What comes of an `ask` of at most a second, and how long that takes, at a server that does this with its one client."""
+    with socket.create_server(("127.0.0.1", 0)) as listener:
+        def serve():
+            client, _ = listener.accept()
+            with client:
+                try:
+                    act(client)
+                except OSError:
+                    pass
+
+        threading.Thread(target=serve, daemon=True).start()
+        return timed(ran, "ask", "--port", str(listener.getsockname()[1]), "--timeout", "1", *options)
+
+
+def send_bytewise(client):
+    client.sendall(b"HTTP/1.1 200 OK\r\na: ")
+    for _ in range(1_000):
+        client.sendall(b"b")
+        time.sleep(0.05)
+
+
+def send_statuses(client):
+    """Sends a Watch more statuses than it has time for."""
+    client.sendall(b"HTTP/1.1 200 OK\r\ntransfer-encoding: chunked\r\n\r\n")
+    while True:
+        client.sendall((MESSAGE + b"\1\r\n") * 1_000)
+
+
+# The time of an `ask` is that of the whole call, however many bytes come, and how slowly.
+GIVEN_UP = "healthd: timed out after 1 s\n"
+(status, out, err), seconds = answering(send_bytewise)
+holds("ask gives up where a server sends byte by byte", (status, out, err) == (1, "", GIVEN_UP), f"{status} {out} {err}")
+holds("and not before its time is up where a server sends byte by byte", seconds >= 1, f"{seconds} s")
+measured("ask --timeout 1 where a server sends byte by byte", seconds, 5)
+(status, out, err), seconds = answering(send_statuses, "--watch")
+holds("ask gives up where a server sends statuses without end", (status, set(out.split("\n")), err) == (1, {"SERVING", ""}, GIVEN_UP), f"{status} {err}")
+holds("and not before its time is up where a server sends without end", seconds >= 1, f"{seconds} s")
+measured("ask --timeout 1 where a server sends without end", seconds, 5)
+
+
+def unread(name, act):
+    """What comes of asking at a server that reads nothing until it is over, and how long that takes."""
+    with socket.socket() as listener:
+        # Small segments, so that the client's side has no room for all of it either.
+        listener.setsockopt(socket.IPPROTO_TCP, socket.TCP_MAXSEG, 88)
+        listener.setsockopt(socket.SOL_SOCKET, socket.SO_RCVBUF, 1_024)
+        listener.bind(("127.0.0.1", 0))
+        listener.listen()
+        found = timed(act, listener.getsockname()[1])
+        sent = rest_of(listener.accept()[0])
+    holds(f"{name} has not written all where a server reads nothing", 0 < len(sent) < 60_000, f"{len(sent)} bytes")
+    return found
+
+
+found, seconds = unread("ask", lambda port: ran("ask", "--port", str(port), "--timeout", "1", "--name", "a" * 100_000))
+holds("ask gives up where a server reads nothing", found == (1, "", GIVEN_UP), str(found))
+holds("and not before its time is up where a server reads nothing", seconds >= 1, f"{seconds} s")
+measured("ask --timeout 1 where a server reads nothing", seconds, 5)
+found, seconds = unread("tell", lambda port: ran("tell", "--control", f"127.0.0.1:{port}", "--timeout", "1", input="a" * 65_000))
+holds("tell gives up where a server reads nothing", found == (1, "", "healthd: timed out, the change may still be made\n"), str(found))
+holds("and not before its time is up where its line is not read", seconds >= 1, f"{seconds} s")
+measured("tell --timeout 1 where a server reads nothing", seconds, 5)
 
 # `run` where a change of its script is refused.
 found = ran("run", "--listen", "127.0.0.1:0", "--connections", "10", input="catalogue a -\nregister a threshold 0\n")

@@ -3,6 +3,7 @@ that says what it is told to."""
 import fcntl
 import os
 import pty
+import re
 import shutil
 import socket
 import subprocess
@@ -84,6 +85,12 @@ ends_run(["--listen", "[::1]:8080", "--script", "s"], "read s: not found")
 found = ran("ask", "--port", "65535", "--host", "::1", "--timeout", "3600", "--expect", "SERVING")
 holds("ask asks at the host and the port that it is told", found[:2] == (1, "") and found[2].startswith("healthd: connect [::1]:65535: "), str(found))
 
+# Seconds are told apart to the thousandth: those of --timeout are fewer than those of --every.
+for every, timeout in (("5", "4.999"), ("0.5", "0.499"), ("0.25", "0.249"), ("0.002", "0.001"), ("1.050", "1.049"), ("1.051", "1.05"), ("1.1", "1.050"),
+                       ("86400", "86399.999")):
+    found = ran("observe", "--control", NONE, "--once", "--every", every, "--timeout", timeout, "a=tcp://127.0.0.1:1")
+    holds(f"observe looks every {every} seconds for {timeout}", found[0] in (1, 3) and found[1].startswith("a fail: "), str(found))
+
 # Others are refused in the words of clap, behind `error: `.
 MISSING = "the following required arguments were not provided:\n  "
 
@@ -158,8 +165,13 @@ REFUSED += [
     (["observe", "--control", "run/healthd", "db=tcp://a:1"], NOWHERE.format("run/healthd")),
     (["observe", "--control", "/a", "--every", "0", "db=tcp://a:1"], f"invalid value '0' for '--every <S>': {SECONDS}"),
     (["observe", "--control", "/a", "--timeout", "1 s", "db=tcp://a:1"], f"invalid value '1 s' for '--timeout <S>': {SECONDS}"),
+    *((["observe", "--control", "/a", "--every", text, "db=tcp://a:1"], f"invalid value '{text}' for '--every <S>': {SECONDS}")
+      for text in ("86400.001", "86401", "0.000", "", ".5", "1.", "1.0005", "1.+5")),
+    (["observe", "--control", "/a", "--timeout", "0", "db=tcp://a:1"], f"invalid value '0' for '--timeout <S>': {SECONDS}"),
     (["observe", "--control", "/a", "--every", "2", "db=tcp://a:1"],
      "invalid value '2' for '--timeout <S>': not below the 2 seconds of --every\n"),
+    *((["observe", "--control", "/a", "--every", text, "--timeout", text, "db=tcp://a:1"],
+       f"invalid value '{text}' for '--timeout <S>': not below the {text} seconds of --every\n") for text in ("0.001", "0.25", "1.050", "86400")),
     (["observe", "--control", "/a", "db=tcp://a:1/path"],
      "invalid value 'db=tcp://a:1/path' for '<TARGET>...': a path, expected tcp://HOST:PORT alone\n"),
     (["observe", "--control", "/a", "db=tcp://a:1", "web"],
@@ -199,6 +211,11 @@ for command, parts in HELP.items():
     status, out, err = ran(command, "--help")
     lost = [part for part in parts if part not in out]
     holds(f"{command} --help says all that it has to", (status, err, lost) == (0, "", []), f"{status} {err} {lost}")
+# And what each option comes to that is not given. One that is not here comes to nothing.
+DEFAULTS = {"run": ["127.0.0.1:8080", "10000"], "ask": ["127.0.0.1"], "tell": ["10"], "status": ["10"], "history": ["10"], "observe": ["5", "2"]}
+for command in ("body", "replay", "serve", "run", "ask", "tell", "status", "history", "journal", "observe"):
+    found = re.findall(r"\[default: ([^\]]*)\]", ran(command, "--help")[1])
+    holds(f"{command} has its defaults alone", found == DEFAULTS.get(command, []), str(found))
 
 # `body`: worked bodies of a Check, where the empty name and `b` are serving, `a` is not, and `c` is unknown.
 OK = b"\x80\0\0\0\x0fgrpc-status:0\r\n"
@@ -481,7 +498,9 @@ TRAILERS = [
     (b"grpc-message:a\r\ngrpc-message:b\r\ngrpc-status:2", "grpc-status 2 a\n"), (b"grpc-status:5\r\ngrpc-status:0\r\ngrpc-message:a\r\n", "grpc-status 5 a\n"),
     (b"GRPC-Message: x\r\na:b\r\ngrpc-status:\t7", "grpc-status 7 x\n"), (b"grpc-status :3\r\ngrpc-status:2\r\ngrpc-message:a", "grpc-status 2 a\n"),
     (b"grpc-message:\t a b: c \t\r\nGrpc-Status: \t14 \r\n", "grpc-status 14 a b: c\n"), (b"grpc-message:a\r\ngrpc-status:000000007", "grpc-status 7 a\n"),
-    (b"grpc-message:a\r\ngrpc-status:999999999", "grpc-status 999999999 a\n"), (b"grpc-status: 0\r\n", "grpc-status 0\n"), *((block, None) for block in (
+    (b"grpc-message:a\r\ngrpc-status:999999999", "grpc-status 999999999 a\n"), (b"grpc-status: 0\r\n", "grpc-status 0\n"),
+    # the text stands behind a space, also where there is none, and behind another code than 0 alone
+    (b"grpc-status:13", "grpc-status 13 \n"), (b"grpc-status:0\r\ngrpc-message:fine", "grpc-status 0\n"), *((block, None) for block in (
         b"", b"\r\n", b"grpc-status:0\r\nab", b"grpc-status:0\r\n\r\n", b"grpc-message:x", b"grpc-status:x", b"grpc-status:", b"grpc-status:+1",
         b"grpc-status:1234567890", b"grpc-status:1\r", b"grpc-status:x\r\ngrpc-status:0\r\n")),
 ]
@@ -496,6 +515,49 @@ for options, answer, expected in ASKS:
     holds(f"ask {' '.join(options)} is answered {answer[:24]!r}..{answer[-16:]!r} of {len(answer)} bytes", found == expected, f"{found}, and not {expected}")
     holds(f"and it asked for what ask {' '.join(options)} says", said.startswith(b"POST /grpc.health.v1.Health/Check ")
           and said.endswith(b"\r\n\r\n" + asked), str(said))
+# Its request byte by byte, by each method, for names of which the length takes one byte, two and three, and one outside ASCII.
+REQUESTS = [
+    ([], "Check", b""), (["--watch", "1"], "Watch", b""), (["--name", "a"], "Check", b"\x0a\1a"),
+    (["--name", "zz\u00e9", "--watch", "1"], "Watch", b"\x0a\4zz\xc3\xa9"), (["--name", "a" * 128], "Check", b"\x0a\x80\1" + b"a" * 128),
+    (["--name", "a" * 100_000], "Check", b"\x0a\xa0\x8d\6" + b"a" * 100_000),
+]
+for options, method, message in REQUESTS:
+    scripted = Scripted(socket.create_server(("127.0.0.1", 0)), answering(ANSWERED))
+    found = ran("ask", "--port", str(scripted.listener.getsockname()[1]), *options)
+    said = scripted.end()
+    printed = "SERVING\n" if method == "Watch" else "SERVING\ngrpc-status 0\n"
+    asked = (f"POST /grpc.health.v1.Health/{method} HTTP/1.1\r\nhost: localhost\r\ncontent-type: application/grpc-web+proto\r\nx-grpc-web: 1\r\n"
+             f"content-length: {len(framed(message))}\r\n\r\n").encode() + framed(message)
+    holds(f"{shown(['ask', *options])} sends its request and no more", (found, said) == ((0, printed, ""), asked),
+          f"{found} {said[:300]} of {len(said)} bytes, and not {asked[:300]} of {len(asked)}")
+# A name that is longer than a word of a command line may be on Linux: `ask` looks for its length before it connects.
+LONGER = r"""
+#define _GNU_SOURCE
+#include <dlfcn.h>
+#include <stdlib.h>
+#include <string.h>
+
+typedef void part(void);
+typedef int program(int, char **, char **);
+
+int __libc_start_main(program *run, int count, char **words, part *begin, part *end, part *last, void *stack) {
+  int (*start)(program *, int, char **, part *, part *, part *, void *) = dlsym(RTLD_NEXT, "__libc_start_main");
+  size_t length = strtoul(words[count - 1], NULL, 10);
+  char *word = malloc(length + 1);
+  memset(word, 'a', length);
+  word[length] = 0;
+  words[count - 1] = word;
+  return start(run, count, words, begin, end, last, stack);
+}
+"""
+if shutil.which("cc"):
+    library = f"{folder}/longer.so"
+    subprocess.run(["cc", "-shared", "-fPIC", "-o", library, "-x", "c", "-"], input=LONGER, text=True, check=True)
+    for length, fault in ((1_048_576, "connect"), (1_048_577, "name too long")):
+        found = ran("ask", "--port", "1", "--name", str(length), before=("env", f"LD_PRELOAD={library}"))
+        holds(f"ask for a name of {length} bytes", found == (1, "", f"healthd: {fault}\n"), str(found))
+else:
+    print("skipped commands: no C compiler", flush=True)
 scripted = Scripted(socket.create_server(("127.0.0.1", 0)), answering(ANSWERED))
 with open("/dev/full", "w") as full:
     found = ran("ask", "--port", str(scripted.listener.getsockname()[1]), stdout=full)

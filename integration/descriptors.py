@@ -2,8 +2,9 @@
 import os
 import resource
 import socket
+import subprocess
 
-from servers import Server, holds, measured, timed
+from servers import HEALTHD, Server, holds, measured, timed
 
 CLIENTS = 1_100
 
@@ -56,3 +57,16 @@ few.stop()
 none = Server("--threads", "4", before=("prlimit", "--nofile=64:4096"), starts=False)
 holds("where they leave no connection, it does not start", (none.process.returncode, none.said()) == (1, "healthd: too few open files\n"),
       none.said())
+
+# Where others have all descriptors but so many, it says what it had none for.
+for spare, lacking in ((1, "bind 127.0.0.1:0"), (2, "event loop")):
+    def fill():
+        resource.setrlimit(resource.RLIMIT_NOFILE, (100, 100))
+        for taken in range(3, 100 - spare):
+            os.dup2(0, taken)
+
+    done = subprocess.run([HEALTHD, "run", "--listen", "127.0.0.1:0", "--threads", "1"], input="catalogue -\n", capture_output=True, text=True,
+                          timeout=20, preexec_fn=fill, close_fds=False)
+    said = done.stderr.splitlines()[-1:]
+    holds(f"where {spare} descriptors are left, it says that there is none for {lacking}",
+          (done.returncode, done.stdout, said) == (1, "", [f"healthd: {lacking}: Too many open files (os error 24)"]), f"{done}")

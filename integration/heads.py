@@ -59,4 +59,39 @@ for head, expected in HEADS:
         front, _, body = rest_of(client).partition(b"\r\n\r\n")
     found = (int(front.split()[1]), body) if front else None
     holds(f"the head {head[:60]!r}..{head[-40:]!r} of {len(head)} bytes is answered", found == expected, f"{found}, and not {expected}")
+
+
+def refused(line, more=b""):
+    return b"HTTP/1.1 " + line + b"\r\nconnection: close\r\n" + more + b"content-length: 0\r\n\r\n"
+
+
+def answered(body):
+    return (b"HTTP/1.1 200 OK\r\nconnection: close\r\ncontent-type: application/grpc-web+proto\r\ncontent-length: %d\r\n\r\n" % len(body)) + body
+
+
+# Each kind of response, byte by byte.
+FIVE = TYPE + b"content-length: 5\r\n" + END + EMPTY
+RESPONSES = [
+    (b"\r\n\r\n", refused(b"400 Bad Request")), (b"GET / HTTP/1.1\r\n\r\n", refused(b"405 Method Not Allowed", b"allow: POST\r\n")),
+    (CHECK + TYPE + CHUNKED + END, refused(b"411 Length Required")), (CHECK + b"content-length: 5\r\n" + END, refused(b"415 Unsupported Media Type")),
+    (b"\n" * 33 + b"\r\n\r\n", refused(b"431 Request Header Fields Too Large")),
+    (b"GET / HTTP/1.0\r\n\r\n", refused(b"505 HTTP Version Not Supported")),
+    (CHECK + TYPE + b"content-length: 8193\r\n" + END, answered(status(8, "request too large")[1])),
+    (LIST + FIVE, answered(status(12, "unknown method")[1])), (WATCH + TYPE + b"content-length: 0\r\n" + END, answered(READ[1])),
+    (CHECK + FIVE[:-5] + b"\1\0\0\0\0", answered(status(12, "compressed message")[1])),
+    (CHECK + TYPE + b"content-length: 8\r\n" + END + b"\0\0\0\0\3\x0a\2a", answered(READ[1])), (CHECK + FIVE, answered(SERVING + OK)),
+    (CHECK + TYPE + b"content-length: 9\r\n" + END + b"\0\0\0\0\4\x0a\2zz", answered(status(5, "unknown service")[1])),
+]
+for request, expected in RESPONSES:
+    with server.connect() as client:
+        client.sendall(request)
+        client.shutdown(socket.SHUT_WR)
+        found = rest_of(client)
+    holds(f"the response to {request[:60]!r}..{request[-40:]!r} of {len(request)} bytes", found == expected, f"{found}, and not {expected}")
+BEGUN = (b"HTTP/1.1 200 OK\r\nconnection: close\r\ncontent-type: application/grpc-web+proto\r\ntransfer-encoding: chunked\r\n\r\n"
+         b"7\r\n\0\0\0\0\2\x08\1\r\n")
+with server.connect() as client:
+    client.sendall(WATCH + FIVE)
+    found = client.makefile("rb").read(len(BEGUN))
+holds("the response to a Watch begins with its head and its first message", found == BEGUN, str(found))
 server.stop()

@@ -80,10 +80,10 @@ holds("an object tells since when", by_name["db"]["since"]["entry"] == 6 and re.
 holds("nothing is known of one that was never there", by_name["gone"]["since"] is None and by_name["gone"]["status"] == "absent", str(services))
 
 
-def on_terminal(env):
+def on_terminal(env, place=None):
     """What `status` prints on a terminal."""
     ours, its = pty.openpty()
-    process = subprocess.Popen([HEALTHD, "status", "--control", server.control], stdin=subprocess.DEVNULL, stdout=its, env=env)
+    process = subprocess.Popen([HEALTHD, "status", "--control", place or server.control], stdin=subprocess.DEVNULL, stdout=its, env=env)
     os.close(its)
     text = b""
     while True:
@@ -121,6 +121,19 @@ holds("each object of an entry has these keys", all(list(each) == ["entry", "tim
 holds("objects of entries tell the same", [f"{each['entry']} {each['time']} {each['who']} {each['call']}: {each['reply']}" for each in entries]
       == lines[5:], str(entries))
 
+# How a service stands, as a line of a session: with the times of the entries that it names, and how often it alone is expected.
+told("expect", "slow", "3600")
+TIMES = [line.split()[1] for line in lines]
+STANDINGS = [
+    ("db", f"since 6 {TIMES[6]} reported 7 {TIMES[7]} expected - not_serving: 2 fails in a row up to entry 6, 1 of 3 passes since"),
+    ("api", f"since 1 {TIMES[1]} reported - - expected - serving"), ("web", f"since 6 {TIMES[6]} reported - - expected - not_serving: depends on db"),
+    ("slow", f"since 4 {TIMES[4]} reported - - expected 3600 unknown: nothing heard since entry 4"),
+    ("gone", "since - - reported - - expected - absent: never registered"),
+]
+for name, standing in STANDINGS:
+    found, _ = server.tell("status", name)
+    holds(f"a session is told how {name} stands", found == standing, f"{found}, and not {standing}")
+
 # What goes wrong.
 out, err, status = ran("status", place="/run/healthd-nowhere")
 holds("a place where nobody listens", (out, err, status) == ("", "healthd: connect /run/healthd-nowhere: not found\n", 1), err)
@@ -129,6 +142,129 @@ for command in ("status", "history"):
     holds(f"a place that is none is refused by {command}", status == 2 and f"Usage: healthd {command}" in err and "'nowhere'" in err, err)
     out, err, status = ran(command, "--timeout", "0")
     holds(f"a timeout of 0 is refused by {command}", status == 2, err)
+
+
+def given(answers, act):
+    """What comes of asking at a place of this check's own, which gives one session these answers at once."""
+    place = f"{server.folder}/given"
+    with socket.socket(socket.AF_UNIX) as listener:
+        listener.bind(place)
+        listener.listen()
+
+        def serve():
+            client, _ = listener.accept()
+            with client:
+                client.sendall("".join(f"{answer}\n" for answer in answers).encode())
+                client.shutdown(socket.SHUT_WR)
+                while client.recv(65536):
+                    pass
+
+        thread = threading.Thread(target=serve, daemon=True)
+        thread.start()
+        found = act(place)
+        thread.join(20)
+    os.remove(place)
+    return found
+
+
+def is_given(name, answers, expected, *command):
+    """A command prints this and no more, or, where the last answer has another form, says that one."""
+    found = given(answers, lambda place: ran(*command, place=place))
+    wanted = ("", f"healthd: {server.folder}/given answered {answers[-1]}\n", 1) if expected is None else (expected, "", 0)
+    holds(f"{' '.join(command)} of {name}", found == wanted, f"{found}, and not {wanted}")
+
+
+# The table and the objects of what a server answers: a status ends at the first `: `, whatever the names behind it are, and names hold what
+# JSON has to escape.
+ROWS = [
+    ("api", "since 4711 2026-11-26T01:45:09.123456Z reported 4710 2026-11-26T01:45:08.000000Z expected 30 not_serving: depends on db",
+     '{"name":"api","status":"not_serving","since":{"entry":4711,"time":"2026-11-26T01:45:09.123456Z"},'
+     '"reported":{"entry":4710,"time":"2026-11-26T01:45:08.000000Z"},"expected_seconds":30,"why":"depends on db"}'),
+    ("api", "since - - reported - - expected - absent: never registered",
+     '{"name":"api","status":"absent","since":null,"reported":null,"expected_seconds":null,"why":"never registered"}'),
+    ("-", "since 3 - reported - - expected - serving",
+     '{"name":"","status":"serving","since":{"entry":3,"time":null},"reported":null,"expected_seconds":null,"why":null}'),
+    ("a=b:c", "since 0 - reported 4294967295 - expected 4294967295 unknown: nothing heard since entry 3",
+     '{"name":"a=b:c","status":"unknown","since":{"entry":0,"time":null},"reported":{"entry":4294967295,"time":null},'
+     '"expected_seconds":4294967295,"why":"nothing heard since entry 3"}'),
+    ('"q"\\', "since 16 - reported 16 - expected 5 not_serving: 2 fails in a row up to entry 14, 0 of 1 passes since",
+     '{"name":"\\"q\\"\\\\","status":"not_serving","since":{"entry":16,"time":null},"reported":{"entry":16,"time":null},'
+     '"expected_seconds":5,"why":"2 fails in a row up to entry 14, 0 of 1 passes since"}'),
+    ("größe", "since 1 - reported - - expected - not_serving: depends on serving: db",
+     '{"name":"größe","status":"not_serving","since":{"entry":1,"time":null},"reported":null,"expected_seconds":null,"why":"depends on serving: db"}'),
+    ("--", "since 1 - reported - - expected - unknown",
+     '{"name":"--","status":"unknown","since":{"entry":1,"time":null},"reported":null,"expected_seconds":null,"why":null}'),
+    ("x", "since 1 - reported - - expected 0 absent: ",
+     '{"name":"x","status":"absent","since":{"entry":1,"time":null},"reported":null,"expected_seconds":0,"why":""}'),
+    ('"q"=\\:', 'since - - reported - - expected - not_serving: depends on "\t\\',
+     '{"name":"\\"q\\"=\\\\:","status":"not_serving","since":null,"reported":null,"expected_seconds":null,"why":"depends on \\"\\t\\\\"}'),
+]
+for name, answer, row in ROWS:
+    is_given(repr(answer), [f"{name}=absent", answer], f"[{row}]\n", "status", "--json")
+is_given("all of these", [" ".join(f"{name}=absent" for name, _, _ in ROWS), *(answer for _, answer, _ in ROWS)],
+         f"[{','.join(row for _, _, row in ROWS)}]\n", "status", "--json")
+for answer in ("", "not found"):
+    is_given(f"the list {answer!r}", [answer], None, "status", "--json")
+for answer in (
+        "not found", "", "since", "since ", "since 1", "since 1 -", "since 1 - reported - -", "since 1 - reported - - expected 30",
+        "since 1 - reported - - expected 30 ", "since 1 - reported - - expected 30 asleep", "since 1 - reported - - expected 30 SERVING",
+        "since 1 - reported - - expected 30 serving ", "since 1 - reported - - expected soon serving", "since x - reported - - expected - serving",
+        "since 4294967296 - reported - - expected - serving", "since - 2026-11-26T01:45:09.123456Z reported - - expected - serving",
+        "since 1 - reported -  - expected - serving", "Since 1 - reported - - expected - serving"):
+    is_given(f"the answer {answer!r}", ["api=serving", answer], None, "status", "--json")
+TOLD = ["db=serving api=not_serving -=unknown größe=absent",
+        "since 14 2026-11-26T01:45:08.000000Z reported 15 2026-11-26T01:45:09.123456Z expected 30 serving",
+        "since 4711 2026-11-26T01:45:09.999999Z reported 4 - expected 600 not_serving: depends on db",
+        "since 3 - reported - - expected - unknown: nothing heard since entry 3", "since - - reported - - expected - absent: never registered"]
+TABLE = """NAME   STATUS       SINCE                 WHY                          EXPECTED  REPORTED
+db     serving      2026-11-26 01:45:08Z  -                            30 s      2026-11-26 01:45:09Z
+api    not_serving  2026-11-26 01:45:09Z  depends on db                600 s     entry 4
+-      unknown      entry 3               nothing heard since entry 3  -         -
+größe  absent       -                     never registered             -         -
+"""
+COLOURS = (("serving", 32), ("not_serving", 31), ("unknown", 33), ("absent", 2))
+coloured = TABLE
+for word, colour in COLOURS:
+    coloured = coloured.replace(f"  {word} ", f"  \x1b[{colour}m{word}\x1b[0m ")
+is_given("four services", TOLD, TABLE, "status")
+found = given(TOLD, lambda place: on_terminal(PLAIN, place)).replace("\r\n", "\n")
+holds("and on a terminal the same with colours, in the same columns", found == coloured, repr(found))
+# Times of another form are left as they are.
+is_given("times of another form", [
+    "a=serving b=serving c=serving 健康=serving", "since 1 2026-11-26T01:45:09Z reported 1 noon expected - serving",
+    "since 1 TZ reported 1 2026-11-26T01:45:09 expected - serving", "since 1 2026Z reported 1 - expected - serving: ",
+    "since 1 - reported - - expected - serving: 健康"], """NAME  STATUS   SINCE                 WHY  EXPECTED  REPORTED
+a     serving  2026-11-26 01:45:09Z  -    -         noon
+b     serving  TZ                    -    -         2026-11-26T01:45:09
+c     serving  2026Z                 -    -         entry 1
+健康    serving  entry 1               健康   -         -
+""", "status")
+
+# Entries: the reply is behind the last `: `, and a name may hold `:`.
+ENTRIES = [
+    ("4711 2026-11-26T01:45:09.123456Z session 3 down api: done",
+     '{"entry":4711,"time":"2026-11-26T01:45:09.123456Z","who":"session 3","call":"down api","reply":"done"}'),
+    ("0 2026-11-26T01:45:08.000000Z setup register db threshold 2: done",
+     '{"entry":0,"time":"2026-11-26T01:45:08.000000Z","who":"setup","call":"register db threshold 2","reply":"done"}'),
+    ("12 2026-11-26T01:45:08.000000Z expiry fail db: done",
+     '{"entry":12,"time":"2026-11-26T01:45:08.000000Z","who":"expiry","call":"fail db","reply":"done"}'),
+    ("4294967295 - - up -: done", '{"entry":4294967295,"time":null,"who":null,"call":"up -","reply":"done"}'),
+    ("7 - session 4294967295 stop: stopping", '{"entry":7,"time":null,"who":"session 4294967295","call":"stop","reply":"stopping"}'),
+    ("- 2026-11-26T01:45:08.000000Z setup up a: done",
+     '{"entry":null,"time":"2026-11-26T01:45:08.000000Z","who":"setup","call":"up a","reply":"done"}'),
+    ("7 - session 1 register db: depends a: done", '{"entry":7,"time":null,"who":"session 1","call":"register db: depends a","reply":"done"}'),
+    ("7 - - down a:b: done", '{"entry":7,"time":null,"who":null,"call":"down a:b","reply":"done"}'),
+    ('7 - - down "größe"\\: done', '{"entry":7,"time":null,"who":null,"call":"down \\"größe\\"\\\\","reply":"done"}'),
+]
+COUNT = len(ENTRIES)
+STATS = f"entries {COUNT} kept {COUNT} refused 0"
+is_given("entries of each kind", [STATS, *(answer for answer, _ in ENTRIES)], "".join(f"{answer}\n" for answer, _ in ENTRIES), "history")
+is_given("entries of each kind", [STATS, *(answer for answer, _ in ENTRIES)], "".join(f"{text}\n" for _, text in ENTRIES), "history", "--json")
+ONE = "entries 1 kept 1 refused 0"
+is_given("an entry that is forgotten", [ONE, "forgotten"], "", "history", "--json")
+for answer in ("none yet", "not found", "", "7", "7 -", "7 - -", "7 - - down a", "7 - session 3", "7 - session x down a: done",
+               "7 - session  down a: done", "7 - somebody down a: done", "x - - down a: done", "4294967296 - - down a: done"):
+    is_given(f"the answer {answer!r}", [ONE, answer], None, "history", "--json")
 
 
 class Following:

@@ -1,4 +1,4 @@
-"""A history that is kept in a file: what a restart goes on from, and what ends a start."""
+"""A history that is kept in a file: what a restart goes on from, what ends a start, and what is printed of a file."""
 import os
 import resource
 import shutil
@@ -8,7 +8,7 @@ import tempfile
 import time
 import zlib
 
-from servers import HEALTHD, SCRIPT, Server, holds, measured, timed
+from servers import HEALTHD, SCRIPT, Server, ask_line, holds, measured, timed
 
 folder = tempfile.mkdtemp(prefix="healthd-journal-")
 journal = f"{folder}/journal"
@@ -98,6 +98,8 @@ while whole[starts[-1]:starts[-1] + 1] == b"\1":
     starts.append(starts[-1] + 6 + whole[starts[-1] + 1])
 last = starts[-2]
 record = bytearray(whole[last + 2:starts[-1] - 4])
+holds("each block has the checksum that zlib gives it",
+      whole == b"".join(block(whole[at + 2:end - 4]) for at, end in zip(starts, starts[1:])) + b"\0", str(whole))
 reply = bytearray(record)
 reply[8 + (5 if record[8] == 1 else 1) + 2] = 4
 broken, later = bytearray(whole), bytearray(whole)
@@ -118,6 +120,157 @@ for name, data, at in DAMAGED:
     with open(path, "rb") as file:
         holds(f"a file is left as it is: {name}", file.read() == data)
     os.remove(path)
+
+
+# What `journal` prints of a file, by its bytes, and where it tells damage.
+def title(names, base=0, condensed=0, version=b"1"):
+    return b"healthd journal " + version + base.to_bytes(8, "little") + condensed.to_bytes(4, "little") + bytes([names])
+
+
+def blocks(*records):
+    return b"".join(map(block, records))
+
+
+def printed(data, *options):
+    """What is printed of a file with these bytes, or the byte at which damage is told and nothing is printed."""
+    with open(f"{folder}/printed", "wb") as file:
+        file.write(data)
+    ran = subprocess.run([HEALTHD, "journal", *options, f"{folder}/printed"], capture_output=True, text=True, timeout=30)
+    if ran.returncode == 0:
+        return ran.stdout + ran.stderr
+    damaged = f"healthd: journal {folder}/printed: damaged at byte "
+    return int(ran.stderr.removeprefix(damaged)) if (ran.returncode, ran.stdout) == (1, "") and ran.stderr.startswith(damaged) else str(ran)
+
+
+def prints(name, data, expected, *options):
+    found = printed(data, *options)
+    holds(name, found == expected, f"{found!r}, and not {expected!r}")
+
+
+NEW = (title(3), b"db", b"api", b"")
+AT = bytes([128, 53, 248, 23, 36, 97, 6, 0])
+REGISTER, SET_DOWN = AT + b"\0\7\0\0\0\1\1", AT + b"\1\3\0\0\0\7\0\0\5\1"
+RETIRE, SET_UP = AT + b"\2\7\0\0\1\1", AT + b"\0\7\0\0\4\1"
+REST = (b"db", b"api", b"", REGISTER, SET_DOWN)
+TIME = "2026-11-26T01:45:09.123456Z"
+TWO_LINES = f"0 {TIME} setup register api manual: done\n1 {TIME} session 3 down api: done\n"
+THREE_LINES = f"{TWO_LINES}2 {TIME} expiry retire api: done\n"
+THREE = blocks(*NEW, REGISTER, SET_DOWN, RETIRE) + b"\0"
+PRINTED = [
+    ("three entries", THREE, THREE_LINES),
+    ("whatever a closed gate has behind it", blocks(*NEW, REGISTER, SET_DOWN) + b"\0\x0e", TWO_LINES),
+    ("a gate that is neither open nor 0", THREE[:-1] + b"\x09", THREE_LINES),
+    # Two entries stand for 4,711 older ones: those behind them have the numbers of the history.
+    ("entries behind those that stand for older ones", blocks(title(3, 4709, 2), *REST, SET_DOWN) + b"\0",
+     f"- {TIME} setup register api manual: done\n- {TIME} session 3 down api: done\n4711 {TIME} session 3 down api: done\n"),
+    ("the last number that a history may come to", blocks(title(3, (1 << 32) - 3, 1), *REST) + b"\0",
+     f"- {TIME} setup register api manual: done\n4294967294 {TIME} session 3 down api: done\n"),
+    *((f"a file without entries of {len(data)} bytes, {data[:1]}", data, "") for data in (b"", b"\0", b"\1", b"\0\0", b"\0\1\x1ehealthd journal"))]
+for name, data, text in PRINTED:
+    prints(f"`journal` prints {name}", data, text)
+    if not text:
+        prints(f"`journal` prints {name}, as JSON", data, text, "--json")
+prints("`journal` prints objects of JSON", blocks(*NEW, REGISTER, SET_DOWN) + b"\0",
+       f'{{"entry":0,"time":"{TIME}","who":"setup","call":"register api manual","reply":"done"}}\n'
+       f'{{"entry":1,"time":"{TIME}","who":"session 3","call":"down api","reply":"done"}}\n', "--json")
+prints("a name as JSON has whatever a script's word may have", blocks(title(2, 8, 1), b"", 'größe: "\\'.encode(), SET_UP) + b"\0",
+       f'{{"entry":null,"time":"{TIME}","who":"setup","call":"up größe: \\"\\\\","reply":"done"}}\n', "--json")
+# What can't be read, and what takes no more than a part of what is printed.
+ran = subprocess.run([HEALTHD, "journal", "/dev/null"], capture_output=True, text=True, timeout=30)
+holds("`journal` of a device", (ran.returncode, ran.stdout, ran.stderr) == (1, "", "healthd: journal /dev/null: not a file\n"), str(ran))
+many = blocks(*NEW, *[REGISTER] * 999) + b"\0"
+for options in ((), ("--json",)):
+    text = printed(many, *options)
+    with open(f"{folder}/part", "w+") as part:
+        ran = subprocess.run(["/bin/sh", "-c", 'ulimit -f 20; exec /usr/bin/env --ignore-signal=XFSZ "$@"', "sh", HEALTHD, "journal", *options,
+                              f"{folder}/printed"], stdout=part, stderr=subprocess.PIPE, text=True, timeout=30)
+        part.seek(0)
+        front = part.read()
+    holds(" ".join(("`journal` where a part can be printed", *options)),
+          (ran.returncode, ran.stderr) == (1, "healthd: write: file too large\n") and front and front != text and text.startswith(front), f"{ran} {front!r}")
+
+# The bytes of an entry, written out by the format, and its line.
+EPOCH = bytes(8)
+SIXTEEN = (title(16), b"db", b"api", b"", *(bytes([letter]) for letter in b"abcdefghijklm"))
+RECORDS = [
+    (bytes([8, 7, 6, 5, 4, 3, 2, 1]) + b"\0\0\0\0\0\0\0\2\0\0\0\1\0\0\0\0", "4271-05-11T22:23:10.382856Z setup register db threshold 2 1: done"),
+    # The longest one.
+    (b"\1\0\0\0\0\0\0\0\1\x0d\x0c\x0b\x0a\2\1\1\0\x0f\0\xe8\3\0\0\xe7\3\0\0\1",
+     "1970-01-01T00:00:00.000001Z session 168496141 register m threshold 1000 999 unknown: replaced"),
+    # The greatest numbers.
+    (b"\xff" * 8 + b"\1" + b"\xff" * 6 + b"\0\0\1\0" + b"\xff" * 8 + b"\0",
+     "9999-12-31T23:59:59.999999Z session 4294967295 register api threshold 4294967295 4294967295: done"),
+    (b"\0\1" + bytes(6) + b"\0\0\0\0\0\2\1", "1970-01-01T00:00:00.000256Z setup register - manual: done"),
+    (EPOCH + b"\0\0\0\0\0\3\2\6\x80", "1970-01-01T00:00:00.000000Z setup register a depends api - m: done"),
+    (EPOCH + b"\1\1\0\0\0\0\0\2\1\5", "1970-01-01T00:00:00.000000Z session 1 retire c: missing"),
+    (EPOCH + b"\1\1\0\0\0\0\0\3\2\0", "1970-01-01T00:00:00.000000Z session 1 pass db: wrong kind"),
+    (EPOCH + b"\2\7\0\4\3\x0f", "1970-01-01T00:00:00.000000Z expiry fail m: ignored"),
+    (EPOCH + b"\0\0\0\0\4\4", "1970-01-01T00:00:00.000000Z setup up b: done"),
+    (EPOCH + b"\0\0\0\0\5\4", "1970-01-01T00:00:00.000000Z setup down b: done"),
+    (EPOCH + b"\0\0\0\0\6", "1970-01-01T00:00:00.000000Z setup shutdown: done"),
+    (EPOCH + b"\0\0\0\0\7", "1970-01-01T00:00:00.000000Z setup resume: done")]
+for record, line in RECORDS:
+    prints(f"`journal` prints {line}", blocks(*SIXTEEN, record) + b"\0", f"0 {line}\n")
+
+# Each byte of a block behind its gate has its part in what the block is, and no crash cuts a file within one. What a crash leaves of a batch
+# that is being written is no damage: its gate is closed, and behind it is anything.
+END = len(THREE) - 1
+LAST = END - len(block(RETIRE))
+for at in range(LAST + 1, END):
+    other, torn = bytearray(THREE), bytearray(THREE[:at + 2])
+    other[at] ^= 4
+    torn[LAST] = at % 2 * 2  # a closed gate is 0 or anything but 1
+    found = (printed(bytes(other)), printed(THREE[:at]), printed(bytes(torn)))
+    holds(f"damage is told of the last block, and no damage of what a crash leaves of it, at its byte {at - LAST}", found == (LAST, LAST, TWO_LINES), f"{found}")
+prints("damage: no gate behind the blocks", THREE[:END], END)
+prints("damage: an open gate alone", THREE[:END] + b"\1", END)
+prints("damage: a gate and a length", b"\1\3", 0)
+
+# The records of a file, and the byte at which the record begins that is none of a journal.
+SLOTS = {"a registered": b"\0\3\1", "one that is relied on": b"\0\2\2\x08\0", "a retired": b"\1\x0f", "a failed": b"\3\3"}
+WRONG = {
+    "no bytes": b"", "no change": EPOCH + bytes(4), "half of a session": EPOCH + b"\1\1\0", "half of a mask": EPOCH + b"\0\0\0\0\0\2\2\3",
+    "half of a rise": EPOCH + b"\0\0\0\0\0\0\0\2\0\0\0\1\0", "no start": EPOCH + b"\0\0\0\0\0\0\0\2\0\0\0\1\0\0\0",
+    "a byte behind a shutdown": EPOCH + b"\0\0\0\0\6\0", "a byte behind a retired slot": EPOCH + b"\0\0\0\0\1\1\0",
+    "a byte behind a start": EPOCH + b"\0\0\0\0\0\0\0\2\0\0\0\1\0\0\0\0\0", "a byte behind a mask": EPOCH + b"\0\0\0\0\0\2\2\3\0\0",
+    "nobody who asked": EPOCH + b"\3\0\0\0\6", "a reply 5": EPOCH + b"\0\0\0\5\6", "a change 8": EPOCH + b"\0\0\0\0\x08",
+    "a change 8 with a slot": EPOCH + b"\0\0\0\0\x08\0", "a rule 3": EPOCH + b"\0\0\0\0\0\0\3",
+    "a start 2": EPOCH + b"\0\0\0\0\0\0\0\2\0\0\0\1\0\0\0\2", "a slot 16": EPOCH + b"\0\0\0\0\1\x10"}
+FIRST = [
+    ("no title", (b"",)), ("another version", (title(3, version=b"2"),)), ("a byte behind the title", (title(3) + b"\0",)), ("17 names", (title(17),)),
+    ("fewer records than names", (title(16),)), ("more entries that stand for older ones than there are", (title(3, 0, 3),)),
+    ("more entries than a history may have", (title(3, (1 << 32) - 2),)), ("the greatest number of older entries", (title(3, (1 << 64) - 1),))]
+NO_RECORD = [
+    *((name, (*first, *REST), 0) for name, first in FIRST),
+    ("a name twice", (title(3), b"db", b"db", b""), 0), ("no empty name", (title(2), b"db", b"api"), 0), ("no name", (title(0),), 0),
+    ("a name that is no text", (title(3), b"db", b"\xffapi", b"", REGISTER, SET_DOWN), 44),
+    *((f"{name} slot without a name", (*NEW, REGISTER, SET_DOWN, EPOCH + bytes(4) + call), 104) for name, call in SLOTS.items()),
+    *((f"a record of {name}", (*NEW, record), 59) for name, record in WRONG.items())]
+for name, records, at in NO_RECORD:
+    prints(f"damage: {name}", blocks(*records) + b"\0", at)
+
+# What a run tells of the front of a file, and of the first record that is no entry. Two of the entries stand for older ones.
+SHUT, OWN, OLDER = EPOCH + b"\0\0\0\0\6", (b"a", b"db", b""), (title(3, 7, 2), b"a", b"db", b"")
+for name, records, at in [*((name, (*first, *OWN), 0) for name, first in FIRST[:6]),
+                          ("an empty record alone", (b"",), 0), ("a name missing", (title(3), b"a", b"db"), 0),
+                          ("too few entries", OLDER, 0), ("one too few", (*OLDER, SHUT), 0),
+                          ("a record that is no entry behind one", (title(3), *OWN, SHUT, b""), len(blocks(title(3), *OWN, SHUT))),
+                          ("a first record that is no entry", (title(3), *OWN, bytes(12)), len(blocks(title(3), *OWN)))]:
+    path, data = f"{folder}/no-journal", blocks(*records) + b"\0"
+    with open(path, "wb") as file:
+        file.write(data)
+    found = refused(path=path)
+    holds(f"a run tells damage: {name}", found == (1, f"healthd: journal {path}: damaged at byte {at}"), str(found))
+    with open(path, "rb") as file:
+        holds(f"and leaves the file as it is: {name}", file.read() == data)
+    os.remove(path)
+path = f"{folder}/older"
+with open(path, "wb") as file:
+    file.write(blocks(*OLDER, SHUT, SHUT) + b"\0")
+server = start(path=path)
+holds("a run goes on from entries that stand for older ones", server.stats()["entries"] == 2 and server.tell("resume")[0] == "done", str(server.stats()))
+server.stop()
+holds("and counts on behind these", [line.split()[0] for line in kept(path)[1]] == ["-", "-", "9"], str(kept(path)))
 
 # A setup that is refused leaves the file as it was, or none.
 path = f"{folder}/refused"
@@ -153,7 +306,9 @@ def entry(number, call):
 MOST, NEWEST = 16 << 20, 65536
 UP, DOWN = 4, 5
 long = bytearray(setup[:-1] if setup.endswith(b"\0") else setup)
-count = 3
+# A failure of `db`, which is to be among what the older ones come to.
+long += block(bytes(8) + b"\1\1\0\0\0\5\0\0\3\1")
+count = 4
 while len(long) + 26 <= MOST:
     long += entry(count, DOWN if count % 2 else UP)
     count += 1
@@ -181,6 +336,25 @@ for delay in (0.02, 0.1, 0.2, 0.3, 0.6):
     sizes.add(os.path.getsize(one) < 3 << 20)
     os.remove(one)
 print(f"measured journal files behind such a kill: {len(sizes)} of 2 kinds", flush=True)
+# Where it can't be written anew, nothing is refused, and the file is opened anew under its lock.
+one = f"{folder}/put-off"
+shutil.copyfile(path, one)
+os.mkdir(f"{one}.new")
+server = start(path=one)
+with server.session(timeout=20) as session:
+    for number in range(4):
+        holds(f"change {number} is made where the file can't be written anew", ask_line(session, "fail db" if number % 2 else "pass db") == "done")
+        holds(f"nobody else has the file behind change {number}", refused(path=one) == (1, f"healthd: journal {one}: in use"))
+with open(one, "rb") as file:
+    data = file.read()
+added, at = [], len(long)
+while data[at] == 1:
+    added.append(data[at + 2:at + 2 + data[at + 1]][-3:])
+    at += 6 + data[at + 1]
+holds("the file has grown by these changes", data.startswith(long) and added == [b"\0\2\1", b"\0\3\1"] * 2 and at > MOST, f"{added} {at}")
+server.kill()
+os.rmdir(f"{one}.new")
+os.remove(one)
 server, seconds = timed(start, SCRIPT, path)
 print(f"measured journal a start with {count} entries: {seconds:.2f} s", flush=True)
 holds("a long journal is read", server.stats()["entries"] == count and server.tell("list")[0].startswith("a=not_serving" if count % 2 == 0 else "a=serving"))
@@ -191,6 +365,11 @@ status, lines, said = kept(path)
 condensed = sum(line.startswith("- ") for line in lines)
 holds("it has the newest entries, and what the older ones come to", status == 0 and NEWEST <= len(lines) - condensed <= NEWEST + 4 and condensed < 20,
       f"{status} {condensed} {len(lines)} {said}")
+# The entry before the first of the newest ones set `a` up or down.
+older = ["register a manual", *["down a"] * (int(lines[condensed].split()[0]) % 2 == 0), "register db threshold 2 1", "fail db", "register - depends a db"]
+holds("these are the fewest that come to the same", lines[:condensed] == [f"- 1970-01-01T00:00:00.000000Z setup {call}: done" for call in older],
+      str(lines[:condensed]))
+holds("nobody else has the new file", refused(path=path) == (1, f"healthd: journal {path}: in use"))
 holds("each has its number", [int(line.split()[0]) for line in lines[condensed:]] == list(range(count + 4 - len(lines) + condensed, count + 4)))
 kept_as_made = [line.split()[1:4] == [f"1970-01-01T00:00:00.{number:06}Z", "session", "1"] for number, line in
                 enumerate(lines[condensed:-4], int(lines[condensed].split()[0]))]
@@ -233,6 +412,69 @@ time.sleep(1.1)
 holds("once there is room the next change is stored", server.tell("up", "a")[0] == "done")
 holds("nor behind it", refused(path=path) == (1, f"healthd: journal {path}: in use"))
 holds("and no other", [line.split(" ", 2)[2].split(" ", 2)[-1] for line in kept(path)[1]][-2:] == ["down a: done", "up a: done"], str(kept(path)))
+
+
+# A file that failed is opened anew once a second at most, and goes on where it is the journal's.
+def fails_once(name):
+    limit(server.process, os.path.getsize(path))
+    told = server.tell("up", "a")
+    holds(f"a change fails {name}", told == ("refused not stored", 3), str(told))
+
+
+def goes_on(name):
+    """A second behind the last try the file is opened anew."""
+    time.sleep(1.05)
+    told = server.tell("down", "a")
+    holds(f"a change is stored again {name}", told == ("done", 0), str(told))
+    lines = kept(path)[1]
+    holds(f"the file has the changes that were made {name}", lines == entries(server) and lines[-1].endswith(" down a: done"), str(lines))
+
+
+time.sleep(1.05)
+fails_once("at once")
+begins = time.monotonic()
+told = server.tell("up", "a")
+holds("the next has the file opened anew", told == ("refused not stored", 3), str(told))
+limit(server.process, resource.RLIM_INFINITY)
+told, seconds = server.tell("up", "a"), time.monotonic() - begins
+holds("within a second it is not opened anew again", told == ("refused not stored", 3) or seconds >= 1, f"{told} in {seconds:.3f} s")
+goes_on("behind a second")
+# What a crash of the device might have left behind the entries is taken back: all of the change that failed.
+fails_once("in part")
+limit(server.process, resource.RLIM_INFINITY)
+with open(path, "r+b") as file:
+    data = file.read()
+    at = 0
+    while data[at] == 1:
+        at += 6 + data[at + 1]
+    file.seek(at)
+    file.write(block(SHUT) + b"\0")
+goes_on("behind what is taken back")
+# Other files than the journal's are not written to.
+aside = f"{folder}/aside"
+for name, data in (("somebody else's file", b"\2 of another"), ("a shorter journal", setup), ("a damaged file", b"\1\3abc")):
+    fails_once(f"before {name} stands at the path")
+    limit(server.process, resource.RLIM_INFINITY)
+    os.rename(path, aside)
+    with open(path, "wb") as file:
+        file.write(data)
+    time.sleep(1.05)
+    told = server.tell("up", "a")
+    holds(f"a change is refused where {name} stands", told == ("refused not stored", 3), str(told))
+    with open(path, "rb") as file:
+        holds(f"nothing is written to {name}", file.read() == data)
+    os.rename(aside, path)
+    goes_on(f"behind {name}")
+fails_once("before a folder stands at the path")
+limit(server.process, resource.RLIM_INFINITY)
+os.rename(path, aside)
+os.mkdir(path)
+time.sleep(1.05)
+told = server.tell("up", "a")
+holds("a change is refused where a folder stands", told == ("refused not stored", 3), str(told))
+os.rmdir(path)
+os.rename(aside, path)
+goes_on("behind a folder")
 server.stop()
 path = f"{folder}/none-left"
 long = SCRIPT + "register a manual\n" * 60

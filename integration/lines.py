@@ -2,6 +2,7 @@
 import os
 import re
 import socket
+import time
 
 from servers import OK, REQUEST, Server, ask_line, head, holds, read_all, rest_of, until
 
@@ -17,7 +18,11 @@ def answered(name, session, line, answer):
 # Each kind of line, beside a Watch, a session that says nothing, and a client that has left in the middle of its request.
 ROWS = [("down a", "done"), ("list", "a=not_serving b=absent -=serving"), ("up a\r", "done"), ("\n\r\nregister b manual", "done"),
         ("check b", "serving"), ("retire b", "done"), ("check b", "not found"), ("up b", "missing"), ("up zz", "refused not listed"),
-        ("open a", "bad line"), (b"up \xff", "bad line")]
+        ("open a", "bad line"), (b"up \xff", "bad line"), ("expect b 5", "missing"), ("why b", "absent: retired by entry 5"),
+        ("why zz", "not found"), ("status zz", "not found"), ("entry 7", "none yet"), ("entry 4294967295", "none yet"),
+        *((line, "bad line") for line in ("why", "why a b", "status", "status a b", "entry", "entry x", "entry 4294967296", "entry 1 2")),
+        # the longest line
+        ("x" * 1_024, "bad line")]
 COUNTED = "entries 7 kept 7 connections 1 watches 1 sessions 2 calls 2 given_up 0 behind 0 gone 1 expired 0 left 9993"
 server = Server("--threads", "2", script=SCRIPT)
 holds("a Check is answered", server.check().endswith(OK))
@@ -46,6 +51,17 @@ with server.session() as session:
     session.shutdown(socket.SHUT_WR)
     holds("lines in one piece are answered, the last without its end too",
           read_all(session) == b"done\nserving\ndone\nnot serving\ndone\nserving\n")
+with server.session() as session:
+    for piece in (b"li", b"st\nche", b"ck a\r", b"\nlist\ncheck b\r"):
+        session.sendall(piece)
+        time.sleep(0.02)
+    session.shutdown(socket.SHUT_WR)
+    holds("lines that are cut at their ends are answered",
+          read_all(session) == b"a=serving b=absent -=serving\nserving\na=serving b=absent -=serving\nnot found\n")
+with server.session() as session:
+    session.sendall(b"x" * 1_024)
+    session.shutdown(socket.SHUT_WR)
+    holds("a last line of 1,024 bytes is no longer than a line may be", read_all(session) == b"bad line\n")
 with server.session() as session:
     session.sendall(b"x" * 1_025 + b"\ndown a\n")
     holds("a line that is too long ends its session", rest_of(session) == b"line too long\n")
@@ -93,7 +109,8 @@ REPORTS = [("check a", "serving", []), ("fail a", "done", [2]), ("fail a", "done
            ("expect a 0", "not allowed", []), ("expect zz 5", "not allowed", []), ("expect", "not allowed", []),
            ("register - threshold 0", "not allowed", []), ("register - threshold", "not allowed", []), ("no word", "not allowed", []),
            (b"\xff", "not allowed", []),
-           ("list", "a=serving -=absent", []), ("board", str((5 << 32) + 1), [])]
+           ("list", "a=serving -=absent", []), ("board", str((5 << 32) + 1), []), ("why a", "serving", []),
+           ("status -", "since - - reported - - expected - absent: never registered", []), ("entry 5", "none yet", [])]
 BOTH = "entries 5 kept 5 connections 1 watches 1 sessions 1 calls 0 given_up 0 behind 0 gone 0 expired 0 left 5"
 server = Server("--threads", "2", "--report", REPORT, script="catalogue a -\nmax 10\nregister a threshold 1\n")
 watcher = server.watcher()

@@ -44,7 +44,6 @@ class Memory:
             file.write(bytes(24))
             file.flush()
             self.shared = mmap.mmap(file.fileno(), 24)
-        self.refusals = 0
         self.env = {"LD_PRELOAD": self.library, "REFUSE": path}
 
     @contextlib.contextmanager
@@ -64,15 +63,19 @@ class Memory:
 
     def in_turn(self, name, act, right, is_refusal, count=1):
         """Acts again and again, each time with the next request for memory refused, until no more is wanted: then it comes to what is
-        right, and each time before to that or to a refusal. What is to be done without memory `act` does within what it is given."""
+        right, and each time before to that or to a refusal. What is to be done without memory `act` does within what it is given. It gives
+        the refusals."""
+        seen = []
         for number in range(MOST):
             found = act(self.refused(number, count))
             if self.asked <= number:
                 break
             if found != right and not is_refusal(found):
                 fails(name, f"with request {number} for memory refused it came to {found!r}"[:500])
-            self.refusals += found != right
+            if found != right:
+                seen.append(found)
         holds(f"{name}, with each request for memory refused in turn", found == right and number, f"behind {number} it came to {found!r}"[:500])
+        return seen
 
 
 def exchange(port, request):
@@ -150,15 +153,73 @@ def seen(session):
 
 def lines(memory, session):
     """Lines of a session: one whose memory is refused changes nothing, says so, and the session goes on."""
-    for line in ("check a", "list", "why a", "why c", "status b", "entry 1", "board", "stay", "up none"):
+    for line in ("check a", "list", "why a", "why c", "status b", "entry 1", "board", "stay", "up none", "stats"):
         def act(refused):
             with refused:
                 return ask_line(session, line)
         memory.in_turn(f"the line {line}", act, ask_line(session, line), lambda found: found == REFUSED)
-    for line, back in (("up a", "down a"), ("down a", "up a"), ("fail b", "pass b"), ("retire d", "register d depends a b"),
+    for line, back in (("up a", "down a"), ("down a", "up a"), ("fail b", "pass b"), ("pass b", "fail b"), ("retire d", "register d depends a b"),
                        ("register d threshold 2 3 unknown", "retire d"), ("expect b 60", "expect b 0"), ("resume", "shutdown"),
                        ("shutdown", "resume")):
         change(memory, session, line, back)
+
+
+def watching(server):
+    """A client with a Watch of `a`, and the end of what that is told first."""
+    client, read = server.connect(), b""
+    with contextlib.suppress(ConnectionError):
+        client.sendall(call("Watch", "a"))
+        while not read.endswith(FIRST) and (part := client.recv(65536)):
+            read += part
+    return client, read[-len(FIRST):]
+
+
+def grows(memory):
+    """Some changes and some connections have a list grow. Of each of many all requests for memory are refused but the first few, and then
+    all but one more, until it is made: so it is refused that a list grows, too, and the next one finds as much room as before."""
+    server = Server("--threads", "1", "--quiet", "--connections", "40", "--watches", "40", script=SETUP, env=memory.env)
+    with server.session() as session:
+        tries = []
+        for place in range(300):
+            before = seen(session)
+            for number in range(MOST):
+                with memory.refused(number, 1 << 40):
+                    answer = ask_line(session, ("down a", "up a")[place % 2])
+                now = seen(session)
+                if answer != REFUSED:
+                    break
+                if now != before:
+                    fails("a change of many", f"it was refused, and then there were {now}, and not {before}")
+            if (answer, now[0]) != ("done", before[0] + 1):
+                fails("a change of many", f"it came to {answer!r}, and then to {now} behind {before}")
+            tries.append(number)
+        holds("each of 300 changes is made with as much memory as it needs, some with more", max(tries) > min(tries) > 0, f"{tries}")
+
+        clients, tries = [], []
+        for _ in range(40):
+            for number in range(MOST):
+                with memory.refused(number, 1 << 40):
+                    client, first = watching(server)
+                if first != b"":
+                    break
+                client.close()
+            if first != FIRST:
+                fails("a Watch of many", f"without memory behind {number} requests it was told {first!r}")
+            clients.append(client)
+            tries.append(number)
+        holds("each of 40 Watches is opened with as much memory as it needs, some with more", max(tries) > min(tries) > 0, f"{tries}")
+        until("as many are open as may be", lambda: [server.stats()[name] for name in ("connections", "watches")], [40, 40])
+
+        def spoken(refused):
+            with refused, server.session() as client, contextlib.suppress(ConnectionError):
+                return ask_line(client, "check a")
+            return ""
+        for _ in range(4):
+            memory.in_turn("a session that is opened", spoken, "serving", lambda found: found in ("", REFUSED))
+        until("no session is left of those", lambda: re.search(r" sessions (\d+) ", ask_line(session, "stats"))[1], "1")
+        for client in clients:
+            client.close()
+    server.stop()
 
 
 def stored(memory, folder):
@@ -239,6 +300,8 @@ def commands(memory, folder):
     for words, given, status in (
             (("--help",), "", 0), (("nonsense",), "", 2), (("body", "0000000000", "=serving"), "", 0),
             (("replay",), SETUP.replace("-\n", "-\nmax 6\n", 1) + "check a\nfail b\nfail b\nboard\n", 0),
+            (("replay",), "catalogue a -\nmax 9\nregister a treshold 2\n", 1),
+            (("run", "--listen", "127.0.0.1:0"), "catalogue a -\nregister b manual\n", 1), (("run", "--listen", "127.0.0.1:0"), "catalogue a\n", 1),
             (asks, "", 0), ((*asks, "--watch", "1"), "", 0), (("tell", *place, "check", "a"), "", 0), (("tell", *place), "check a\nlist\n", 0),
             (("status", *place), "", 0), (("status", *place, "--json"), "", 0), (("history", *place, "--last", "3"), "", 0),
             (("history", *place, "--json"), "", 0), (("journal", f"{folder}/journal"), "", 0), (("journal", f"{folder}/journal", "--json"), "", 0),
@@ -249,9 +312,33 @@ def commands(memory, folder):
             return ran.stdout, ran.stderr, ran.returncode
         name, right = " ".join(word for word in words if not re.search("[/0-9]", word)), act(memory.refused(MOST))
         holds(f"{name} ends with the status {status}", right[2] == status, f"{right}")
-        memory.in_turn(name, act, right,
-                       lambda found: found[1:] == (OUT_OF_MEMORY, 1) and right[0].startswith(found[0]) or is_of_its_own(words[0], found))
+        refusals = memory.in_turn(
+            name, act, right, lambda found: found[1:] == (OUT_OF_MEMORY, 1) and right[0].startswith(found[0]) or is_of_its_own(words[0], found))
+        if words[0] == "replay" and status == 0:
+            others = {out for out, _, status in refusals if status == 0}
+            lines = right[0].count("\n")
+            holds("a replay goes on behind a change that has no memory",
+                  any(out.startswith(f"{REFUSED}\ndone\n") and out.count("\n") == lines for out in others), f"{others}")
+    tells(memory, server)
     server.stop()
+
+
+def tells(memory, server):
+    """A change is not told by a client that ran out of memory before."""
+    with server.session() as session:
+        ask_line(session, "up a")
+        begun, told = seen(session)[0], []
+
+        def act(refused):
+            entries, _ = seen(session)
+            with refused:
+                ran = subprocess.run([HEALTHD, "tell", "--control", server.control, "down", "a"],
+                                     capture_output=True, text=True, timeout=30, env={**PLAIN, **memory.env})
+            told.append(ran.stdout)
+            return ran.stdout, ran.stderr, seen(session)[0] - entries
+
+        memory.in_turn("tell of a change", act, ("done\n", "", 1), lambda found: found == ("", OUT_OF_MEMORY, 0))
+        holds("no change is made later either", seen(session)[0] - begun == told.count("done\n"), f"{seen(session)[0] - begun} of {told}")
 
 
 def is_of_its_own(command, found):
@@ -263,9 +350,9 @@ def is_of_its_own(command, found):
 
 
 def starts(memory, folder, *options):
-    """A server begins to serve, or says that there was no memory for it."""
+    """A server begins to serve, or says that there was no memory for it. Gives what those came to that had told their places."""
     with open(f"{folder}/script", "w") as file:
-        file.write(SETUP)
+        file.write(SETUP + "expect b 3600\n")
 
     def act(refused):
         with refused:
@@ -283,36 +370,65 @@ def starts(memory, folder, *options):
         return lines, out, err, process.returncode
 
     said = re.compile("healthd: (script line [2-6]: refused no memory|out of memory)\n")
-    memory.in_turn(" ".join(("run", *options[:1])), act, (["listening", "plain", "control"], "journal 5\n", "", 0),
-                   lambda found: not found[1] and said.fullmatch(found[2]) and found[3] == 1)
+    refusals = memory.in_turn(" ".join(("run", *options[:1])), act, (["listening", "plain", "control"], "journal 5\n", "", 0),
+                              lambda found: not found[1] and said.fullmatch(found[2]) and found[3] == 1)
+    return [found for found in refusals if all(found[0])]
+
+
+def unexpected(memory, folder):
+    """Where memory runs out before a line `expect` that does not stand, that is said, and not the line."""
+    right, of_line = ("", "healthd: script line 3: wrong kind\n", 1), ("", "healthd: script line 2: refused no memory\n", 1)
+    for options in ((), ("--journal", f"{folder}/unmade")):
+        came = []
+
+        def act(refused):
+            with refused:
+                ran = subprocess.run([HEALTHD, "run", "--listen", "127.0.0.1:0", *options], input="catalogue a -\nregister a manual\nexpect a 5\n",
+                                     capture_output=True, text=True, timeout=30, env={**PLAIN, **memory.env})
+            came.append((ran.stdout, ran.stderr, ran.returncode))
+            return came[-1]
+
+        name = " ".join(("run", *options[:1], "of a line that does not stand"))
+        memory.in_turn(name, act, right, lambda found: found in (("", OUT_OF_MEMORY, 1), of_line))
+        # The hall is made right before its first change.
+        first = came.index(of_line) if of_line in came else 0
+        holds(f"{name} tells before it that the hall had no memory", first and came[first - 1][1] == OUT_OF_MEMORY, f"{came[:first + 1][-5:]}")
 
 
 def serves(memory, folder):
-    """`serve` takes its call and tells how it ended, or says that there was no memory for it."""
+    """`serve` takes its calls beside an order of its script and tells how each ended, or says that there was no memory for it."""
     port = subprocess.check_output(["/usr/bin/python3", "-I", f"{HERE}/free_port.py"], text=True).strip()
     with open(f"{folder}/script", "w") as file:
-        file.write(SETUP.replace("-\n", "-\nmax 9\n", 1))
+        file.write("catalogue a b -\nmax 9\nregister a manual\nregister b manual\ngo\ndown b\n")
 
     def act(refused):
         with refused:
             with open(f"{folder}/script") as script:
-                process = subprocess.Popen([HEALTHD, "serve", "--port", port, "--workers", "1", "--calls", "1"], stdin=script,
+                process = subprocess.Popen([HEALTHD, "serve", "--port", port, "--workers", "2", "--calls", "2"], stdin=script,
                                            stdout=subprocess.PIPE, stderr=subprocess.PIPE, text=True, env={**PLAIN, **memory.env})
-            answer = b""
+            answers = []
             if first := process.stdout.readline():
-                with contextlib.suppress(ConnectionError):
-                    answer = exchange(port, call("Check", "a"))
+                for _ in range(2):
+                    with contextlib.suppress(ConnectionError):
+                        answers.append(exchange(port, call("Check", "a")).partition(END)[2])
             out, err = process.communicate(timeout=20)
-        return answer.partition(END)[2], first + out, err, process.returncode
+        holds_of = {"fault memory": b"", "unopened": b"", "status 0": CHECKED, "status 5": NOT_FOUND}
+        ends = re.findall("call [01] (.+)\n", out)
+        return first, sorted(ends), out.rpartition("journal ")[2], err, process.returncode, sorted(answers) == sorted(holds_of.get(end) for end in ends)
+
+    def is_refusal(found):
+        first, ends, entries, err, status, are_answered = found
+        if status == 1:
+            return not ends and err in (OUT_OF_MEMORY, "healthd: crew fault 5\n") and first in ("", listens)
+        return (first, err, status, are_answered) == (listens, "", 0, True) and entries in ("2\n", "3\n")
 
     listens = f"listening 127.0.0.1:{port}\n"
-    refusals = [
-        (b"", "", OUT_OF_MEMORY, 1), *((answer, listens, OUT_OF_MEMORY, 1) for answer in (b"", CHECKED)),
-        (b"", listens, "healthd: crew fault 5\n", 1),  # no worker took the call
-        *((b"", f"{listens}call 0 {end}\njournal 5\n", "", 0) for end in ("fault memory", "unopened")),
-        # a change without memory is not made, as a registration of `a`
-        (CHECKED, f"{listens}call 0 status 0\njournal 4\n", "", 0), (NOT_FOUND, f"{listens}call 0 status 5\njournal 4\n", "", 0)]
-    memory.in_turn("serve", act, (CHECKED, f"{listens}call 0 status 0\njournal 5\n", "", 0), lambda found: found in refusals)
+    refusals = memory.in_turn("serve", act, (listens, ["status 0"] * 2, "3\n", "", 0, True), is_refusal)
+    ended = [found[1] for found in refusals]
+    holds("a call without memory fails alone, and one without a buffer is unopened",
+          ["fault memory", "status 0"] in ended and ["status 0", "unopened"] in ended, f"{ended}")
+    holds("serve says so where there was no memory to take a call", any(found[3] == "healthd: crew fault 5\n" for found in refusals), f"{refusals}")
+    holds("an order without memory is not made", (listens, ["status 0"] * 2, "2\n", "", 0, True) in refusals, f"{refusals}")
 
 
 if not shutil.which("cc"):
@@ -328,9 +444,11 @@ with server.session() as session:
     watches(memory, server, session)
     without_any(memory, server, session)
 server.stop()
+grows(memory)
 stored(memory, folder)
 commands(memory, folder)
 starts(memory, folder)
-starts(memory, folder, "--journal", f"{folder}/journal")
+holds("a run says so too where it has told its places", starts(memory, folder, "--journal", f"{folder}/resumed"), "none did")
+unexpected(memory, folder)
 serves(memory, folder)
 shutil.rmtree(folder)

@@ -242,6 +242,109 @@ holds("each answer has a line", (len(found), code) == (len(ANSWERS), 3), f"{prin
 for (kind, came, expected), line in zip(ANSWERS, found):
     holds(f"{kind} is answered {came[:50]!r}..{came[-20:]!r} of {len(came)} bytes", line == f"good {expected}", f"{line}, and not {expected}")
 
+
+def is_whole(asked):
+    """Whether a request has come with its body."""
+    front, end, body = asked.partition(b"\r\n\r\n")
+    length = re.search(rb"\r\ncontent-length: (\d+)", front)
+    return end and len(body) >= (int(length[1]) if length else 0)
+
+
+def asking(listener, target, answer):
+    """What one look at this target prints, and all that it says to a server there that answers so, if anything is asked."""
+    said = []
+
+    def serve():
+        client, _ = listener.accept()
+        client.settimeout(10)
+        asked = b""
+        with client:
+            try:
+                while answer and not is_whole(asked) and (part := client.recv(4096)):
+                    asked += part
+                client.sendall(answer)
+                while part := client.recv(4096):
+                    asked += part
+            except OSError:
+                pass
+        said.append(asked)
+
+    thread = threading.Thread(target=serve, daemon=True)
+    thread.start()
+    printed, _, _ = observe(server, "--once", "--every", "6", "--timeout", "5", target)
+    thread.join(10)
+    return printed, said
+
+
+def get(path, authority):
+    return f"GET {path} HTTP/1.1\r\nhost: {authority}\r\nuser-agent: healthd\r\nconnection: close\r\n\r\n".encode()
+
+
+def check(name):
+    message = b"\x0a" + bytes([len(name)]) + name if name else b""
+    return (b"POST /grpc.health.v1.Health/Check HTTP/1.1\r\nhost: localhost\r\ncontent-type: application/grpc-web+proto\r\nx-grpc-web: 1\r\n"
+            b"content-length: %d\r\n\r\n" % (5 + len(message))) + b"\0" + len(message).to_bytes(4, "big") + message
+
+
+# What is said to a target, byte by byte, where its URL says: to one of `tcp` nothing.
+SERVES = HEAD % 27 + SERVING + OK_TRAILERS
+for kind, host, path, answer, request in [
+    ("tcp", "127.0.0.1", "", b"", lambda authority: b""), ("tcp", "[::1]", "", b"", lambda authority: b""),
+    ("http", "127.0.0.1", "", OK, lambda authority: get("/", authority)), ("http", "localhost", "/a//b", OK, lambda authority: get("/a//b", authority)),
+    ("http", "[::1]", "/a?b=c", OK, lambda authority: get("/a?b=c", authority)), ("grpc-web", "127.0.0.1", "/ab", SERVES, lambda authority: check(b"ab")),
+    ("grpc-web", "localhost", "/api", SERVES, lambda authority: check(b"api")), ("grpc-web", "[::1]", "/", SERVES, lambda authority: check(b"")),
+    ("grpc-web", "127.0.0.1", "", SERVES, lambda authority: check(b"")),
+]:
+    is_6 = host == "[::1]"
+    with socket.create_server(("::1" if is_6 else "127.0.0.1", 0), family=socket.AF_INET6 if is_6 else socket.AF_INET) as listener:
+        authority = f"{host}:{listener.getsockname()[1]}"
+        found = asking(listener, f"good={kind}://{authority}{path}", answer)
+    expected = "good pass\n", [request(authority)]
+    holds(f"what is said to {kind}://{host}{path}", found == expected, f"{found}, and not {expected}")
+try:
+    listener = socket.create_server(("127.0.0.80", 80))
+except OSError as error:
+    print(f"skipped observe: a look at the port of http, which wants root: {error}", flush=True)
+else:
+    with listener:
+        found = asking(listener, "good=http://127.0.0.80/x", OK)
+    holds("the port of http is 80 where none is written", found == ("good pass\n", [get("/x", "127.0.0.80")]), str(found))
+
+# Targets that are read: the word behind each of them is what is refused.
+for text in ("db=tcp://localhost:5432", "-=tcp://10.0.0.1:1", "a.b=tcp://[::1]:65535", "db=tcp://h:1", "a=http://h", "web=http://web-1.example",
+             "web=http://[::1]/a?b=c", "web=http://w:8080/a//b", "far=grpc-web://h:50052/api", "a=grpc-web://H_2:8/ab"):
+    printed, said, code = observe(server, "--", text, "web")
+    holds(f"the target {text!r} is read", (printed, code) == ("", 2) and said.startswith("error: invalid value 'web' for '<TARGET>...': no URL, expected "),
+          f"{code} {said}")
+
+# A place that refuses some reports and leaves: a refusal is said once while it stands, and so is that the place is lost.
+refusing, heard = socket.socket(socket.AF_UNIX), []
+refusing.bind(f"{server.folder}/refusing")
+refusing.listen()
+
+
+def refuse():
+    client, _ = refusing.accept()
+    refusing.close()
+    with client, client.makefile("rb") as lines:
+        for answer in (b"done\n", b"missing\n", b"missing\n", b"done\n", b"missing\n"):
+            heard.append(lines.readline())
+            client.sendall(answer)
+
+
+thread = threading.Thread(target=refuse, daemon=True)
+thread.start()
+process = subprocess.Popen([HEALTHD, "observe", "--control", f"{server.folder}/refusing", "--every", "0.1", "--timeout", "0.09",
+                            f"good=tcp://127.0.0.1:{good.port}"], stdout=subprocess.DEVNULL, stderr=subprocess.PIPE, text=True)
+thread.join(10)
+time.sleep(2.5)
+process.kill()
+_, said = process.communicate(timeout=5)
+holds("a place is told each look", heard == [b"pass good\n"] * 5, str(heard))
+said = said.splitlines()
+holds("a refusal is said once while it stands", said[:2] == [f"healthd: {server.folder}/refusing answered missing to reports of good"] * 2, str(said))
+holds("and that the place is lost is said once", len(said) == 3 and said[2].startswith(f"healthd: {server.folder}/refusing: "), str(said))
+
 # What is refused.
 for words, expected in [(["--timeout", "5", "a=tcp://h:1"], "not below"), (["a=tcp://h:1/x"], "a path"), (["a=udp://h:1"], "another scheme"),
                         (["a"], "no URL"), (["a=tcp://h"], "no port"), ([], "TARGET")]:

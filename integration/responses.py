@@ -144,6 +144,52 @@ WATCHES = [
     (b"7\r\n" + SERVING + END, 2, ["SERVING"]), (b"00;x\r\na: b\r\n\r\n", 1, []),
 ]
 
+# Bodies by their length, as a Check is told by them: all messages that come before the trailers.
+THREE = SERVING + SERVING[:-1] + b"\2" + SERVING
+CHECKED = [
+    (THREE[:14] + OK, ["SERVING", "NOT_SERVING", "grpc-status 0"]), (THREE + OK, ["SERVING", "NOT_SERVING", "SERVING", "grpc-status 0"]),
+    # UNKNOWN is no byte, and a status that this program doesn't know is told by its number
+    (UNKNOWN + OK, ["UNKNOWN", "grpc-status 0"]), (SERVING[:-1] + b"\5" + OK, ["status 5", "grpc-status 0"]),
+    (b"\0\0\0\0\x0b\x08" + b"\xff" * 9 + b"\1" + OK, ["status 18446744073709551615", "grpc-status 0"]),
+    # an unknown field, and two statuses of which the last counts
+    (b"\0\0\0\0\6\x08\2\x48\5\x08\1" + OK, ["SERVING", "grpc-status 0"]),
+    # no message, and a text that is told as it is
+    (b"\x80\0\0\0\x25grpc-message:\xc3\xbf%41\r\ngrpc-status:00013", ["grpc-status 13 \u00ff%41"]),
+]
+
+# Bodies that a Check may not have, and a Watch may: without trailers it was cut off.
+CUT_OFF = [(b"", []), (SERVING, ["SERVING"]), (UNKNOWN * 2, ["UNKNOWN"] * 2), (THREE[:14], ["SERVING", "NOT_SERVING"])]
+
+# Bodies that no response to a call has, and what a Watch is told before the fault.
+NO_BODIES = [
+    # the flag of a compressed message or of compressed trailers, or no flag
+    *((flag + SERVING[1:], []) for flag in (b"\1", b"\2", b"\x7f", b"\x81", b"\xff")), (b"\x81" + OK[1:], []),
+    # the body ends within a frame, which may stand behind whole ones
+    *((SERVING[:count], []) for count in range(1, 7)), (b"\x80\0\0\0\x10grpc-status:0\r\n", []),
+    *((SERVING + SERVING[:count], ["SERVING"]) for count in range(1, 7)), (SERVING + b"\0\xff\xff\xff\xff\0", ["SERVING"]),
+    *((THREE[:14] + OK[:count], ["SERVING", "NOT_SERVING"]) for count in (1, 3, 5, 19)),
+    # messages that are cut, or have a bad tag
+    (b"\0\0\0\0\1\x08", []), (b"\0\0\0\0\1\x0b" + OK, []), (b"\0\0\0\0\x0b\x08" + b"\xff" * 10, []),
+    # trailers without a status, without a colon, and with one that is no number of nine digits
+    *((b"\x80" + len(block).to_bytes(4, "big") + block, []) for block in (
+        b"", b"grpc-message:x\r\n", b"a\r\nb", b"grpc-status:x\r\n", b"grpc-status:0000000000\r\n")),
+    # bytes behind the trailers
+    *((OK + more, []) for more in (b"\n", UNKNOWN, OK)), (SERVING + OK + b"\n", ["SERVING"]),
+]
+
+# Watches of so many statuses, by the length of their bodies: what comes behind the last of them is not looked at.
+FOLLOWED = [
+    *((THREE[:14] + OK, count, ["SERVING", "NOT_SERVING", "grpc-status 0"][:count]) for count in (1, 2, 3)),
+    *((THREE + OK, count, ["SERVING", "NOT_SERVING", "SERVING", "grpc-status 0"][:count]) for count in (1, 2, 3, 4)),
+    (THREE, 3, ["SERVING", "NOT_SERVING", "SERVING"]), (UNKNOWN, 1, ["UNKNOWN"]), (OK, 1, ["grpc-status 0"]),
+    (SERVING[:-1] + b"\5", 1, ["status 5"]),
+    (SERVING + b"\xff", 1, ["SERVING"]), (b"\x80\0\0\0\x2dgrpc-status:5\r\ngrpc-message:unknown service\r\n", 1, ["grpc-status 5 unknown service"]),
+]
+
+
+def sized(body):
+    return START + b"content-length: %d\r\n\r\n" % len(body) + body
+
 
 def shown(response):
     """A response in one line that is not too long."""
@@ -165,3 +211,20 @@ for body, statuses in NO_CHUNKS:
     is_told(CHUNKED + body, (1, watched(*statuses)[1], BAD[2]), "--watch", "1000")
 for body, count, statuses in WATCHES:
     is_told(CHUNKED + body, watched(*statuses), "--watch", str(count))
+# What stands behind a body by its length is not read.
+for body, lines in CHECKED:
+    is_told(sized(body) + b"more", watched(*lines))
+for body, statuses in CUT_OFF:
+    is_told(sized(body), BAD)
+    is_told(sized(body), watched(*statuses), "--watch", "1000")
+for body, statuses in NO_BODIES:
+    is_told(sized(body), BAD)
+    is_told(sized(body), (1, watched(*statuses)[1], BAD[2]), "--watch", "1000")
+for body, count, lines in FOLLOWED:
+    is_told(sized(body) + b"more", watched(*lines), "--watch", str(count))
+# The longest body: it may come, and nothing of a longer one is read.
+is_told(START + b"content-length: 1048576\r\n\r\n", READ)
+# A Watch of an unknown service, as the server sends it: its first status is enough, or comes before its end.
+ENDED = b"7\r\n" + SERVING[:-1] + b"\3\r\n2f\r\n\x80\0\0\0\x2agrpc-status:14\r\ngrpc-message:watch ended\r\n" + END
+for count, lines in ((1, []), (2, ["grpc-status 14 watch ended"]), (1000, ["grpc-status 14 watch ended"])):
+    is_told(CHUNKED + ENDED, watched("SERVICE_UNKNOWN", *lines), "--watch", str(count))

@@ -1,9 +1,12 @@
 """`healthd serve`: so many calls by so many workers, beside the orders of its script."""
+import os
+import signal
 import socket
 import subprocess
+import threading
 import time
 
-from servers import HEALTHD, HERE, OK, SERVING, Watcher, head, holds, measured, read_all, request_for, rest_of
+from servers import HEALTHD, HERE, MESSAGE, OK, SERVING, WATCH_END, Watcher, head, holds, measured, read_all, request_for, rest_of
 
 REFUSED_TYPE = (b"POST /grpc.health.v1.Health/Check HTTP/1.1\r\ncontent-type: application/grpc-web-text\r\n"
                 b"content-length: 5\r\n\r\n")
@@ -65,6 +68,18 @@ silent.close()
 status, lines, _ = two.ended()
 holds("how both ended", (status, ends(lines), lines[-1]) == (0, ["fault read", "status 0"], "journal 1"), str(lines))
 
+# As many workers and calls as there may be: with one worker less the silent clients would keep the last from its answer.
+most = Serving("catalogue a -\nmax 1\nregister a manual\n", 64, 1_000)
+silent = [most.connect() for _ in range(63)]
+found = most.ask("--name", "a", "--timeout", "20")
+holds("a Check beside 63 clients that are silent", found == ["SERVING", "grpc-status 0"], str(found))
+for client in silent:
+    client.close()
+for _ in range(1_000 - 64):
+    most.connect().close()
+status, lines, _ = most.ended()
+holds("how the thousand ended", (status, ends(lines), lines[-1]) == (0, ["fault read"] * 999 + ["status 0"], "journal 1"), str(lines)[:400])
+
 # What a connection carries. The name is as long as one may be, so that each of its bytes counts, and stands behind a head that is as long
 # as one may be.
 NAME = "".join(chr(ord("a") + number % 26) for number in range(128))
@@ -114,6 +129,35 @@ found = carried.ended()
 holds("how the five ended", found == (0, ["call 0 status 0", "call 1 http 415", "call 2 http 415", "call 3 status 0", "call 4 status 0",
                                           "journal 2"], ""), str(found))
 
+# One that goes on sending keeps its only worker for no more than 64 KiB.
+pouring = Serving("catalogue a -\nmax 1\nregister a manual\n", 1, 2)
+sending = pouring.connect()
+sending.sendall(REFUSED_TYPE)
+begins = time.monotonic()
+
+
+def pour():
+    """Sends for three seconds, or until its connection is closed."""
+    try:
+        while time.monotonic() < begins + 3:
+            sending.sendall(b"b" * 8_192)
+            time.sleep(0.02)
+    except OSError:
+        pass
+
+
+thread = threading.Thread(target=pour)
+thread.start()
+with pouring.connect() as client:
+    client.sendall(head("Check", request_for("a")) + request_for("a"))
+    found = read_all(client)
+measured("a Check behind a client that goes on sending", time.monotonic() - begins, 0.6)
+holds("its answer", found.endswith(SERVING + OK), str(found))
+thread.join()
+sending.close()
+found = pouring.ended()
+holds("how both of them ended", found == (0, ["call 0 http 415", "call 1 status 0", "journal 1"], ""), str(found))
+
 # A Watch that opens before the orders is left by its client after three statuses. One that opens between them or after them ends.
 TOLD = [["SERVING", "NOT_SERVING", "SERVING"], ["NOT_SERVING", "SERVING", "grpc-status 14 watch ended"],
         ["SERVING", "grpc-status 14 watch ended"]]
@@ -144,6 +188,48 @@ while max(counts, default=0) < 600 and len(counts) < 50:
         wrong.append((told[-3:], found))
 holds("each status that a Watch beside many orders is told is another, and the last is that of the last order", not wrong, str(wrong[:1]))
 holds("it is told of hundreds of orders", counts[-1] >= 600, str(counts))
+
+# The same where the last order brings a status that no other brings. A Watch that has a look less than there are orders behind its opening
+# is not told it.
+UNKNOWN_AND_END = b"5\r\n\0\0\0\0\0\r\n" + WATCH_END
+ORDERS = "fail a\npass a\n" * 4_600 + "resume\n"
+between, wrong, delay = 0, [], 0.001
+for _ in range(50):
+    last = Serving(f"catalogue a -\nmax 20000\nregister a threshold 1 1 unknown\npass a\ngo\n{ORDERS}", 1, 1)
+    time.sleep(delay)
+    *told, rest = Watcher(last.connect(), "a").to_end() or [b""]
+    between += 10 < len(told) < 9_000
+    delay *= 2 if len(told) >= 9_000 else 0.5 if len(told) <= 10 else 1
+    found = last.ended()
+    if (told, rest) != ([1 + place % 2 for place in range(len(told))][::-1], UNKNOWN_AND_END) or \
+            found != (0, [f"call 0 watch {len(told) + 1}", "journal 9203"], ""):
+        wrong.append((told[-3:], rest, found))
+    if between == 8:
+        break
+holds("each Watch beside many orders is told the status that the last of them alone brings", not wrong, str(wrong[:1]))
+holds("some of them open between the orders", between > 0)
+
+# The same where the thread that makes the orders, which is the first, stands behind all others on its processor: a Watch that waits looks
+# as soon as it is woken. One that is woken before an order, and not behind it, is not told the last.
+ORDERS = "fail a\npass a\n" * 500 + "resume\n"
+processor, beside, wrong = {min(os.sched_getaffinity(0))}, 0, []
+for _ in range(20):
+    last = Serving(f"catalogue a -\nmax 20000\nregister a threshold 1 1 unknown\npass a\ngo\n{ORDERS}", 1, 1)
+    last.process.send_signal(signal.SIGSTOP)
+    for thread in os.listdir(f"/proc/{last.process.pid}/task"):
+        os.sched_setaffinity(int(thread), processor)
+    os.sched_setscheduler(last.process.pid, os.SCHED_IDLE, os.sched_param(0))
+    client = last.connect()
+    client.sendall(head("Watch", request_for("a")) + request_for("a"))
+    last.process.send_signal(signal.SIGCONT)
+    told = rest_of(client).partition(b"\r\n\r\n")[2]
+    beside += told.count(MESSAGE) > 100
+    if not told.endswith(UNKNOWN_AND_END) or last.ended()[0] != 0:
+        wrong.append(told[-100:])
+    if beside == 4:
+        break
+holds("a Watch that looks as soon as it is woken is told the status of the last order, too", not wrong, str(wrong[:1]))
+holds("it is told of those before it", beside > 0)
 
 # The faults of a script come before that of the port.
 FAULTS = [("catalogue a -\nmax 1\n", "bind"), ("catalogue a -\nmax 1\nregister a manual\nregister - depends a\ngo\nup a\n", "bind"),

@@ -34,7 +34,24 @@ silent.append(server.session())
 holds("one more gets in where all are quiet", ask_line(silent[-1], "check a") == "serving")
 holds("the one that was quiet for longest is closed", silent.pop(1).recv(10) == b"")
 holds("and no other", all(ask_line(client, "check a") == "serving" for client in silent))
+
+# Those that have said something within a second are not closed for one more, unless the machine pauses meanwhile.
+begins = time.monotonic()
+holds("sixteen say something", all(ask_line(client, "check a") == "serving" for client in silent))
+time.sleep(0.6)
+said, _ = server.tell("list")
+holds("one more is too many within a second", said == "healthd: too many sessions" or time.monotonic() - begins >= 1, said)
 for client in silent:
+    client.close()
+time.sleep(0.5)
+
+# Where there is room nobody is closed, however quiet.
+few = [server.session() for _ in range(2)]
+holds("two sessions are held", all(ask_line(client, "check a") == "serving" for client in few))
+time.sleep(1.3)
+holds("one more gets in where there is room", server.tell("check", "a") == ("serving", 0))
+holds("and the two that were quiet stay", all(ask_line(client, "check a") == "serving" for client in few))
+for client in few:
     client.close()
 time.sleep(0.5)
 

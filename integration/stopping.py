@@ -1,11 +1,12 @@
 """A server that is told to stop ends soon, and answers what was accepted."""
 import fcntl
+import socket
 import struct
 import termios
 import threading
 import time
 
-from servers import ENDED, OK, REQUEST, SERVING, Server, ask_line, head, holds, measured, read_all, rest_of, timed
+from servers import ENDED, OK, REQUEST, SERVING, Server, ask_line, head, holds, measured, read_all, rest_of, timed, until
 
 
 def stopped(server):
@@ -140,3 +141,97 @@ holds("Checks that pour are answered before", len(answered) > 100, str(len(answe
 holds("none is answered in part", not any(answer for answer in cut), str([answer for answer in cut if answer][:1]))
 measured("stop beside eight clients that pour Checks", seconds, 1)
 print(f"measured stopping {len(answered)} Checks answered, {len(cut)} closed unread, {len(refused)} refused", flush=True)
+
+# Watches that have much left to be told at the stop: half of their clients have sent something too.
+server = Server("--threads", "1", "--quiet")
+watchers = [server.watcher() for _ in range(100)]
+holds("a hundred Watches are told the first status", [watcher.next() for watcher in watchers] == [1] * 100)
+for watcher in watchers[::2]:
+    watcher.client.sendall(b"x")
+with server.session(timeout=20) as session:
+    session.sendall(b"down a\nup a\n" * 500 + b"stop\n")
+    holds("a thousand changes and a stop in one piece are answered", rest_of(session) == b"done\n" * 1_000 + b"stopping\n")
+holds("each Watch is told each of them before its end", [watcher.to_end() for watcher in watchers] == [[2, 1] * 500] * 100)
+ended = server.ended()
+holds("it ends behind them", ended == (0, "journal 1003"), str(ended))
+
+# It accepts no more, and requests that were begun keep their ten seconds.
+server = Server()
+begun, never = server.connect(20), server.connect(20)
+begins = time.monotonic()
+for client in (begun, never):
+    client.sendall(head("Check"))
+time.sleep(0.3)
+holds("it stops where requests were begun", server.tell("stop")[0] == "stopping")
+time.sleep(0.5)
+try:
+    server.connect().close()
+    found = "it is accepted"
+except ConnectionRefusedError:
+    found = ""
+holds("a client that comes behind the stop is refused", found == "", found)
+time.sleep(max(0, begins + 8 - time.monotonic()))
+begun.sendall(REQUEST)
+holds("a request that is made whole eight seconds later is answered", rest_of(begun).endswith(OK))
+holds("one that never is has no answer", rest_of(never) == b"")
+measured("the end of a request that is never whole", time.monotonic() - begins, 11)
+ended = server.ended()
+holds("it ends behind that", ended == (0, "journal 3"), str(ended))
+
+# Watches whose clients take nothing, or little at a time: the former have thirty seconds, and all that is left has thirty behind the stop.
+CHANGES = 6_000
+
+
+def full(*names):
+    """A server whose sockets hold next to nothing, and Watches at it that have so many changes to be told."""
+    with socket.socket() as listener:
+        listener.setsockopt(socket.SOL_SOCKET, socket.SO_SNDBUF, 2_048)
+        listener.bind(("127.0.0.1", 0))
+        listener.listen()
+        server = Server("--threads", "1", "--quiet", script="catalogue a -\nregister a manual\n", socket_of=listener)
+    watchers = []
+    for name in names:
+        client = socket.socket()
+        client.setsockopt(socket.SOL_SOCKET, socket.SO_RCVBUF, 2_048)
+        client.settimeout(20)
+        client.connect(("127.0.0.1", server.port))
+        watchers.append(server.watcher(client=client))
+        holds(f"a Watch whose client {name}", watchers[-1].next() == 1)
+    with server.session(timeout=20) as session:
+        session.sendall(b"down a\nup a\n" * (CHANGES // 2))
+        with session.makefile("rb") as answers:
+            holds("changes that are not taken are made", answers.read(5 * CHANGES) == b"done\n" * CHANGES)
+    return server, *watchers
+
+
+def counted(server):
+    stats = server.stats()
+    return [stats[name] for name in ("watches", "calls", "given_up", "gone")]
+
+
+begins = time.monotonic()
+server, nothing, closing = full("takes nothing", "closes its side")
+closing.client.shutdown(socket.SHUT_WR)
+holds("both are open", counted(server) == [2, 0, 0, 0], str(server.stats()))
+other, little = full("takes little at a time")
+holds("the server of the last stops", other.tell("stop")[0] == "stopping")
+stops, told = time.monotonic(), []
+holds("one that has closed its side is told all, and no end", closing.to_end() == [2, 1] * (CHANGES // 2) + [b""])
+until("it has ended, and is not given up", lambda: counted(server), [1, 1, 0, 0])
+while other.process.poll() is None and time.monotonic() - stops < 40:
+    try:
+        told += little.told(20)
+    except OSError:
+        pass
+    if counted(server) == [1, 1, 0, 0]:
+        kept = time.monotonic() - begins
+    time.sleep(0.2)
+seconds = time.monotonic() - stops
+holds("what has time left thirty seconds behind the stop is served until then", seconds > 29.5, f"{seconds} s")
+measured("the end where a Watch takes little at a time", seconds, 31)
+holds("it was told its statuses in their order", told[:1_000] == [2, 1] * 500, f"{len(told)}: {told[:3]}")
+ended = other.ended()
+holds("it is given up, and the server ends", ended == (0, f"journal {CHANGES + 1}"), str(ended))
+holds("one that takes nothing is kept for close to thirty seconds", kept > 25, f"{kept} s")
+until("and is given up behind them", lambda: counted(server), [0, 2, 1, 0], 3)
+server.stop()

@@ -3,8 +3,6 @@
 #![tactic(auto)]
 
 #[cfg(test)]
-mod answers;
-#[cfg(test)]
 mod bells;
 #[cfg(test)]
 mod clients;
@@ -15,17 +13,9 @@ mod doors;
 #[cfg(test)]
 mod exchanges;
 #[cfg(test)]
-mod inquiries;
-#[cfg(test)]
-mod memory;
-#[cfg(test)]
 mod observers;
 #[cfg(test)]
 mod parts;
-#[cfg(test)]
-mod refusals;
-#[cfg(test)]
-mod rows;
 #[cfg(test)]
 mod runs;
 #[cfg(test)]

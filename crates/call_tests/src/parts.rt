@@ -4,15 +4,6 @@ use desk_core::Catalogue;
 use std::alloc::Global;
 use std::process::Abort;
 
-/// The parts, one behind the other.
-pub(crate) fn bytes_of(rt: &impl Abort, alloc: Global, parts: &[&[u8]]) -> Vec<u8> {
-    let mut bytes = Vec::new(alloc);
-    for part in parts {
-        bytes.extend_from_slice(*part).expect(rt, "memory");
-    }
-    bytes
-}
-
 /// A catalogue of these names.
 pub(crate) fn catalogue_of(rt: &impl Abort, alloc: Global, names: &[&str]) -> Catalogue {
     let mut listed = Vec::new(alloc);

@@ -7,8 +7,8 @@ use web_call::{ExchangeFault, Limits, Outcome, Tap, Turn, exchange};
 /// How often the door was asked, how often the bell, and how many Looks the bell gave.
 pub(crate) type Asked = (u32, u32, u64);
 
-/// How an exchange went: its end, who was asked, and whether a read has failed, and a write.
-pub(crate) type Run = (Result<Outcome, ExchangeFault>, Asked, bool, bool);
+/// How an exchange went: its end, who was asked, and whether a write or a flush has failed.
+pub(crate) type Run = (Result<Outcome, ExchangeFault>, Asked, bool);
 
 /// Makes one exchange through new taps, with a bell of these turns.
 pub(crate) fn exchange_over<R: Read, W: Write>(
@@ -25,5 +25,5 @@ pub(crate) fn exchange_over<R: Read, W: Write>(
     let limits = Limits { looks };
     let result = exchange(alloc, &mut reader, &mut writer, door, &mut bell, limits);
     let asked = (door.asked, bell.waits, bell.looks);
-    (result, asked, reader.failed(), writer.failed())
+    (result, asked, writer.failed())
 }

@@ -1,5 +1,3 @@
-ghost use Rattle.std.specs.Prelude.{◌≡◌, true};
-
 use std::fmt::Debug;
 use std::process::Abort;
 
@@ -14,11 +12,4 @@ pub(crate) fn same<R: Abort, T: PartialEq + Debug, A: Debug>(
         found == expected,
         "{found:?} and not {expected:?} at {at:?}"
     );
-}
-
-/// It has to be so. A failure tells what was not.
-pub(crate) fn holds<R: Abort>(rt: &R, is_so: bool, what: &str)
-    ensures { is_so ≡ true }
-{
-    assert!(rt; is_so, "{what}");
 }

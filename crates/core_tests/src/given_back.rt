@@ -1,13 +1,11 @@
-use crate::rows::{Answer, Row, expect_change};
 use crate::same::same;
-use desk_core::{Desk, Finding, Refusal, Reply, Setting, Slot};
+use desk_core::{Desk, Finding, Setting, Slot};
 use probe_core::tracked::Tracked;
 use probe_core::{Depends, Event, Manual, Probe, Rule, Start, Threshold};
 use std::alloc::Global;
 use std::process::Abort;
 use std::sync::Arc;
 use std::sync::atomic::{AtomicU64, Ordering};
-use std::test::Fail;
 
 fn slot<R: Abort>(rt: &R, number: u8) -> Slot {
     Slot::new(number).expect(rt, "a slot")
@@ -101,53 +99,64 @@ impl<P: Probe> Probe for Counted<P> {
     }
 }
 
-const DONE: Answer = Ok(Reply::Done);
+/// What is done to a desk. Slots are named by their numbers.
+#[derive(Clone, Copy)]
+enum Row {
+    Observe(u8, Finding),
+    Set(u8, Setting),
+    Shutdown,
+    Resume,
+}
 
-const IGNORED: Answer = Ok(Reply::Ignored);
-
-const WRONG_KIND: Answer = Ok(Reply::WrongKind);
-
-const FULL: Answer = Err(Refusal::Full);
+fn change<R: Abort, P: Probe>(rt: &R, desk: &mut Desk<P>, row: Row) {
+    let _ = match row {
+        Row::Observe(number, finding) => desk.observe(0, slot(rt, number), finding),
+        Row::Set(number, setting) => desk.set(0, slot(rt, number), setting),
+        Row::Shutdown => desk.shutdown(0),
+        Row::Resume => desk.resume(0),
+    };
+}
 
 /// A change, and how many events have reached the probes of the slots 1 and 2 then.
 type Heard = (Row, [u64; 2]);
 
 /// Of services that are set. An event that is of the wrong kind, ignored, or refused by the full journal reaches no probe; one that
 /// leaves the service as it is reaches its probe like any other.
-static SETTINGS: [Heard; 11] = [
-    (Row::Observe(1, Finding::Fail, WRONG_KIND), [0, 0]),
-    (Row::Shutdown(DONE), [0, 0]),
-    (Row::Set(1, Setting::Down, IGNORED), [0, 0]),
-    (Row::Resume(DONE), [0, 0]),
-    (Row::Set(1, Setting::Up, DONE), [1, 0]),
-    (Row::Set(2, Setting::Up, DONE), [1, 1]),
-    (Row::Set(2, Setting::Down, DONE), [1, 2]),
-    (Row::Set(2, Setting::Down, DONE), [1, 3]),
-    (Row::Set(1, Setting::Down, DONE), [2, 3]),
-    (Row::Set(2, Setting::Up, DONE), [2, 4]),
-    (Row::Set(1, Setting::Up, FULL), [2, 4]),
+static SETTINGS: [Heard; 9] = [
+    (Row::Observe(1, Finding::Fail), [0, 0]),
+    (Row::Shutdown, [0, 0]),
+    (Row::Set(1, Setting::Down), [0, 0]),
+    (Row::Resume, [0, 0]),
+    (Row::Set(1, Setting::Up), [1, 0]),
+    (Row::Set(2, Setting::Down), [1, 1]),
+    (Row::Set(2, Setting::Down), [1, 2]),
+    (Row::Set(1, Setting::Down), [2, 2]),
+    (Row::Set(1, Setting::Up), [2, 2]),
 ];
 
 /// The same of services that are checked, and are down after one failure.
-static FINDINGS: [Heard; 11] = [
-    (Row::Set(1, Setting::Down, WRONG_KIND), [0, 0]),
-    (Row::Shutdown(DONE), [0, 0]),
-    (Row::Observe(1, Finding::Fail, IGNORED), [0, 0]),
-    (Row::Resume(DONE), [0, 0]),
-    (Row::Observe(1, Finding::Pass, DONE), [1, 0]),
-    (Row::Observe(2, Finding::Pass, DONE), [1, 1]),
-    (Row::Observe(2, Finding::Fail, DONE), [1, 2]),
-    (Row::Observe(2, Finding::Fail, DONE), [1, 3]),
-    (Row::Observe(1, Finding::Fail, DONE), [2, 3]),
-    (Row::Observe(2, Finding::Pass, DONE), [2, 4]),
-    (Row::Observe(1, Finding::Pass, FULL), [2, 4]),
+static FINDINGS: [Heard; 9] = [
+    (Row::Set(1, Setting::Down), [0, 0]),
+    (Row::Shutdown, [0, 0]),
+    (Row::Observe(1, Finding::Fail), [0, 0]),
+    (Row::Resume, [0, 0]),
+    (Row::Observe(1, Finding::Pass), [1, 0]),
+    (Row::Observe(2, Finding::Fail), [1, 1]),
+    (Row::Observe(2, Finding::Fail), [1, 2]),
+    (Row::Observe(1, Finding::Fail), [2, 2]),
+    (Row::Observe(1, Finding::Pass), [2, 2]),
 ];
 
-/// Registers the two probes in the slots 1 and 2, and makes the changes, of which the last is refused by the full journal.
-fn expect_heard<R: Abort, P: Probe>(rt: &R, alloc: Global, one: P, two: P, rows: &[Heard; 11]) {
+/// Nothing is heard of a service that depends on others.
+static NOTHING: [Heard; 2] = [
+    (Row::Observe(1, Finding::Pass), [0, 0]),
+    (Row::Set(1, Setting::Up), [0, 0]),
+];
+
+/// Registers the two probes in the slots 1 and 2, and makes the changes, of which the ninth is refused by the full journal.
+fn expect_heard<R: Abort, P: Probe>(rt: &R, alloc: Global, one: P, two: P, rows: &[Heard]) {
     let rule = one.rule();
-    let counters = [counter(rt, alloc), counter(rt, alloc)];
-    let [first, second] = &counters;
+    let (first, second) = (counter(rt, alloc), counter(rt, alloc));
     let (one, two) = (
         Counted {
             probe: one,
@@ -158,35 +167,14 @@ fn expect_heard<R: Abort, P: Probe>(rt: &R, alloc: Global, one: P, two: P, rows:
             notes: second.clone().expect(rt, "memory"),
         },
     );
-    let mut desk = Desk::new(alloc, 12);
+    let mut desk = Desk::new(alloc, 10);
     drop(desk.register(0, slot(rt, 1), one));
     drop(desk.register(0, slot(rt, 2), two));
-    for (at, (row, expected)) in rows.iter().enumerate() {
-        expect_change(rt, &mut desk, *row, at);
+    for &(row, expected) in rows {
+        change(rt, &mut desk, row);
         let notes = [first.load(Ordering::SeqCst), second.load(Ordering::SeqCst)];
-        same(rt, &notes, expected, &(rule, at));
+        same(rt, &notes, &expected, &rule);
     }
-}
-
-/// Nothing is heard of a service that depends on others.
-#[test]
-fn no_event_reaches_a_probe_that_depends(rt: HostRuntime) {
-    let alloc = rt.alloc();
-    let notes = counter(&rt, alloc);
-    let depends = Counted {
-        probe: Depends::new(1),
-        notes: notes.clone().expect(&rt, "memory"),
-    };
-    let mut desk = Desk::new(alloc, 3);
-    drop(desk.register(0, slot(&rt, 1), depends));
-    expect_change(
-        &rt,
-        &mut desk,
-        Row::Observe(1, Finding::Pass, WRONG_KIND),
-        0,
-    );
-    expect_change(&rt, &mut desk, Row::Set(1, Setting::Up, WRONG_KIND), 1);
-    same(&rt, &notes.load(Ordering::SeqCst), &0, &"notes");
 }
 
 #[test]
@@ -198,4 +186,25 @@ fn an_event_reaches_its_probe_once_if_it_is_heard(rt: HostRuntime) {
         Threshold::new(1, 1, Start::Up),
     );
     expect_heard(&rt, alloc, one, two, &FINDINGS);
+    expect_heard(&rt, alloc, Depends::new(1), Depends::new(1), &NOTHING);
+}
+
+/// A boxed probe that hears a setting and is dropped then.
+fn drop_down<P: Probe>(mut probe: P) -> bool {
+    probe.note(Event::Down) && !probe.is_up()
+}
+
+#[test]
+fn counts_a_dropped_probe_once(rt: HostRuntime) {
+    let alloc: Global = rt.alloc();
+    let drops = counter(&rt, alloc);
+    let tracked = Tracked::new(drops.clone().expect(&rt, "memory"));
+    let probe: Box<dyn Probe + Send> = Box::new(alloc, tracked).expect(&rt, "memory");
+    let found = (drop_down(probe), drops.load(Ordering::SeqCst));
+    same(
+        &rt,
+        &found,
+        &(true, 1),
+        &"a setting, and the drops behind it",
+    );
 }

@@ -2,28 +2,16 @@
 #![tactic(auto)]
 
 #[cfg(test)]
-mod asked;
-#[cfg(test)]
 mod base;
 #[cfg(test)]
 mod chronicles;
 #[cfg(test)]
-mod events;
-#[cfg(test)]
 mod given_back;
 #[cfg(test)]
 mod handed;
-#[cfg(test)]
-mod memory;
-#[cfg(test)]
-mod refusal_numbers;
-#[cfg(test)]
-mod rows;
 #[cfg(test)]
 mod same;
 #[cfg(test)]
 mod script_texts;
 #[cfg(test)]
 mod tails;
-#[cfg(test)]
-mod wire;

@@ -3,13 +3,12 @@
 ghost use Rattle.std.specs.Prelude.{◌<◌, length};
 ghost use Rattle.hall.specs.Seats.{IsOf};
 
-use crate::guest::{Guest, manuals, two_seats};
 use crate::keeping::KeepFour;
-use crate::rows::{DONE, Step, result_of};
+use crate::names::catalogue;
 use crate::same::same;
 use crew::{CopyingDoor, HallDoor};
 use desk_core::{Behind, Setting, Transcript, Watch};
-use hall::Hall;
+use hall::{Hall, Seat};
 use health_wire::Serving;
 use probe_core::Manual;
 use std::alloc::{AllocError, Global};
@@ -23,7 +22,6 @@ use web_call::Door;
 enum Act {
     Set(Setting),
     Renew,
-    Check(Serving),
     /// From now on this Watch is stepped.
     Open(Serving),
     Step(Told),
@@ -44,9 +42,11 @@ const TELLS_NONE: Act = Act::Step(Ok(None));
 
 const BEHIND: Act = Act::Step(Err(Behind));
 
-/// Steps in a row look once, until the door is renewed, or asked for something else. The hall and the copy keep four changes.
-static LOOKS: [Act; 53] = [
+/// Steps in a row look once, until the door is renewed, or asked for something else. The hall and the copy keep four changes: the copy
+/// stays a copy where it has begun anew, and where it drops what it is full of. At the end all is as at the beginning.
+static LOOKS: [Act; 24] = [
     DOWN,
+    Act::Renew,
     TELLS_DOWN,
     UP,
     TELLS_NONE,
@@ -54,83 +54,75 @@ static LOOKS: [Act; 53] = [
     TELLS_UP,
     TELLS_NONE,
     DOWN,
-    TELLS_NONE,
-    Act::Check(Serving::NotServing),
-    TELLS_DOWN,
     UP,
-    TELLS_NONE,
-    Act::Open(Serving::Serving),
-    DOWN,
-    TELLS_DOWN,
-    UP,
-    DOWN,
-    UP,
-    DOWN,
-    TELLS_NONE,
     Act::Renew,
-    TELLS_UP,
     TELLS_DOWN,
     TELLS_UP,
-    TELLS_DOWN,
     TELLS_NONE,
-    UP,
     DOWN,
     UP,
     DOWN,
     UP,
-    TELLS_NONE,
+    DOWN,
     Act::Renew,
     BEHIND,
-    BEHIND,
-    Act::Open(Serving::Serving),
-    DOWN,
-    TELLS_DOWN,
+    Act::Open(Serving::NotServing),
     UP,
-    TELLS_NONE,
-    Act::Renew,
-    DOWN,
-    TELLS_UP,
-    TELLS_DOWN,
-    TELLS_NONE,
-    UP,
-    DOWN,
-    UP,
-    Act::Renew,
-    TELLS_UP,
-    TELLS_DOWN,
     TELLS_UP,
 ];
 
-/// As a loop does where changes come one by one: the copy stays a copy where it has begun anew, and where it drops what it is full of.
-static ONE_BY_ONE: [Act; 8] = [
-    DOWN,
-    Act::Renew,
-    TELLS_DOWN,
-    UP,
-    TELLS_NONE,
-    Act::Renew,
-    TELLS_UP,
-    TELLS_NONE,
-];
+/// How many acts there are, those of the table again and again.
+const COUNT: usize = 960;
+
+/// A hall with two seats.
+fn two_seats(
+    rt: &impl Abort,
+    alloc: Global,
+) -> (
+    Hall<Manual, KeepFour>,
+    Seat<Manual, KeepFour>,
+    Seat<Manual, KeepFour>,
+)
+    ensures first { IsOf result.0 result.1 }
+    ensures second { IsOf result.0 result.2 }
+{
+    let names = catalogue(rt, alloc, &["a", ""]);
+    let (hall, mut seats) = Hall::new(alloc, names, 1_000, 2).expect(rt, "a hall");
+    let second = seats.pop().unwrap();
+    let first = seats.pop().unwrap();
+    (hall, first, second)
+}
+
+/// Sets `a` by this seat, and tells whether that was done.
+fn set<R: Wait>(
+    rt: &R,
+    hall: &Hall<Manual, KeepFour>,
+    setter: &mut Seat<Manual, KeepFour>,
+    setting: Setting,
+) -> bool
+    requires { IsOf hall.now setter.old }
+    ensures { IsOf hall.now setter.new }
+{
+    hall.set(rt, setter, "a", setting).is_ok()
+}
 
 fn goes_so<R: Wait>(
     rt: &R,
     hall: &Hall<Manual, KeepFour>,
-    setter: &mut Guest<Manual, KeepFour>,
+    setter: &mut Seat<Manual, KeepFour>,
     door: &mut CopyingDoor<'_, R, Manual, KeepFour>,
     watch: &mut Watch,
     act: Act,
 ) -> bool
-    requires { IsOf hall.now setter.old.seat }
-    ensures { IsOf hall.now setter.new.seat }
+    requires { IsOf hall.now setter.old }
+    ensures { IsOf hall.now setter.new }
 {
     match act {
-        Act::Set(setting) => result_of(rt, hall, setter, Step::Set("a", setting)) == DONE,
+        Act::Set(setting) => set(rt, hall, setter, setting),
         Act::Renew => {
             door.renew();
             true
         }
-        Act::Check(status) => door.check("a") == Some(status),
         Act::Open(status) => {
             let (opened, opening) = door.open("a");
             *watch = opened;
@@ -140,21 +132,20 @@ fn goes_so<R: Wait>(
     }
 }
 
-/// Goes through so many acts, from the first one on and again from there, up to one that goes otherwise.
+/// Goes through the acts, up to one that goes otherwise.
 fn first_wrong<R: Wait>(
     rt: &R,
     hall: &Hall<Manual, KeepFour>,
-    setter: &mut Guest<Manual, KeepFour>,
+    setter: &mut Seat<Manual, KeepFour>,
     door: &mut CopyingDoor<'_, R, Manual, KeepFour>,
     acts: &[Act],
-    count: usize,
 ) -> Option<usize>
-    requires ours { IsOf hall.now setter.old.seat }
+    requires ours { IsOf hall.now setter.old }
     requires some { 0 < length acts.now }
-    ensures { IsOf hall.now setter.new.seat }
+    ensures { IsOf hall.now setter.new }
 {
     let (mut watch, _) = door.open("a");
-    for index in 0..count {
+    for index in 0..COUNT {
         let act = acts[index % acts.len()];
         if !goes_so(rt, hall, setter, door, &mut watch, act) {
             return Some(index);
@@ -167,29 +158,25 @@ fn first_wrong_of<R: Wait>(
     rt: &R,
     alloc: Global,
     hall: &Hall<Manual, KeepFour>,
-    setter: &mut Guest<Manual, KeepFour>,
-    looker: &mut Guest<Manual, KeepFour>,
-) -> [Option<usize>; 2]
-    requires setter { IsOf hall.now setter.old.seat }
-    requires looker { IsOf hall.now looker.old.seat }
+    setter: &mut Seat<Manual, KeepFour>,
+    looker: &mut Seat<Manual, KeepFour>,
+) -> Option<usize>
+    requires setter { IsOf hall.now setter.old }
+    requires looker { IsOf hall.now looker.old }
 {
-    let _ = result_of(rt, hall, setter, Step::Register("a"));
+    let _ = hall.register(rt, setter, "a", Manual::new());
     let mut copy = Transcript::new(alloc);
-    let door = HallDoor::new(rt, hall, &mut looker.seat);
+    let door = HallDoor::new(rt, hall, looker);
     let mut door = CopyingDoor::new(door, &mut copy);
-    [
-        first_wrong(rt, hall, setter, &mut door, &LOOKS, 53),
-        first_wrong(rt, hall, setter, &mut door, &ONE_BY_ONE, 320),
-    ]
+    first_wrong(rt, hall, setter, &mut door, &LOOKS)
 }
 
 #[test]
 fn a_copying_door_looks_once_until_it_is_renewed(rt: HostRuntime) {
     let alloc = rt.alloc();
-    let probes = manuals(&rt, alloc);
-    let (hall, mut setter, mut looker) = two_seats(&rt, alloc, &["a", ""], 1_000, probes);
+    let (hall, mut setter, mut looker) = two_seats(&rt, alloc);
     let wrong = first_wrong_of(&rt, alloc, &hall, &mut setter, &mut looker);
-    same(&rt, &wrong, &[None, None], &"the acts");
+    same(&rt, &wrong, &None, &"the acts");
 }
 
 /// What three steps tell while memory is refused.
@@ -211,30 +198,29 @@ fn told_without_memory<R: Wait + Abort>(
     rt: &R,
     alloc: Global,
     hall: &Hall<Manual, KeepFour>,
-    setter: &mut Guest<Manual, KeepFour>,
-    looker: &mut Guest<Manual, KeepFour>,
+    setter: &mut Seat<Manual, KeepFour>,
+    looker: &mut Seat<Manual, KeepFour>,
 ) -> [Told; 4]
-    requires setter { IsOf hall.now setter.old.seat }
-    requires looker { IsOf hall.now looker.old.seat }
+    requires setter { IsOf hall.now setter.old }
+    requires looker { IsOf hall.now looker.old }
 {
-    let _ = result_of(rt, hall, setter, Step::Register("a"));
+    let _ = hall.register(rt, setter, "a", Manual::new());
     let mut copy = Transcript::new(alloc);
-    let door = HallDoor::new(rt, hall, &mut looker.seat);
+    let door = HallDoor::new(rt, hall, looker);
     let mut door = CopyingDoor::new(door, &mut copy);
     let (mut watch, _) = door.open("a");
-    let _ = result_of(rt, hall, setter, Step::Set("a", Setting::Down));
-    let _ = result_of(rt, hall, setter, Step::Set("a", Setting::Up));
+    set(rt, hall, setter, Setting::Down);
+    set(rt, hall, setter, Setting::Up);
     let told = steps_without_memory(alloc, &mut door, &mut watch);
     let [first, second, third] = told.expect(rt, "a room");
-    let _ = result_of(rt, hall, setter, Step::Set("a", Setting::Down));
+    set(rt, hall, setter, Setting::Down);
     [first, second, third, door.step(&mut watch)]
 }
 
 #[test]
 fn a_copying_door_without_memory_looks_at_the_hall(rt: HostRuntime) {
     let alloc = rt.alloc();
-    let probes = manuals(&rt, alloc);
-    let (hall, mut setter, mut looker) = two_seats(&rt, alloc, &["a", ""], 1_000, probes);
+    let (hall, mut setter, mut looker) = two_seats(&rt, alloc);
     let told = told_without_memory(&rt, alloc, &hall, &mut setter, &mut looker);
     let expected = [
         Ok(Some(Serving::NotServing)),

@@ -1,8 +1,6 @@
 mod ends;
-mod flips;
 mod letters;
 mod memory;
-mod orders;
 mod paced;
 mod plans;
 mod rings;

@@ -8,16 +8,12 @@ mod crews;
 #[cfg(test)]
 mod faults;
 #[cfg(test)]
-mod guest;
-#[cfg(test)]
 mod keeping;
 #[cfg(test)]
-mod rows;
+mod names;
 #[cfg(test)]
 mod same;
 #[cfg(test)]
 mod sockets;
-#[cfg(test)]
-mod stores;
 #[cfg(test)]
 mod watchdogs;

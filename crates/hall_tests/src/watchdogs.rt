@@ -1,7 +1,5 @@
 //! Tests of the watchdog and the diary over halls, by public calls alone, at readings of the clock that a test picks.
 
-mod begun;
 mod reading;
 mod reporting;
-mod sixteen;
 mod telling;

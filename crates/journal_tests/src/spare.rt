@@ -23,8 +23,6 @@ pub(crate) struct Spare {
     alloc: Global,
     file: Vec<u8>,
     pub(crate) replacing: Replacing,
-    // How many more do not work: the last of these takes no entry, and those before it are not opened.
-    pub(crate) failing: usize,
 }
 
 /// How many calls of a device opening an empty file takes.
@@ -38,7 +36,6 @@ impl Spare {
             alloc,
             file: file.to_vec(alloc).expect(rt, "memory"),
             replacing: Replacing::Works,
-            failing: 0,
         }
     }
 
@@ -62,16 +59,7 @@ impl Medium for Spare {
 
     fn reopen(&mut self) -> Result<Memory, DeviceError> {
         self.replacing = Replacing::Works;
-        let mut device = Memory::new(self.alloc, self.file.as_slice().to_vec(self.alloc)?)?;
-        let failing = self.failing;
-        self.failing = failing.saturating_sub(1);
-        if failing > 1 {
-            return Err(DeviceError::Failed);
-        }
-        if failing == 1 {
-            device.stop_after(OPENING);
-        }
-        Ok(device)
+        Ok(Memory::new(self.alloc, self.file.as_slice().to_vec(self.alloc)?)?)
     }
 
     fn replace(

@@ -21,7 +21,7 @@ pub(crate) type Store = JournalStore<Spare, Sessions>;
 pub(crate) const NEWEST: usize = 5;
 
 /// A store over a device, and the entries that are found there.
-pub(crate) fn store_over<M: Medium>(
+fn store_over<M: Medium>(
     rt: &impl Abort,
     alloc: Global,
     medium: M,
@@ -57,7 +57,7 @@ pub(crate) fn store_in(
 
 /// The desk that such a file makes, the entries that are found there, for how many entries of the history others stand, and how many those
 /// are.
-pub(crate) fn desk_in(
+fn desk_in(
     rt: &impl Abort,
     alloc: Global,
     file: &[u8],

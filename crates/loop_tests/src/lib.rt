@@ -1,10 +1,6 @@
-//! Tests of `live_server`, `reactor`, `server` and `live_run`. They see public calls alone.
+//! Tests of `live_server`, `reactor` and `server`. They see public calls alone.
 #![tactic(auto)]
 
-#[cfg(test)]
-mod host;
-#[cfg(test)]
-mod live_runs;
 #[cfg(test)]
 mod loops;
 #[cfg(test)]
@@ -14,10 +10,10 @@ mod queues;
 #[cfg(test)]
 mod recorder;
 #[cfg(test)]
+mod rounds;
+#[cfg(test)]
 mod same;
 #[cfg(test)]
-mod scenes;
+mod servers;
 #[cfg(test)]
 mod stage;
-#[cfg(test)]
-mod steps;

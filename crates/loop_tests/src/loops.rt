@@ -7,10 +7,7 @@ use std::io::Write;
 use std::net::{Net, SocketAddr, TcpStream};
 use std::process::Abort;
 use std::sync::Arc;
-use std::time::{Clock, Duration};
-
-/// How many seconds a client waits for each read: no test takes so long.
-const PATIENCE: u64 = 20;
+use std::time::Clock;
 
 /// Two loops that share their places. Each has a socket of its own, so that neither can serve for the other.
 #[derive(Drop)]
@@ -64,8 +61,6 @@ pub(crate) fn client<R: Net<Stream = TcpStream> + Abort>(
     bytes: &[u8],
 ) -> TcpStream {
     let mut stream = TcpStream::connect(rt, addr).expect(rt, "a connection");
-    let patience = Some(Duration::from_secs(PATIENCE));
-    stream.set_read_timeout(patience).expect(rt, "a time limit");
     stream.write_all(bytes).expect(rt, "a request sent");
     stream
 }

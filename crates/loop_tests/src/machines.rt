@@ -1,6 +1,4 @@
 //! Tests of `reactor`. They see public calls alone.
 
-mod connections;
 mod links;
-mod memory;
 mod streams;

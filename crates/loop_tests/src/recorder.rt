@@ -1,16 +1,16 @@
 //! What a loop asks its door.
 
-use crate::host::{At, Manner, round_at};
 use desk_core::{Behind, Watch};
 use health_wire::Serving;
 use live_server::{EventServer, News};
 use plain::Inquiry;
 use std::alloc::{AllocError, Global};
 use std::process::Abort;
+use std::time::Clock;
 use web_call::Door;
 
 /// The most that a recorder takes down.
-pub(crate) const MOST: usize = 16;
+const MOST: usize = 4;
 
 /// A door that takes down what it is asked first: a Check as `c`, an opening as `o`, a step as `s`, a plain request as `t`, and that it is renewed as `r`. It
 /// counts all.
@@ -82,11 +82,9 @@ impl<D: Door> Door for Recorder<'_, D> {
 }
 
 /// What a loop asks its door first in a round, and how often it asks it.
-pub(crate) fn asked_in_round<D: Door>(
-    rt: &impl Abort,
+pub(crate) fn asked_in_round<R: Abort + Clock, D: Door>(
+    rt: &R,
     server: &mut EventServer,
-    clock: &At,
-    manner: Option<Manner>,
     door: &mut D,
     news: &News,
 ) -> ([u8; MOST], usize) {
@@ -95,6 +93,6 @@ pub(crate) fn asked_in_round<D: Door>(
         asked: [b'.'; MOST],
         count: 0,
     };
-    round_at(server, clock, manner, &mut recorder, news).expect(rt, "a round");
+    server.round(rt, &mut recorder, news).expect(rt, "a round");
     (recorder.asked, recorder.count)
 }

@@ -1,7 +1,10 @@
-use super::responses::{SERVING, WATCH_OF_UNKNOWN};
-use super::*;
+use crate::same::{holds, same};
+use client::{AskFault, ask};
+use std::alloc::Global;
 use std::io::ErrorKind;
+use std::process::Abort;
 use test_support::{Fault, FaultyReader, FaultyWriter};
+use web_call::Method;
 
 const BROKEN: Fault = Fault::Error(ErrorKind::BrokenPipe);
 
@@ -13,15 +16,41 @@ static FAULTS: [Fault; 3] = [BROKEN, Fault::Error(ErrorKind::Interrupted), Fault
 type Row = (&'static [u8], Method, usize);
 
 static READS: [Row; 2] = [
-    (SERVING, Method::Check, 106),
-    (WATCH_OF_UNKNOWN, Method::Watch, 122),
+    (
+        b"HTTP/1.1 200 OK\r\n\
+        connection: close\r\n\
+        content-type: application/grpc-web+proto\r\n\
+        content-length: 27\r\n\
+        \r\n\
+        \0\0\0\0\x02\x08\x01\
+        \x80\0\0\0\x0fgrpc-status:0\r\n",
+        Method::Check,
+        106,
+    ),
+    (
+        b"HTTP/1.1 200 OK\r\n\
+        connection: close\r\n\
+        content-type: application/grpc-web+proto\r\n\
+        transfer-encoding: chunked\r\n\
+        \r\n\
+        7\r\n\
+        \0\0\0\0\x02\x08\x03\r\n\
+        2f\r\n\
+        \x80\0\0\0\x2agrpc-status:14\r\n\
+        grpc-message:watch ended\r\n\
+        \r\n\
+        0\r\n\
+        \r\n",
+        Method::Watch,
+        122,
+    ),
 ];
 
 /// How many bytes a request has. A flush is one call more.
 const REQUEST_LEN: usize = 144;
 
-/// Asks over a reader, and a writer of one byte a call, whose read and whose call of this number is faulty: the end, how often was read, and
-/// how many writes and flushes there were.
+/// Asks over a reader, and a writer of one byte a call, whose read and whose call of this number is faulty. It ends by this fault, or by
+/// none, after so many reads, and so many writes and flushes.
 fn expect(
     rt: &impl Abort,
     alloc: Global,
@@ -39,29 +68,28 @@ fn expect(
     same(rt, &found, &expected, &(method, fault, read, write));
 }
 
-/// Each call of one response, with this fault. A flush that is told to take nothing succeeds.
-fn expect_each(rt: &impl Abort, alloc: Global, row: &Row, fault: Fault) {
-    let calls = REQUEST_LEN.saturating_add(1);
-    for read in 1..=row.2 {
-        let expected = (Some(AskFault::Read), read, calls);
-        expect(rt, alloc, row, fault, (read, 0), expected);
-    }
-    for write in 1..=REQUEST_LEN {
-        let expected = (Some(AskFault::Write), 0, write);
-        expect(rt, alloc, row, fault, (0, write), expected);
-    }
-    expect(rt, alloc, row, fault, (0, 0), (None, row.2, calls));
-}
-
-/// Each write of the request is one of its bytes, and the flush stands behind them.
+/// Each write of the request is one of its bytes, and the flush stands behind them. A flush that is told to take nothing succeeds.
 #[test]
 fn ends_at_each_faulty_call_and_flushes_once_behind_the_request(rt: HostRuntime) {
+    let alloc = rt.alloc();
+    let flush = REQUEST_LEN.saturating_add(1);
     for row in &READS {
+        expect(&rt, alloc, row, BROKEN, (0, 0), (None, row.2, flush));
         for &fault in &FAULTS {
-            expect_each(&rt, rt.alloc(), row, fault);
+            for read in 1..=row.2 {
+                let expected = (Some(AskFault::Read), read, flush);
+                expect(&rt, alloc, row, fault, (read, 0), expected);
+            }
+            for write in 1..=REQUEST_LEN {
+                let expected = (Some(AskFault::Write), 0, write);
+                expect(&rt, alloc, row, fault, (0, write), expected);
+            }
         }
-        let flush = REQUEST_LEN.saturating_add(1);
         let expected = (Some(AskFault::Write), 0, flush);
-        expect(&rt, rt.alloc(), row, BROKEN, (0, flush), expected);
+        expect(&rt, alloc, row, BROKEN, (0, flush), expected);
     }
+    // the words for what no server brings about
+    let (write, memory) = (AskFault::Write, AskFault::NoMemory);
+    let words = format!(in alloc; "{write}, {memory}").expect(&rt, "memory");
+    holds(&rt, words.as_str() == "write, out of memory", "words");
 }

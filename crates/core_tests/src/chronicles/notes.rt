@@ -1,52 +1,36 @@
-//! What is known of entries, and who sits where.
+//! What is known of entries.
 
-use crate::same::{holds, same};
+use crate::same::same;
 use chronicle::{Chronicle, Newest, Note, Who, time_text};
 use std::process::Abort;
-use std::sync::atomic::{AtomicU64, Ordering};
-use std::thread;
-use test_support::Scarcity;
 
-fn note_of(micros: u64, who: Who) -> Option<Note> {
-    Some(Note {
-        time: time_text(micros),
-        who,
-    })
+/// When an entry was made, in microseconds, and who asked for it.
+type Known = Option<(u64, Who)>;
+
+fn expect(rt: &impl Abort, chronicle: &Chronicle, place: u32, known: Known) {
+    let expected = match known {
+        Some((micros, who)) => Some(Note {
+            time: time_text(micros),
+            who,
+        }),
+        None => None,
+    };
+    same(rt, &chronicle.noted(place), &expected, &place);
 }
 
-fn expect(rt: &impl Abort, chronicle: &Chronicle, place: u32, expected: &Option<Note>) {
-    same(rt, &chronicle.noted(place), expected, &place);
-}
-
-/// How many entries setup made, and then the first and the last place whose note is kept, if one is.
-static SETUPS: [(u32, Option<(u32, u32)>); 6] = [
-    (0, None),
-    (1, Some((0, 0))),
-    (65_536, Some((0, 65_535))),
-    (65_537, Some((1, 65_536))),
-    (200_000, Some((134_464, 199_999))),
-    (u32::MAX, Some((4_294_901_759, 4_294_967_294))),
+/// What is known behind 100,000 entries of setup, which the first nine entries have come before.
+static KNOWN: [(u32, Known); 10] = [
+    (3, None),
+    (4, Some((4, Who::Session(4)))),
+    (5, Some((5, Who::Session(5)))),
+    (6, None),
+    (7, Some((7, Who::Session(7)))),
+    (8, None),
+    (34_463, None),
+    (34_464, Some((9, Who::Setup))),
+    (99_999, Some((9, Who::Setup))),
+    (100_000, None),
 ];
-
-#[test]
-fn setup_notes_all_of_its_entries(rt: HostRuntime) {
-    for (places, kept) in &SETUPS {
-        let chronicle = Chronicle::new(rt.alloc()).expect(&rt, "memory");
-        chronicle.note_all(*places, 5, Who::Setup);
-        expect(&rt, &chronicle, *places, &None);
-        let Some((first, last)) = *kept else {
-            continue;
-        };
-        let setup = note_of(5, Who::Setup);
-        let middle = first + (last - first) / 2;
-        for place in [first, middle, last] {
-            expect(&rt, &chronicle, place, &setup);
-        }
-        if let Some(before) = first.checked_sub(1) {
-            expect(&rt, &chronicle, before, &None);
-        }
-    }
-}
 
 // Far more entries come than are kept.
 #[test]
@@ -63,17 +47,8 @@ fn the_newest_of_a_service_stays_known(rt: HostRuntime) {
     chronicle.keep(15, Newest::Report, 6);
     chronicle.keep(15, Newest::Report, 9);
     chronicle.note_all(100_000, 9, Who::Setup);
-    for (place, is_known) in [
-        (3, false),
-        (4, true),
-        (5, true),
-        (6, false),
-        (7, true),
-        (8, false),
-    ] {
-        let note = note_of(u64::from(place), Who::Session(place));
-        let expected = if is_known { note } else { None };
-        expect(&rt, &chronicle, place, &expected);
+    for &(place, known) in &KNOWN {
+        expect(&rt, &chronicle, place, known);
     }
 }
 
@@ -84,50 +59,11 @@ static FAR: [u32; 4] = [10, 0x7fff_ffff, 0x8000_0014, 0xfffe_fffe];
 fn the_newest_is_known_however_far_behind_the_one_before(rt: HostRuntime) {
     let chronicle = Chronicle::new(rt.alloc()).expect(&rt, "memory");
     for &place in &FAR {
-        let who = Who::Session(place);
-        chronicle.note(place, u64::from(place), who);
+        let (micros, who) = (u64::from(place), Who::Session(place));
+        chronicle.note(place, micros, who);
         chronicle.keep(3, Newest::Change, place);
         // It has the place of its slot among the newest entries.
         chronicle.note(place.saturating_add(65_536), 0, Who::Setup);
-        expect(&rt, &chronicle, place, &note_of(u64::from(place), who));
-    }
-    expect(&rt, &chronicle, u32::MAX, &None);
-}
-
-#[test]
-fn a_chronicle_is_refused_without_memory(rt: HostRuntime) {
-    let scarcity = Scarcity::with_small_room(rt.alloc()).expect(&rt, "memory");
-    let refused = Chronicle::new(rt.alloc()).is_err();
-    drop(scarcity);
-    holds(&rt, refused, "2 MiB in a room of 16 KiB");
-    let chronicle = Chronicle::new(rt.alloc()).expect(&rt, "memory");
-    expect(&rt, &chronicle, 0, &None);
-}
-
-/// The entries of a thread: those of a slot are made by all threads, one round apart.
-fn note_or_look(chronicle: &Chronicle, thread: u32, wrong: &AtomicU64) {
-    for turn in 0..20_000 {
-        let place = thread % 4 * 65_536 + turn % 8;
-        chronicle.note(place, u64::from(place), Who::Session(place));
-        let other = thread.wrapping_add(1) % 4 * 65_536 + turn % 8;
-        let found = chronicle.noted(other);
-        if found.is_some() && found != note_of(u64::from(other), Who::Session(other)) {
-            wrong.store(u64::from(other), Ordering::SeqCst);
-        }
-    }
-}
-
-#[test]
-fn threads_see_no_note_of_another_entry(rt: HostRuntime) {
-    let chronicle = Chronicle::new(rt.alloc()).expect(&rt, "memory");
-    let wrong = AtomicU64::new(u64::MAX);
-    let run = |thread: usize| note_or_look(&chronicle, thread as u32, &wrong);
-    thread::map_indices(&rt, rt.alloc(), 4, &run).expect(&rt, "memory");
-    same(&rt, &wrong.load(Ordering::SeqCst), &u64::MAX, &"wrong");
-    for slot in 0..8 {
-        let place = 3 * 65_536 + slot;
-        let newest = note_of(u64::from(place), Who::Session(place));
-        expect(&rt, &chronicle, place, &newest);
-        expect(&rt, &chronicle, slot, &None);
+        expect(&rt, &chronicle, place, Some((micros, who)));
     }
 }

@@ -1,14 +1,10 @@
 //! The numbers of sessions.
 
 use crate::same::same;
-use chronicle::{Chronicle, SessionNumbers};
+use chronicle::SessionNumbers;
 
 #[test]
-fn numbers_sessions_from_1_on(rt: HostRuntime) {
-    let chronicle = Chronicle::new(rt.alloc()).expect(&rt, "memory");
-    for expected in [1, 2, 3] {
-        same(&rt, &chronicle.next_session(), &expected, &expected);
-    }
+fn sessions_stay_at_the_greatest_number(rt: HostRuntime) {
     let numbers = SessionNumbers::after(u32::MAX - 1);
     same(&rt, &numbers.take(), &u32::MAX, &"the last");
     same(&rt, &numbers.take(), &u32::MAX, &"it stays");

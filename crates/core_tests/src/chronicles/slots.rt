@@ -13,43 +13,22 @@ fn record_of(number: u32) -> Record {
     }
 }
 
-const AWAITED: Result<u32, Missing> = Err(Missing::Awaited);
-
-const WRITTEN_OVER: Result<u32, Missing> = Err(Missing::WrittenOver);
-
-/// How many of its parts the writer of lap 1 has put in, and what is then found of laps 0, 1 and 2.
-const HALFWAY: [(usize, [Result<u32, Missing>; 3]); 5] = [
-    (0, [Ok(7), AWAITED, AWAITED]),
-    (1, [WRITTEN_OVER, AWAITED, AWAITED]),
-    (2, [WRITTEN_OVER, AWAITED, AWAITED]),
-    (3, [WRITTEN_OVER, AWAITED, AWAITED]),
-    (4, [WRITTEN_OVER, Ok(9), AWAITED]),
-];
-
-#[test]
-fn a_record_that_is_half_written_over_is_not_believed(rt: HostRuntime) {
-    for (parts, expected) in &HALFWAY {
-        let slot = Slot::new();
-        slot.put(0, record_of(7));
-        for word in slot.words().iter().take(*parts) {
-            word.put(1, 9);
-        }
-        // A slow writer of lap 0 changes nothing any more.
-        slot.put(0, record_of(8));
-        for (lap, expected) in (0u32..).zip(expected) {
-            let expected = expected.map(record_of);
-            same(&rt, &slot.record(lap), &expected, &(*parts, lap));
-        }
-    }
-}
-
 /// The parts of a record, as bits.
 const PARTS: [u32; 4] = [1, 2, 4, 8];
 
-/// Whichever parts two writers have put in of laps of their own, neither lap has a record.
+/// What is found of the laps 0 and 1 where the writer of lap 1 has put these parts in.
+fn expected_of(later: u32) -> (Result<Record, Missing>, Result<Record, Missing>) {
+    match later {
+        0 => (Ok(record_of(7)), Err(Missing::Awaited)),
+        15 => (Err(Missing::WrittenOver), Ok(record_of(9))),
+        _ => (Err(Missing::WrittenOver), Err(Missing::Awaited)),
+    }
+}
+
+/// Whichever parts two writers have put in of laps of their own, no lap has a record but the one that has all of its parts.
 #[test]
 fn a_record_of_parts_of_two_laps_is_not_believed(rt: HostRuntime) {
-    for later in 1..15u32 {
+    for later in 0..16u32 {
         let slot = Slot::new();
         slot.put(0, record_of(7));
         for (part, word) in PARTS.iter().zip(&slot.words()) {
@@ -57,27 +36,17 @@ fn a_record_of_parts_of_two_laps_is_not_believed(rt: HostRuntime) {
                 word.put(1, 9);
             }
         }
+        // A slow writer of lap 0 changes nothing any more.
+        slot.put(0, record_of(8));
         let found = (slot.record(0), slot.record(1));
-        let expected = (Err(Missing::WrittenOver), Err(Missing::Awaited));
-        same(&rt, &found, &expected, &later);
+        same(&rt, &found, &expected_of(later), &later);
     }
 }
 
-/// What is found of laps in a new slot, which stands at the lap before the first.
-const NEW: [(u32, Result<u32, Missing>); 4] = [
-    (0, AWAITED),
-    (0x7fff_fffe, AWAITED),
-    (0x7fff_ffff, WRITTEN_OVER),
-    (u32::MAX, Ok(0)),
-];
-
 #[test]
 fn a_new_slot_stands_at_the_lap_before_the_first(rt: HostRuntime) {
-    let slot = Slot::new();
-    for &(lap, expected) in &NEW {
-        let expected = expected.map(record_of);
-        same(&rt, &slot.record(lap), &expected, &lap);
-    }
+    let found = Slot::new().record(u32::MAX);
+    same(&rt, &found, &Ok(record_of(0)), &"the lap before the first");
 }
 
 const THREADS: usize = 4;
@@ -90,7 +59,7 @@ fn put_laps(word: &Word, laps: &AtomicU32, lost: &AtomicU32) {
     for _ in 0..LAPS {
         let lap = laps.fetch_add(1, Ordering::SeqCst);
         word.put(lap, lap);
-        if word.part(lap) == AWAITED {
+        if word.part(lap) == Err(Missing::Awaited) {
             lost.fetch_add(1, Ordering::SeqCst);
         }
     }
@@ -99,9 +68,12 @@ fn put_laps(word: &Word, laps: &AtomicU32, lost: &AtomicU32) {
 #[test]
 fn no_part_gives_way_to_one_of_an_earlier_lap(rt: HostRuntime) {
     let word = Word::new();
-    let (laps, lost) = (AtomicU32::new(0), AtomicU32::new(0));
+    // The number of laps goes round in the midst of them.
+    word.put(0x7000_0000, 0);
+    word.put(0xe000_0000, 0);
+    let (laps, lost) = (AtomicU32::new(u32::MAX - 99_999), AtomicU32::new(0));
     let run = |_: usize| put_laps(&word, &laps, &lost);
     thread::map_indices(&rt, rt.alloc(), THREADS, &run).expect(&rt, "memory");
     same(&rt, &lost.load(Ordering::SeqCst), &0, &"lost");
-    same(&rt, &word.part(199_999), &Ok(199_999), &"the last");
+    same(&rt, &word.part(99_999), &Ok(99_999), &"the last");
 }

@@ -1,6 +1,6 @@
 //! The wall clock.
 
-use crate::same::{holds, same};
+use crate::same::same;
 use chronicle::wall_micros;
 use std::io;
 use std::time::{Clock, Duration};
@@ -21,18 +21,14 @@ impl Clock for At {
 
 #[test]
 fn reads_the_wall_clock_in_microseconds(rt: HostRuntime) {
-    let cases = [
-        (None, 0),
-        (Some(Duration::from_nanos(999)), 0),
-        (
-            Some(Duration::new(1_795_657_509, 123_456_789)),
-            1_795_657_509_123_456,
-        ),
-        (Some(Duration::from_secs(u64::MAX)), u64::MAX),
-    ];
-    for (reading, expected) in cases {
-        same(&rt, &wall_micros(&At(reading)), &expected, &reading);
-    }
-    // 2020-01-01T00:00:00Z has passed.
-    holds(&rt, wall_micros(&rt) > 1_577_836_800_000_000, "now");
+    let then = At(Some(Duration::new(1_795_657_509, 123_456_789)));
+    same(
+        &rt,
+        &wall_micros(&then),
+        &1_795_657_509_123_456,
+        &"cut to the microsecond",
+    );
+    let last = At(Some(Duration::from_secs(u64::MAX)));
+    same(&rt, &wall_micros(&last), &u64::MAX, &"no later time");
+    same(&rt, &wall_micros(&At(None)), &0, &"not read");
 }

@@ -32,6 +32,47 @@ impl<R: Read + Drop, W: Write + Drop> Job for Letter<'_, R, W> {
     }
 }
 
+/// An end of a call. Where it is dropped it puts this digit behind the steps that were made.
+pub(crate) struct Noted<'a, T> {
+    pub(crate) end: T,
+    pub(crate) digit: u32,
+    pub(crate) steps: &'a AtomicU32,
+}
+
+/// Puts a digit behind the steps that were made.
+pub(crate) fn note(steps: &AtomicU32, digit: u32) {
+    let before = steps.load(Ordering::SeqCst);
+    let now = before.saturating_mul(10).saturating_add(digit);
+    steps.store(now, Ordering::SeqCst);
+}
+
+impl<T: Drop> Drop for Noted<'_, T> {
+    fn drop(self) {
+        let Noted {
+            end: _,
+            digit,
+            steps,
+        } = self;
+        note(steps, digit);
+    }
+}
+
+impl<R: Read> Read for Noted<'_, R> {
+    fn read(&mut self, buf: &mut [u8]) -> io::Result<usize> {
+        self.end.read(buf)
+    }
+}
+
+impl<W: Write> Write for Noted<'_, W> {
+    fn write(&mut self, buf: &[u8]) -> io::Result<usize> {
+        self.end.write(buf)
+    }
+
+    fn flush(&mut self) -> io::Result<()> {
+        self.end.flush()
+    }
+}
+
 /// A letter with a request over bytes, whose answer nobody reads.
 pub(crate) type Note<'a> = Letter<'a, &'static [u8], Sink>;
 
@@ -49,17 +90,3 @@ pub(crate) fn notes<'a>(
     }
     notes
 }
-
-/// A Check by another method of HTTP.
-pub(crate) const GET: &[u8] = b"GET /grpc.health.v1.Health/Check HTTP/1.1\r\n\
-    content-type: application/grpc-web+proto\r\n\
-    content-length: 5\r\n\
-    \r\n\
-    \x00\x00\x00\x00\x00";
-
-/// A Check that ends within its body.
-pub(crate) const CUT: &[u8] = b"POST /grpc.health.v1.Health/Check HTTP/1.1\r\n\
-    content-type: application/grpc-web+proto\r\n\
-    content-length: 5\r\n\
-    \r\n\
-    \x00\x00\x00\x00";

@@ -27,10 +27,7 @@ impl Heard {
         }
     }
 
-    pub(crate) fn events(&self) -> u32 {
-        self.events.load(Ordering::SeqCst)
-    }
-
+    /// On how many of them the others had not begun.
     pub(crate) fn alone(&self) -> u32 {
         self.alone.load(Ordering::SeqCst)
     }

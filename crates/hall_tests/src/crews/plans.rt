@@ -5,9 +5,9 @@ ghost use Rattle.std.specs.List.{All};
 ghost use Rattle.hall.specs.Seats.{IsOf};
 
 use crate::crews::letters::notes;
-use crate::guest::catalogue;
-use crew::{CallEnd, CrewFault, CrewWhy, Job, Report, Turnstile, serve_all};
-use desk_core::{Name, Order, Refusal, Reply, Setting};
+use crate::names::catalogue;
+use crew::{CallEnd, CrewFault, CrewWhy, Job, OpenTurnstile, Report, Turnstile, serve_all};
+use desk_core::{Name, Order, Setting};
 use hall::{Hall, Seat};
 use probe_core::{Manual, Probe};
 use std::alloc::Global;
@@ -22,7 +22,6 @@ use web_call::Limits;
 #[derive(Clone, Copy)]
 pub(crate) enum Wish {
     Set(&'static str, Setting),
-    Shutdown,
     /// Of a name that is not listed, and so long that it takes a while to find that out.
     SetLong,
 }
@@ -54,18 +53,11 @@ pub(crate) fn plan_of(workers: u16) -> Plan {
     }
 }
 
-/// What comes of an order.
-pub(crate) type Taken = Result<Reply, Refusal>;
-
 /// What a crew has left.
 #[derive(Drop)]
 pub(crate) struct Found {
     /// How each call ended, by its number, or why there is no report.
     pub(crate) calls: Result<Vec<CallEnd>, CrewWhy>,
-    /// What came of each order, if there is a report.
-    pub(crate) orders: Vec<Vec<Taken>>,
-    /// How many changes each seat has made, by its place, and none for one that is in another's.
-    pub(crate) made: Vec<Option<u64>>,
     /// How many entries the journal has, if no seat was missing.
     pub(crate) entries: Option<usize>,
 }
@@ -116,7 +108,6 @@ fn order_of(rt: &impl Abort, alloc: Global, wish: &Wish) -> Order {
             let name = String::from_str(alloc, text).expect(rt, "memory");
             Order::Set(Name::new(name), setting)
         }
-        Wish::Shutdown => Order::Shutdown,
         Wish::SetLong => Order::Set(long_name(rt, alloc), Setting::Up),
     }
 }
@@ -138,27 +129,6 @@ pub(crate) fn lists_of(rt: &impl Abort, alloc: Global, lists: &[&[Wish]]) -> Vec
             .expect(rt, "memory");
     }
     made
-}
-
-/// How many changes each of the seats has made.
-fn made_by<R: Abort, P: Probe>(rt: &R, alloc: Global, seats: &[Seat<P>]) -> Vec<Option<u64>> {
-    let mut made = Vec::new(alloc);
-    for (place, seat) in seats.iter().enumerate() {
-        let is_here = usize::from(seat.number()) == place;
-        made.push(is_here.then_some(seat.made()))
-            .expect(rt, "memory");
-    }
-    made
-}
-
-/// How many entries the journal has, if no seat is missing.
-fn entries_in<P: Probe>(hall: Hall<P>, seats: Vec<Seat<P>>) -> Option<usize>
-    requires { All (IsOf hall) seats.items }
-{
-    match hall.close(seats) {
-        Ok(closed) => Some(closed.desk.journal().len()),
-        Err(_) => None,
-    }
 }
 
 /// A report, or a fault.
@@ -201,21 +171,18 @@ where
 }
 
 /// What is left of a crew, its hall and all.
-fn found_of<R: Abort, P: Probe>(rt: &R, alloc: Global, hall: Hall<P>, served: Served<P>) -> Found
+fn found_of<P: Probe>(hall: Hall<P>, served: Served<P>) -> Found
     requires { MatchResult served (λ report. All (IsOf hall) report.seats.items) (λ fault. All (IsOf hall) fault.seats.items) }
 {
-    let (calls, orders, seats) = match served {
-        Ok(report) => (Ok(report.calls), report.orders, report.seats),
-        Err(fault) => (Err(fault.why), Vec::new(alloc), fault.seats),
+    let (calls, seats) = match served {
+        Ok(report) => (Ok(report.calls), report.seats),
+        Err(fault) => (Err(fault.why), fault.seats),
     };
-    let made = made_by(rt, alloc, &seats);
-    let entries = entries_in(hall, seats);
-    Found {
-        calls,
-        orders,
-        made,
-        entries,
-    }
+    let entries = match hall.close(seats) {
+        Ok(closed) => Some(closed.desk.journal().len()),
+        Err(_) => None,
+    };
+    Found { calls, entries }
 }
 
 /// Takes all memory but that which the plan leaves, for as long as the result is held.
@@ -252,35 +219,26 @@ where
     let taken = squeeze(alloc, plan);
     let served = serve_planned(rt, alloc, plan, &hall, seats, jobs, orders, turnstile);
     drop(taken);
-    found_of(rt, alloc, hall, served)
-}
-
-/// Probes of `a` and of the empty name.
-pub(crate) fn pair<R: Abort, P: Probe>(rt: &R, alloc: Global, first: P, second: P) -> Vec<P> {
-    let mut probes = Vec::with_capacity(alloc, 2).expect(rt, "memory");
-    probes.push(first).expect(rt, "memory");
-    probes.push(second).expect(rt, "memory");
-    probes
+    found_of(hall, served)
 }
 
 /// Probes that are set by hand, of `a` and of the empty name.
 pub(crate) fn manuals(rt: &impl Abort, alloc: Global) -> Vec<Manual> {
-    pair(rt, alloc, Manual::new(), Manual::new())
+    Vec::from_array(alloc, [Manual::new(), Manual::new()]).expect(rt, "memory")
 }
 
 /// Lets a crew answer these requests, and tells how many jobs it has opened.
-pub(crate) fn serve_notes<R: Wait + Threads + Sync + Abort, T: Turnstile>(
+pub(crate) fn serve_notes<R: Wait + Threads + Sync + Abort>(
     rt: &R,
     alloc: Global,
     plan: &Plan,
     lists: &[&[Wish]],
     requests: &[Option<&'static [u8]>],
-    turnstile: &T,
 ) -> (Found, u32) {
     let opened = AtomicU32::new(0);
     let jobs = notes(rt, alloc, requests, &opened);
     let orders = lists_of(rt, alloc, lists);
     let probes = manuals(rt, alloc);
-    let found = serve(rt, alloc, plan, orders, probes, jobs, turnstile);
+    let found = serve(rt, alloc, plan, orders, probes, jobs, &OpenTurnstile);
     (found, opened.load(Ordering::SeqCst))
 }

@@ -1,7 +1,6 @@
 use crate::same::same;
 use crew::Ring;
 use std::process::Abort;
-use std::sync::Wait;
 use web_call::{Bell, Turn};
 
 /// Waits so often as there are turns expected.
@@ -12,25 +11,20 @@ fn expect_turns<R: Abort, B: Bell>(rt: &R, bell: &mut B, expected: &[Turn]) {
 }
 
 /// Each bell gives its own Looks, one for each ring since it was made, and none for one behind the end.
-fn expect_own_looks<R: Wait + Abort>(rt: &R) {
-    let ring = Ring::new();
-    ring.ring(rt);
-    let mut first = ring.bell(rt);
-    ring.ring(rt);
-    let mut second = ring.bell(rt);
-    ring.ring(rt);
-    expect_turns(rt, &mut first, &[Turn::Look, Turn::Look]);
-    ring.ring(rt);
-    ring.end(rt);
-    ring.ring(rt);
-    ring.end(rt);
-    let two = [Turn::Look, Turn::Look, Turn::End, Turn::End];
-    expect_turns(rt, &mut second, &two);
-    expect_turns(rt, &mut first, &[Turn::Look, Turn::End, Turn::End]);
-    expect_turns(rt, &mut ring.bell(rt), &[Turn::End, Turn::End]);
-}
-
 #[test]
 fn gives_a_look_for_each_ring_from_then_on(rt: HostRuntime) {
-    expect_own_looks(&rt);
+    let ring = Ring::new();
+    ring.ring(&rt);
+    let mut first = ring.bell(&rt);
+    ring.ring(&rt);
+    let mut second = ring.bell(&rt);
+    ring.ring(&rt);
+    expect_turns(&rt, &mut first, &[Turn::Look, Turn::Look]);
+    ring.ring(&rt);
+    ring.end(&rt);
+    ring.ring(&rt);
+    let two = [Turn::Look, Turn::Look, Turn::End, Turn::End];
+    expect_turns(&rt, &mut second, &two);
+    expect_turns(&rt, &mut first, &[Turn::Look, Turn::End]);
+    expect_turns(&rt, &mut ring.bell(&rt), &[Turn::End]);
 }

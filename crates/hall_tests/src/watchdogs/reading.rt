@@ -1,15 +1,13 @@
 use std::io;
 use std::time::{Clock, Duration};
 
-/// A clock that stands still at so many milliseconds, or cannot be read.
+/// A clock that stands still at so many milliseconds.
 #[derive(Drop)]
-pub(crate) struct At(pub(crate) Option<u64>);
+pub(crate) struct At(pub(crate) u64);
 
 impl Clock for At {
     fn monotonic(&self) -> io::Result<Duration> {
-        self.0
-            .map(Duration::from_millis)
-            .ok_or(io::ErrorKind::Unsupported.into())
+        Ok(Duration::from_millis(self.0))
     }
 
     fn since_1970(&self) -> io::Result<Duration> {

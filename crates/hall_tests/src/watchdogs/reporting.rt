@@ -2,9 +2,8 @@
 
 ghost use Rattle.hall.specs.Seats.{IsOf};
 
-use crate::guest::catalogue;
+use crate::names::catalogue;
 use crate::same::same;
-use crate::watchdogs::begun::watchdog_of;
 use crate::watchdogs::reading::At;
 use desk_core::{Finding, KeepMany};
 use hall::{Hall, Seat};
@@ -13,9 +12,9 @@ use std::alloc::Global;
 use std::cell::RefCell;
 use std::io;
 use std::process::Abort;
-use std::sync::Wait;
+use std::sync::{Arc, Wait};
 use std::time::{Clock, Duration};
-use watchdog::{Watchdog, Wish};
+use watchdog::{Expectations, Watchdog, Wish};
 
 /// Whoever reports a pass of `a`, by a seat of its own.
 #[derive(Drop)]
@@ -84,7 +83,7 @@ fn play_over<R: Wait + Abort>(
     requires own { IsOf hall.now own.old }
     requires others { IsOf hall.now others }
 {
-    expect_round(rt, hall, watchdog, own, &At(Some(0)), false, 50);
+    expect_round(rt, hall, watchdog, own, &At(0), false, 50);
     let clock = Reporting {
         millis: 500,
         reporter: RefCell::new(Reporter {
@@ -94,25 +93,21 @@ fn play_over<R: Wait + Abort>(
         }),
     };
     expect_round(rt, hall, watchdog, own, &clock, false, 50);
-    expect_round(rt, hall, watchdog, own, &At(Some(900)), false, 50);
-    expect_round(rt, hall, watchdog, own, &At(Some(1_500)), false, 50);
-    expect_round(rt, hall, watchdog, own, &At(Some(1_899)), false, 1);
-    expect_round(rt, hall, watchdog, own, &At(Some(1_900)), true, 50);
-}
-
-/// Registers `a`.
-fn register<R: Wait>(rt: &R, hall: &Hall<Threshold, KeepMany>, seat: &mut Seat<Threshold, KeepMany>)
-    requires { IsOf hall.now seat.old }
-    ensures { IsOf hall.now seat.new }
-{
-    let _ = hall.register(rt, seat, "a", Threshold::new(3, 1, Start::Up));
+    expect_round(rt, hall, watchdog, own, &At(900), false, 50);
+    expect_round(rt, hall, watchdog, own, &At(1_899), false, 1);
+    expect_round(rt, hall, watchdog, own, &At(1_900), true, 50);
 }
 
 /// Has `a` be expected every second, over a new hall of which nothing was expected before.
 fn play<R: Wait + Abort>(rt: &R, alloc: Global) {
     let catalogue = catalogue(rt, alloc, &["a", ""]);
     let slot = catalogue.slot("a").expect(rt, "a slot");
-    let (expectations, mut watchdog) = watchdog_of(rt, alloc);
+    let expectations = Expectations::new(alloc).expect(rt, "memory");
+    let shared: Result<Arc<Expectations>, _> = Arc::new(alloc, expectations);
+    let expectations = shared.expect(rt, "memory");
+    let handle: Result<Arc<Expectations>, _> = expectations.clone();
+    let made = Watchdog::new(alloc, handle.expect(rt, "a handle"));
+    let mut watchdog = made.expect(rt, "memory");
     let made = Hall::<Threshold, KeepMany>::new(alloc, catalogue, 100, 2);
     let (hall, mut seats) = made.expect(rt, "a hall");
     let mut others = seats.pop().expect(rt, "a seat");
@@ -121,16 +116,8 @@ fn play<R: Wait + Abort>(rt: &R, alloc: Global) {
         seconds: 1,
         behind: 1,
     };
-    register(rt, &hall, &mut others);
-    expect_round(
-        rt,
-        &hall,
-        &mut watchdog,
-        &mut own,
-        &At(Some(0)),
-        false,
-        1_000,
-    );
+    let _ = hall.register(rt, &mut others, "a", Threshold::new(3, 1, Start::Up));
+    expect_round(rt, &hall, &mut watchdog, &mut own, &At(0), false, 1_000);
     expectations.expect(slot, wish);
     play_over(rt, &hall, &mut own, others, &mut watchdog);
 }

@@ -1,5 +1,4 @@
-use mio::{Interest, Registry, Token};
-use reactor::{Socket, Stream};
+use reactor::Stream;
 use std::io;
 use std::io::{Read, Write};
 
@@ -22,31 +21,4 @@ impl<R: Read + Drop, W: Write + Drop> Stream for Pair<R, W> {
     fn write(&mut self, bytes: &[u8]) -> io::Result<usize> {
         self.writer.write(bytes)
     }
-}
-
-/// No poll reports it.
-impl<R: Read + Drop, W: Write + Drop> Socket for Pair<R, W> {
-    fn register(
-        &mut self,
-        _registry: &Registry,
-        _token: Token,
-        _interest: Interest,
-    ) -> io::Result<()> {
-        Ok(())
-    }
-
-    fn reregister(
-        &mut self,
-        _registry: &Registry,
-        _token: Token,
-        _interest: Interest,
-    ) -> io::Result<()> {
-        Ok(())
-    }
-
-    fn shut(&mut self) -> io::Result<()> {
-        Ok(())
-    }
-
-    fn send_at_once(&mut self) {}
 }

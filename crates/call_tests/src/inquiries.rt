@@ -1,3 +1,0 @@
-//! Tests of `plain`. They see public calls alone.
-
-pub(crate) mod staged;

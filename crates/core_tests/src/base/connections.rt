@@ -1,4 +1,0 @@
-//! Tables of connections.
-
-mod caller;
-mod memory;
