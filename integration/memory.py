@@ -349,6 +349,18 @@ def is_of_its_own(command, found):
             or command == "observe" and (out, status) in (("b fail: no address\n", 3), ("b fail: out of memory\n", 3), ("b pass\n", 1)))
 
 
+def is_stopped(place):
+    """Tells the server at this place to stop, unless it has ended by now. Whether a session is answered there."""
+    with socket.socket(socket.AF_UNIX) as session, contextlib.suppress(ConnectionError):
+        session.settimeout(5)
+        session.connect(place)
+        try:
+            ask_line(session, "stop")
+        except TimeoutError:
+            return False
+    return True
+
+
 def starts(memory, folder, *options):
     """A server begins to serve, or says that there was no memory for it. Gives what those came to that had told their places."""
     with open(f"{folder}/script", "w") as file:
@@ -360,19 +372,21 @@ def starts(memory, folder, *options):
                 [HEALTHD, "run", "--listen", "127.0.0.1:0", "--plain", "127.0.0.1:0", "--control", f"{folder}/place", "--threads", "1",
                  "--script", f"{folder}/script", "--quiet", *options],
                 stdin=subprocess.DEVNULL, stdout=subprocess.PIPE, stderr=subprocess.PIPE, text=True, env={**PLAIN, **memory.env})
-            lines = [process.stdout.readline().partition(" ")[0] for _ in range(3)]
-        if all(lines):
-            # Where there was no memory for its threads, it has ended by now.
-            with contextlib.suppress(ConnectionError), socket.socket(socket.AF_UNIX) as session:
-                session.connect(f"{folder}/place")
-                ask_line(session, "stop")
+            lines = [process.stdout.readline() for _ in range(3)]
+        if all(lines) and not is_stopped(f"{folder}/place"):
+            # There was no memory for the thread of the sessions: calls are answered alone.
+            answer = exchange(int(lines[0].rpartition(":")[2]), call("Check", "a"))
+            process.kill()
+            process.communicate()
+            return answer.partition(END)[2]
         out, err = process.communicate(timeout=20)
-        return lines, out, err, process.returncode
+        return [line.partition(" ")[0] for line in lines], out, err, process.returncode
 
     said = re.compile("healthd: (script line [2-6]: refused no memory|out of memory)\n")
-    refusals = memory.in_turn(" ".join(("run", *options[:1])), act, (["listening", "plain", "control"], "journal 5\n", "", 0),
-                              lambda found: not found[1] and said.fullmatch(found[2]) and found[3] == 1)
-    return [found for found in refusals if all(found[0])]
+    refusals = memory.in_turn(
+        " ".join(("run", *options[:1])), act, (["listening", "plain", "control"], "journal 5\n", "", 0),
+        lambda found: found == CHECKED or not found[1] and said.fullmatch(found[2]) and found[3] == 1)
+    return [found for found in refusals if found != CHECKED and all(found[0])]
 
 
 def unexpected(memory, folder):
