@@ -15,6 +15,15 @@ def ran(*words, **options):
     return done.returncode, done.stdout, done.stderr
 
 
+# Where they are told no time, `ask` waits for good, and `tell` ten seconds: both are looked at when all else is over.
+mute = socket.create_server(("127.0.0.1", 0))
+MUTE = str(mute.getsockname()[1])
+started = time.monotonic()
+waiting, limited = (subprocess.Popen([HEALTHD, *words], text=True, stdout=subprocess.PIPE, stderr=subprocess.PIPE)
+                    for words in (("ask", "--port", MUTE), ("tell", "--control", f"127.0.0.1:{MUTE}", "check", "-")))
+ended = []
+threading.Thread(target=lambda: (limited.wait(), ended.append(time.monotonic() - started)), daemon=True).start()
+
 # `ask` where nobody listens: the address and the cause are told with the options for scripts.
 with socket.socket() as listener:
     listener.bind(("127.0.0.1", 0))
@@ -175,3 +184,10 @@ for _ in range(3):
 found = slowly.communicate("check -\n", timeout=20)
 holds("empty lines take no time of the lines behind them", found == ("serving\n", ""), str(found))
 server.stop()
+
+time.sleep(max(0.0, started + 12 - time.monotonic()))
+holds("tell gives up after ten seconds where it is told no time", (limited.returncode, limited.stderr.read()) == (1, LATE[2]) and ended[0] >= 10, f"{ended}")
+measured("tell without --timeout at a silent server", ended[0], 11)
+holds("ask waits for good where it is told no time", waiting.poll() is None, f"{waiting.returncode}")
+waiting.kill()
+mute.close()

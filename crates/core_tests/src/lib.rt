@@ -1,4 +1,4 @@
-//! Tests of the crates without threads at the bottom, by public calls alone.
+//! Tests of the crates at the bottom, and of those that keep a journal in a file, by public calls alone.
 #![tactic(auto)]
 
 #[cfg(test)]
@@ -9,6 +9,8 @@ mod chronicles;
 mod given_back;
 #[cfg(test)]
 mod handed;
+#[cfg(test)]
+mod journals;
 #[cfg(test)]
 mod same;
 #[cfg(test)]

@@ -7,20 +7,6 @@ pub const CHECK_OF_EMPTY: &[u8] = b"POST /grpc.health.v1.Health/Check HTTP/1.1\r
     \r\n\
     \x00\x00\x00\x00\x00";
 
-/// A Check of `zz`, a name that is in no catalogue of the tests.
-pub const CHECK_OF_ZZ: &[u8] = b"POST /grpc.health.v1.Health/Check HTTP/1.1\r\n\
-    content-type: application/grpc-web+proto\r\n\
-    content-length: 9\r\n\
-    \r\n\
-    \x00\x00\x00\x00\x04\x0a\x02zz";
-
-/// A Check of `a`.
-pub const CHECK_OF_A: &[u8] = b"POST /grpc.health.v1.Health/Check HTTP/1.1\r\n\
-    content-type: application/grpc-web+proto\r\n\
-    content-length: 8\r\n\
-    \r\n\
-    \x00\x00\x00\x00\x03\x0a\x01a";
-
 /// A Watch of the empty name. Its head has 107 bytes.
 pub const WATCH_OF_EMPTY: &[u8] = b"POST /grpc.health.v1.Health/Watch HTTP/1.1\r\n\
     content-type: application/grpc-web+proto\r\n\
@@ -45,12 +31,6 @@ pub const WATCH_OF_ZZ: &[u8] = b"POST /grpc.health.v1.Health/Watch HTTP/1.1\r\n\
 /// A call of a method that is not served. Its head has 106 bytes.
 pub const LIST: &[u8] = b"POST /grpc.health.v1.Health/List HTTP/1.1\r\n\
     content-type: application/grpc-web+proto\r\n\
-    content-length: 5\r\n\
-    \r\n\
-    \x00\x00\x00\x00\x00";
-
-/// A Check without a content type.
-pub const CHECK_WITHOUT_TYPE: &[u8] = b"POST /grpc.health.v1.Health/Check HTTP/1.1\r\n\
     content-length: 5\r\n\
     \r\n\
     \x00\x00\x00\x00\x00";

@@ -1,0 +1,8 @@
+//! Tests of the crates that keep a journal in a file: `record_log` and `journal_store`.
+
+mod crashes;
+mod histories;
+mod log_files;
+mod rewritings;
+mod spare;
+mod stores;

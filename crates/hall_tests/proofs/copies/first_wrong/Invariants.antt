@@ -1,5 +1,0 @@
-use Rattle.hall.specs.Seats.{IsOf}
-use Rattle.hall_tests.proofs.copies.first_wrong.Given as goal
-
-abbrev pub invariant-loop-index : goal.invariant-loop-index
-invariant-loop-index g l = IsOf l.hall l.setter

@@ -1,0 +1,9 @@
+//! Tests of halls, of the crews and the watchdog over them, and of the sockets of calls.
+
+mod copies;
+mod crews;
+mod faults;
+mod keeping;
+mod names;
+mod sockets;
+mod watchdogs;

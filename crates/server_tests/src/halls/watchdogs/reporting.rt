@@ -1,0 +1,128 @@
+//! A report that comes while the watchdog reads the clock.
+
+ghost use Rattle.hall.specs.Seats.{IsOf};
+
+use crate::halls::names::catalogue;
+use crate::halls::watchdogs::reading::At;
+use crate::same::same;
+use desk_core::{Finding, KeepMany};
+use hall::{Hall, Seat};
+use probe_core::{Start, Threshold};
+use std::alloc::Global;
+use std::cell::RefCell;
+use std::io;
+use std::process::Abort;
+use std::sync::{Arc, Wait};
+use std::time::{Clock, Duration};
+use watchdog::{Expectations, Watchdog, Wish};
+
+/// Whoever reports a pass of `a`, by a seat of its own.
+#[derive(Drop)]
+struct Reporter<'a, R> {
+    rt: &'a R,
+    hall: &'a Hall<Threshold, KeepMany>,
+    seat: Seat<Threshold, KeepMany>,
+    ghost fits: { IsOf hall.now seat },
+}
+
+impl<R: Wait> Reporter<'_, R> {
+    fn report(&mut self) {
+        let _ = self
+            .hall
+            .observe(self.rt, &mut self.seat, "a", Finding::Pass);
+    }
+}
+
+/// A clock that stands still at so many milliseconds, and while it is read a report comes.
+#[derive(Drop)]
+struct Reporting<'a, R> {
+    millis: u64,
+    reporter: RefCell<Reporter<'a, R>>,
+}
+
+impl<R: Wait> Clock for Reporting<'_, R> {
+    fn monotonic(&self) -> io::Result<Duration> {
+        if let Ok(mut reporter) = self.reporter.try_borrow_mut() {
+            reporter.report();
+        }
+        Ok(Duration::from_millis(self.millis))
+    }
+
+    fn since_1970(&self) -> io::Result<Duration> {
+        self.monotonic()
+    }
+}
+
+/// Has a round by this clock, and compares whether it changes a status, and for how many milliseconds the next one may be away.
+fn expect_round<R: Wait + Abort, C: Clock>(
+    rt: &R,
+    hall: &Hall<Threshold, KeepMany>,
+    watchdog: &mut Watchdog,
+    own: &mut Seat<Threshold, KeepMany>,
+    clock: &C,
+    shows: bool,
+    patience: u64,
+)
+    requires own { IsOf hall.now own.old }
+    ensures own { IsOf hall.now own.new }
+{
+    let round = watchdog.round(rt, clock, hall, own).expect(rt, "a round");
+    same(rt, &round.shows, &shows, &round.at);
+    let found = watchdog.patience(round.at).as_millis();
+    same(rt, &found, &u128::from(patience), &round.at);
+}
+
+/// The report counts from the round behind it on.
+fn play_over<R: Wait + Abort>(
+    rt: &R,
+    hall: &Hall<Threshold, KeepMany>,
+    own: &mut Seat<Threshold, KeepMany>,
+    others: Seat<Threshold, KeepMany>,
+    watchdog: &mut Watchdog,
+)
+    requires own { IsOf hall.now own.old }
+    requires others { IsOf hall.now others }
+{
+    expect_round(rt, hall, watchdog, own, &At(0), false, 50);
+    let clock = Reporting {
+        millis: 500,
+        reporter: RefCell::new(Reporter {
+            rt,
+            hall,
+            seat: others,
+        }),
+    };
+    expect_round(rt, hall, watchdog, own, &clock, false, 50);
+    expect_round(rt, hall, watchdog, own, &At(900), false, 50);
+    expect_round(rt, hall, watchdog, own, &At(1_899), false, 1);
+    expect_round(rt, hall, watchdog, own, &At(1_900), true, 50);
+}
+
+/// Has `a` be expected every second, over a new hall of which nothing was expected before.
+fn play<R: Wait + Abort>(rt: &R, alloc: Global) {
+    let catalogue = catalogue(rt, alloc, &["a", ""]);
+    let slot = catalogue.slot("a").expect(rt, "a slot");
+    let expectations = Expectations::new(alloc).expect(rt, "memory");
+    let shared: Result<Arc<Expectations>, _> = Arc::new(alloc, expectations);
+    let expectations = shared.expect(rt, "memory");
+    let handle: Result<Arc<Expectations>, _> = expectations.clone();
+    let made = Watchdog::new(alloc, handle.expect(rt, "a handle"));
+    let mut watchdog = made.expect(rt, "memory");
+    let made = Hall::<Threshold, KeepMany>::new(alloc, catalogue, 100, 2);
+    let (hall, mut seats) = made.expect(rt, "a hall");
+    let mut others = seats.pop().expect(rt, "a seat");
+    let mut own = seats.pop().expect(rt, "a seat");
+    let wish = Wish {
+        seconds: 1,
+        behind: 1,
+    };
+    let _ = hall.register(rt, &mut others, "a", Threshold::new(3, 1, Start::Up));
+    expect_round(rt, &hall, &mut watchdog, &mut own, &At(0), false, 1_000);
+    expectations.expect(slot, wish);
+    play_over(rt, &hall, &mut own, others, &mut watchdog);
+}
+
+#[test]
+fn a_report_while_the_clock_is_read_counts_from_the_next_round_on(rt: HostRuntime) {
+    play(&rt, rt.alloc());
+}
