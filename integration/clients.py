@@ -9,7 +9,7 @@ import socket
 import struct
 import time
 
-from servers import (MESSAGE, NOT_SERVING, OK, REQUEST, SERVING, WATCH_END, Server, ask_line, head, holds, measured, processor_seconds,
+from servers import (MESSAGE, NOT_SERVING, OK, REQUEST, SERVING, WATCH_END, Server, ask_line, freeze, head, holds, measured, processor_seconds,
                      read_all, rest_of, timed, until)
 
 CHECK = head("Check") + REQUEST
@@ -184,7 +184,7 @@ server.stop()
 # a place back, the one that a client waits for is woken.
 PLACES, MORE, LEAVE = 400, 20, 40
 server = Server("--threads", "4", "--quiet", "--connections", str(PLACES), "--watches", "300")
-server.process.send_signal(signal.SIGSTOP)
+freeze(server.process)
 held = connected(server, PLACES + MORE)
 server.process.send_signal(signal.SIGCONT)
 until("four loops hold as many connections as there are places", lambda: counted(server, "connections"), [PLACES])
@@ -217,7 +217,7 @@ holds("and it waits", taken < 0.2, f"{taken} s in 1 s")
 
 # So do they share the places for Watches.
 WATCHES = 350
-server.process.send_signal(signal.SIGSTOP)
+freeze(server.process)
 watches = connected(server, WATCHES, head("Watch") + REQUEST)
 server.process.send_signal(signal.SIGCONT)
 until("of 350 Watches 300 stay open", lambda: counted(server, "connections", "watches"), [300, 300])
@@ -240,7 +240,7 @@ random.shuffle(still_open)
 for client in still_open[100:]:
     client.close()
 until("their places are free where they have left", lambda: counted(server, "connections", "watches"), [100, 100])
-server.process.send_signal(signal.SIGSTOP)
+freeze(server.process)
 others = connected(server, 250, head("Watch") + REQUEST)
 server.process.send_signal(signal.SIGCONT)
 until("and serve others", lambda: counted(server, "connections", "watches"), [300, 300])

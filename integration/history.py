@@ -9,7 +9,7 @@ import subprocess
 import threading
 import time
 
-from servers import HEALTHD, Server, ask_line, holds, measured
+from servers import HEALTHD, Server, ask_line, freeze, holds, measured
 
 SCRIPT = ("catalogue db api web - slow gone\nregister db threshold 2 3\nregister api manual\n"
           "register web depends db api\nregister - depends web\nregister slow threshold 1 1 unknown\n")
@@ -319,7 +319,7 @@ following.wait(23)
 later.wait(22)
 
 # A follower whose session is ended for one that comes, since it was stopped for more than a second.
-following.process.send_signal(signal.SIGSTOP)
+freeze(following.process)
 time.sleep(1.2)
 sessions = [server.session() for _ in range(15)]
 holds("there are sixteen sessions without it", [ask_line(session, "check db") for session in sessions] == ["serving"] * 15)

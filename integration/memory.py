@@ -373,6 +373,8 @@ def starts(memory, folder, *options):
                  "--script", f"{folder}/script", "--quiet", *options],
                 stdin=subprocess.DEVNULL, stdout=subprocess.PIPE, stderr=subprocess.PIPE, text=True, env={**PLAIN, **memory.env})
             lines = [process.stdout.readline() for _ in range(3)]
+            if all(lines):
+                time.sleep(0.2)  # its loops begin
         if all(lines) and not is_stopped(f"{folder}/place"):
             # There was no memory for the thread of the sessions: calls are answered alone.
             answer = exchange(int(lines[0].rpartition(":")[2]), call("Check", "a"))

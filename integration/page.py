@@ -10,7 +10,7 @@ import urllib.request
 
 import page_source
 from chromium import Browser, Page
-from servers import HERE, Server, ask_line, holds, measured, timed, until
+from servers import HERE, Server, ask_line, freeze, holds, measured, timed, until
 
 # Six services, of which the first four are watched; one is absent, and one has a name that a page could take for markup.
 ODD = "<b>a</b>&amp;\"'\\"
@@ -200,7 +200,7 @@ page.ask("Emulation.clearDeviceMetricsOverride")
 
 # Frozen, and on again.
 before = len(changes_of(page, ODD))
-server.process.send_signal(signal.SIGSTOP)
+freeze(server.process)
 measured("a frozen server's statuses are gone", lost(page), LOST + LATE)
 stays_lost(page, 4)
 server.process.send_signal(signal.SIGCONT)

@@ -9,7 +9,7 @@ import time
 
 import page_source
 from prometheus_client.parser import text_string_to_metric_families
-from servers import OK, REQUEST, SERVING, Server, Watcher, ask_line, connect, holds, read_all, request_for, rest_of, until
+from servers import OK, REQUEST, SERVING, Server, Watcher, ask_line, connect, freeze, holds, read_all, request_for, rest_of, until
 
 MOST = 1_000_000_000
 # Services with names that have to be escaped somewhere, and one that is listed and not registered.
@@ -414,7 +414,7 @@ server = Server("--threads", "1", "--connections", "2", "--watches", "1", "--pla
 
 def gets_in(place, full, request):
     """What one is answered who comes to the place last, while nobody is accepted."""
-    server.process.send_signal(signal.SIGSTOP)
+    freeze(server.process)
     waiting = [connect(full) for _ in range(4)]
     for client in waiting:
         client.sendall(b"GET ")

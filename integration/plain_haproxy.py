@@ -7,7 +7,7 @@ import threading
 import time
 
 from balancer import Balancer, Load, Web
-from servers import Server, holds, until
+from servers import Server, freeze, holds, until
 
 SCRIPT = "catalogue web1 web2 -\nregister web1 manual\nregister web2 manual\nregister - depends web1 web2\n"
 DOWN = ("DOWN", "L7STS")
@@ -60,7 +60,7 @@ def takes_out(kind, configuration, pairs, server, servers, connects):
     until(f"{kind} has web1 DOWN where it is absent", lambda: (balancer.state("web1"), balancer.stats()["web1"]["check_code"]), (DOWN, "404"))
     server.tell("register", "web1", "manual")
     becomes(f"{kind} has web1 UP where it is registered", balancer, "web1", is_up)
-    server.process.send_signal(signal.SIGSTOP)
+    freeze(server.process)
     until(f"{kind} has web1 DOWN while healthd is frozen", lambda: balancer.state("web1")[0], "DOWN")
     server.process.send_signal(signal.SIGCONT)
     becomes(f"{kind} has web1 UP when it goes on", balancer, "web1", is_up)
@@ -159,7 +159,7 @@ def probes():
     holds("each failure is told as not_serving", down == {(False, "not_serving")}, str(down))
     server.tell("up", "web1")
     until("it is ready at the first success", ready, all_ready(True, True, True))
-    server.process.send_signal(signal.SIGSTOP)
+    freeze(server.process)
     until("a frozen server is not ready", ready, all_ready(False, False, False))
     server.process.send_signal(signal.SIGCONT)
     until("and is once it goes on", ready, all_ready(True, True, True))

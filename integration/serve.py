@@ -6,7 +6,7 @@ import subprocess
 import threading
 import time
 
-from servers import HEALTHD, HERE, MESSAGE, OK, SERVING, WATCH_END, Watcher, head, holds, measured, read_all, request_for, rest_of
+from servers import HEALTHD, HERE, MESSAGE, OK, SERVING, WATCH_END, Watcher, freeze, head, holds, measured, read_all, request_for, rest_of
 
 REFUSED_TYPE = (b"POST /grpc.health.v1.Health/Check HTTP/1.1\r\ncontent-type: application/grpc-web-text\r\n"
                 b"content-length: 5\r\n\r\n")
@@ -215,7 +215,7 @@ ORDERS = "fail a\npass a\n" * 500 + "resume\n"
 processor, beside, wrong = {min(os.sched_getaffinity(0))}, 0, []
 for _ in range(20):
     last = Serving(f"catalogue a -\nmax 20000\nregister a threshold 1 1 unknown\npass a\ngo\n{ORDERS}", 1, 1)
-    last.process.send_signal(signal.SIGSTOP)
+    freeze(last.process)
     for thread in os.listdir(f"/proc/{last.process.pid}/task"):
         os.sched_setaffinity(int(thread), processor)
     os.sched_setscheduler(last.process.pid, os.SCHED_IDLE, os.sched_param(0))

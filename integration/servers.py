@@ -2,6 +2,7 @@
 import os
 import re
 import shutil
+import signal
 import socket
 import subprocess
 import sys
@@ -84,6 +85,22 @@ def measured(name, seconds, most):
     told = f"{seconds:.3f} s" + (f", with a pause of the machine of {pause:.3f} s" if pause else "")
     holds(f"{name}, within {most:g} s", seconds <= most + pause, f"it took {told}")
     print(f"measured {CHECK} {name}: {told}", flush=True)
+
+
+def freeze(process):
+    """Stops a process, and returns once each of its threads has stopped."""
+    process.send_signal(signal.SIGSTOP)
+    folder = f"/proc/{process.pid}/task"
+
+    def state(thread):
+        try:
+            with open(f"{folder}/{thread}/stat") as file:
+                return file.read().rpartition(") ")[2][:1]
+        except OSError:
+            return "T"  # it has ended
+
+    while any(state(thread) != "T" for thread in os.listdir(folder)):
+        time.sleep(0.001)
 
 
 def timed(act, *args):

@@ -7,7 +7,7 @@ import sys
 import threading
 import time
 
-from servers import HEALTHD, Server, ask_line, holds, measured, rest_of, timed, until
+from servers import HEALTHD, Server, ask_line, freeze, holds, measured, rest_of, timed, until
 
 server = Server("--threads", "2")
 silent = [server.session() for _ in range(16)]
@@ -55,7 +55,7 @@ for client in few:
     client.close()
 time.sleep(0.5)
 
-server.process.send_signal(signal.SIGSTOP)
+freeze(server.process)
 (said, status), seconds = timed(server.tell, "--timeout", "1", "list")
 server.process.send_signal(signal.SIGCONT)
 holds("tell gives up where the server is silent", (said, status) == ("healthd: timed out, the change may still be made", 1), said)
