@@ -186,7 +186,8 @@ holds("empty lines take no time of the lines behind them", found == ("serving\n"
 server.stop()
 
 time.sleep(max(0.0, started + 12 - time.monotonic()))
-holds("tell gives up after ten seconds where it is told no time", (limited.returncode, limited.stderr.read()) == (1, LATE[2]) and ended[0] >= 10, f"{ended}")
+holds("tell gives up after ten seconds where it is told no time",
+      ended and ended[0] >= 10 and (limited.returncode, limited.stderr.read()) == (1, LATE[2]), f"{ended}")
 measured("tell without --timeout at a silent server", ended[0], 11)
 holds("ask waits for good where it is told no time", waiting.poll() is None, f"{waiting.returncode}")
 waiting.kill()

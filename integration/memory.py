@@ -1,4 +1,5 @@
-"""Memory that is refused, by each request for it in turn: only what wanted it fails, and says so, and all else goes on.
+"""Memory that is refused, by each request for it in turn: only what wanted it fails, and says so, and all else goes on. It is not said where
+a thread is wanted at the start: what that is for begins when all else has ended.
 
 The library refuse.c, which is loaded before the program, refuses what it is told to."""
 import contextlib
@@ -61,13 +62,13 @@ class Memory:
         struct.pack_into("qqq", self.shared, 0, first, 0, 0)
         struct.pack_into("q", self.shared, 8, count)
 
-    def in_turn(self, name, act, right, is_refusal, count=1):
+    def in_turn(self, name, act, right, is_refusal):
         """Acts again and again, each time with the next request for memory refused, until no more is wanted: then it comes to what is
         right, and each time before to that or to a refusal. What is to be done without memory `act` does within what it is given. It gives
         the refusals."""
         seen = []
         for number in range(MOST):
-            found = act(self.refused(number, count))
+            found = act(self.refused(number))
             if self.asked <= number:
                 break
             if found != right and not is_refusal(found):
@@ -91,10 +92,6 @@ def call(method, name):
 
 def get(path):
     return f"GET {path} HTTP/1.1\r\nhost: localhost\r\n\r\n".encode()
-
-
-def is_nothing(found):
-    return found == b""
 
 
 def calls(memory, server):
@@ -227,7 +224,6 @@ def stored(memory, folder):
     server = Server("--threads", "1", "--journal", f"{folder}/journal", script=SETUP, env=memory.env)
     with server.session() as session:
         change(memory, session, "fail b", "pass b", (REFUSED, NOT_STORED))
-        entries, listed = seen(session)
         time.sleep(1.05)
         holds("a change is stored again", ask_line(session, "fail b") == "done", "it is not")
         entries, listed = seen(session)
@@ -250,13 +246,10 @@ def told(watcher, seconds=5):
 def watches(memory, server, session):
     """A Watch whose memory is refused ends; what it was told until then is right, and another one is told all."""
     def opened(refused):
-        with refused, server.connect() as client:
-            client.sendall(call("Watch", "a"))
-            read = b""
-            with contextlib.suppress(ConnectionResetError):
-                while not read.endswith(FIRST) and (part := client.recv(65536)):
-                    read += part
-            return read[-len(FIRST):]
+        with refused:
+            client, first = watching(server)
+        client.close()
+        return first
     memory.in_turn("a Watch that is opened", opened, FIRST, lambda found: found == b"")
 
     def changed(refused):
@@ -428,9 +421,9 @@ def serves(memory, folder):
                     with contextlib.suppress(ConnectionError):
                         answers.append(exchange(port, call("Check", "a")).partition(END)[2])
             out, err = process.communicate(timeout=20)
-        holds_of = {"fault memory": b"", "unopened": b"", "status 0": CHECKED, "status 5": NOT_FOUND}
+        answer_of = {"fault memory": b"", "unopened": b"", "status 0": CHECKED, "status 5": NOT_FOUND}
         ends = re.findall("call [01] (.+)\n", out)
-        return first, sorted(ends), out.rpartition("journal ")[2], err, process.returncode, sorted(answers) == sorted(holds_of.get(end) for end in ends)
+        return first, sorted(ends), out.rpartition("journal ")[2], err, process.returncode, sorted(answers) == sorted(answer_of.get(end) for end in ends)
 
     def is_refusal(found):
         first, ends, entries, err, status, are_answered = found
