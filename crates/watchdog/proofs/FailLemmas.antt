@@ -15,8 +15,8 @@ use Rattle.watchdog.specs.Falling.{HaveFailed, NoFail, OneMore, HasFallen, Down,
 use Rattle.watchdog.specs.Guard.{GuardState}
 use Rattle.std.specs.Time.{instant_nanos}
 use Rattle.std.specs.declared.time.Instant.{Instant}
-use Rattle.overdue.specs.Laws.{was_refused}
-use Rattle.overdue.proofs.LawLemmas.{due}
+use Rattle.watchdog.specs.Laws.{was_refused}
+use Rattle.watchdog.proofs.LawLemmas.{due}
 use Rattle.watchdog.specs.Watching.{HasWatched, NoRound, OneRound, Misses, HaveStepped, NoStep, OneStep, IsStep, Stays, Follows, PassesBy, Skips, Waits, Expires, IsRefused, IsFail, IsPast}
 
 -- a seat's own entries are these fails, in front of those that it had

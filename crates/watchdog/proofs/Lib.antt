@@ -1,4 +1,5 @@
 pub mod FailLemmas
 pub mod FallLemmas
+pub mod LawLemmas
 pub mod MetLemmas
 pub mod StepLemmas

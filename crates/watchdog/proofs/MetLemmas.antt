@@ -3,7 +3,7 @@ use Rattle.std.proofs.Common.{◌≡◌, ℕ, ◌+◌, ◌<◌, List, [], ◌∷
 use Rattle.std.proofs.lemmas.List.{take_more}
 use Rattle.std.specs.declared.time.Instant.{Instant}
 use Rattle.desk_core.specs.declared.entry.Entry.{Entry}
-use Rattle.overdue.specs.declared.met.Met.{Met}
+use Rattle.watchdog.specs.declared.met.Met.{Met}
 use Rattle.watchdog.specs.Guard.{met_by, met_in}
 
 pub met_then : (seat slot : ℕ) (now : Instant) (first second : List Entry) (met : List Met)

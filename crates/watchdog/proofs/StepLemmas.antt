@@ -9,7 +9,7 @@ use Rattle.std.proofs.lemmas.List.Elements.{All-append, All-cons}
 use Rattle.desk_core.specs.declared.entry.Entry.{Entry}
 use Rattle.desk_core.specs.Past.{past}
 use Rattle.hall.specs.Seats.{SeatState}
-use Rattle.overdue.specs.Timer.{is_overdue}
+use Rattle.watchdog.specs.Timer.{is_overdue}
 use Rattle.watchdog.specs.declared.wish.Wish.{Wish}
 use Rattle.watchdog.specs.Falling.{HasFallen}
 use Rattle.watchdog.specs.Guard.{GuardState, followed, looked, refused, wishing}

@@ -3,8 +3,8 @@ use Rattle.std.specs.Prelude.{ℕ, ◌+◌, ◌-◌, nat_le, List, [], ◌∷◌
 use Rattle.std.specs.declared.time.Instant.{Instant}
 use Rattle.desk_core.specs.declared.entry.Entry.{Entry}
 use Rattle.desk_core.specs.Silence.{begins, ends}
-use Rattle.overdue.specs.declared.met.Met.{Met}
-use Rattle.overdue.specs.declared.met.Met.TheVariants.{Expected, Heard, Ended, Looked, Refused}
+use Rattle.watchdog.specs.declared.met.Met.{Met}
+use Rattle.watchdog.specs.declared.met.Met.TheVariants.{Expected, Heard, Ended, Looked, Refused}
 use Rattle.watchdog.specs.declared.wish.Wish.{Wish}
 
 -- a guard: the slot of its service, what its timer met, the newest first, what is expected from a place of the journal on that it has not come

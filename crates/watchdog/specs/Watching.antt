@@ -9,10 +9,10 @@ use Rattle.desk_core.specs.declared.entry.Entry.{Entry}
 use Rattle.desk_core.specs.Past.{past}
 use Rattle.hall.specs.Looking.{HasLooked}
 use Rattle.hall.specs.Seats.{SeatState}
-use Rattle.overdue.specs.declared.met.Met.{Met}
-use Rattle.overdue.specs.declared.met.Met.TheVariants.{Looked, Refused}
-use Rattle.overdue.specs.Laws.{begun_at}
-use Rattle.overdue.specs.Timer.{is_overdue, period_of}
+use Rattle.watchdog.specs.declared.met.Met.{Met}
+use Rattle.watchdog.specs.declared.met.Met.TheVariants.{Looked, Refused}
+use Rattle.watchdog.specs.Laws.{begun_at}
+use Rattle.watchdog.specs.Timer.{is_overdue, period_of}
 use Rattle.tail.specs.Tail.{forgotten}
 use Rattle.watchdog.specs.declared.watchdog.Watchdog.{Watchdog}
 use Rattle.watchdog.specs.declared.wish.Wish.{Wish}

@@ -5,10 +5,10 @@ ghost use Rattle.watchdog.specs.Guard.{met_by, met_in};
 
 use crate::falling::{Fall, bring_down};
 use crate::scribe::Scribe;
+use crate::timer::Timer;
 use crate::wish::Wish;
 use desk_core::{Entry, Keep, Slot};
 use hall::{Hall, Seat};
-use overdue::Timer;
 use probe_core::Probe;
 use std::marker::Model;
 use std::sync::Wait;
@@ -41,7 +41,7 @@ impl Guard {
     ghost use Rattle.std.specs.Prelude.{◌≡◌, ◌+◌, ◌<◌, ◌^◌, [], None, true, false, length, IfSome, IfNone, IsFalse, option_map};
     ghost use Rattle.std.specs.Time.{instant_nanos};
     ghost use Rattle.hall.specs.Seats.{IsOf};
-    ghost use Rattle.overdue.specs.Timer.{due_at, is_overdue, period_of};
+    ghost use Rattle.watchdog.specs.Timer.{due_at, is_overdue, period_of};
     ghost use Rattle.watchdog.specs.Falling.{HasFallen};
     ghost use Rattle.watchdog.specs.Guard.{followed, fresh, looked, passed, refused, skipped, wishing};
 

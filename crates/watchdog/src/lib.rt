@@ -1,4 +1,4 @@
-//! A watchdog over services that are expected to be heard: silence is a failure.
+//! A watchdog over services that are expected to be heard: silence is a failure, and a timer says when.
 //!
 //! # A caller
 //!
@@ -40,8 +40,10 @@ mod falling;
 mod found;
 mod guard;
 mod laws;
+mod met;
 mod scribe;
 mod steps;
+mod timer;
 mod watchdog;
 mod wish;
 
@@ -49,6 +51,8 @@ pub use expectations::Expectations;
 pub use falling::Fall;
 pub use found::Found;
 pub use guard::Guard;
-pub use laws::{fails_are_due, watchdogs_make_fails_alone};
+pub use laws::{fails_are_due, told_once_and_when_due, watchdogs_make_fails_alone};
+pub use met::Met;
+pub use timer::Timer;
 pub use watchdog::{Round, Watchdog};
 pub use wish::{MAX_SECONDS, Wish};

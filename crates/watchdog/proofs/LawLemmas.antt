@@ -3,10 +3,10 @@ use Rattle.std.proofs.Common.{◌≡◌, ℕ, ◌+◌, ◌*◌, ◌≤◌, false
 use Rattle.std.proofs.lemmas.Bool.Decides.{nat_tests}
 use Rattle.std.specs.Time.{FitsClock, instant_nanos}
 use Rattle.std.specs.declared.time.Instant.{Instant}
-use Rattle.overdue.specs.declared.met.Met.{Met}
-use Rattle.overdue.specs.declared.met.Met.TheVariants.{Expected, Heard, Ended, Looked, Refused}
-use Rattle.overdue.specs.Timer.{is_overdue, period_of}
-use Rattle.overdue.specs.Laws.{begun_at, AreQuiet, IsUntold, was_refused}
+use Rattle.watchdog.specs.declared.met.Met.{Met}
+use Rattle.watchdog.specs.declared.met.Met.TheVariants.{Expected, Heard, Ended, Looked, Refused}
+use Rattle.watchdog.specs.Timer.{is_overdue, period_of}
+use Rattle.watchdog.specs.Laws.{begun_at, AreQuiet, IsUntold, was_refused}
 
 -- where no refusal came since the newest beginning, what a look tells began at least the period ago
 pub due : (past : List Met) (now : ℕ) → is_overdue past now ≡ true → was_refused past ≡ false

@@ -1,6 +1,6 @@
 ghost use Rattle.std.specs.Prelude.{◌≡◌, ◌∷◌, [], option_map};
 ghost use Rattle.std.specs.Time.{instant_nanos};
-ghost use Rattle.overdue.specs.Timer.{due_after, is_due};
+ghost use Rattle.watchdog.specs.Timer.{due_after, is_due};
 
 use crate::met::Met;
 use std::marker::Model;
@@ -22,8 +22,8 @@ pub struct Timer {
 
 impl Model for Timer {
     ghost use Rattle.std.specs.Prelude.{List, reverse};
-    ghost use Rattle.overdue.specs.declared.met.Met.{Met};
-    ghost use Rattle.overdue.specs.Timer.{HasMet};
+    ghost use Rattle.watchdog.specs.declared.met.Met.{Met};
+    ghost use Rattle.watchdog.specs.Timer.{HasMet};
 
     ghost Value = { List Met };
 
@@ -51,8 +51,8 @@ fn is_due(due: Option<Instant>, now: Instant) -> bool
 }
 
 impl Timer {
-    ghost use Rattle.overdue.specs.declared.met.Met.TheVariants.{Expected, Heard, Ended, Looked, Refused};
-    ghost use Rattle.overdue.specs.Timer.{due_at, is_overdue, period_of};
+    ghost use Rattle.watchdog.specs.declared.met.Met.TheVariants.{Expected, Heard, Ended, Looked, Refused};
+    ghost use Rattle.watchdog.specs.Timer.{due_at, is_overdue, period_of};
 
     /// A service from which no report is expected yet.
     pub fn new() -> Timer

@@ -1,5 +1,5 @@
-use Rattle.overdue.proofs.LawLemmas.{due, once, never, sooner_or_later}
-use Rattle.overdue.proofs.laws.told_once_and_when_due.Goals as goal
+use Rattle.watchdog.proofs.LawLemmas.{due, once, never, sooner_or_later}
+use Rattle.watchdog.proofs.laws.told_once_and_when_due.Goals as goal
 
 pub returns-clause-due : goal.returns-clause-due
 returns-clause-due c = due

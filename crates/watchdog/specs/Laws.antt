@@ -1,9 +1,9 @@
--- What the laws speak of. Each past has the newest first.
+-- What the laws speak of. Each past is all that a timer met, the newest first.
 use Rattle.std.specs.Prelude.{◌≡◌, ℕ, Bool, true, false, List, [], ◌∷◌, Option, Some, None, ⊤}
 use Rattle.std.specs.Time.{instant_nanos}
-use Rattle.overdue.specs.declared.met.Met.{Met}
-use Rattle.overdue.specs.declared.met.Met.TheVariants.{Expected, Heard, Ended, Looked, Refused}
-use Rattle.overdue.specs.Timer.{is_overdue}
+use Rattle.watchdog.specs.declared.met.Met.{Met}
+use Rattle.watchdog.specs.declared.met.Met.TheVariants.{Expected, Heard, Ended, Looked, Refused}
+use Rattle.watchdog.specs.Timer.{is_overdue}
 
 -- the reading of the newest beginning: when a report came, or when a period was set
 abbrev pub begun_at : List Met → Option ℕ

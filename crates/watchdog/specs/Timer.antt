@@ -2,8 +2,8 @@
 use Rattle.std.specs.Prelude.{◌≡◌, ℕ, ◌+◌, ◌*◌, ◌^◌, Bool, false, List, [], ◌∷◌, Option, Some, None, option_map, if◌then◌else◌, nat_eq, nat_le, nat_lt}
 use Rattle.std.specs.Time.{instant_nanos}
 use Rattle.std.specs.declared.time.Instant.{Instant}
-use Rattle.overdue.specs.declared.met.Met.{Met}
-use Rattle.overdue.specs.declared.met.Met.TheVariants.{Expected, Heard, Ended, Looked, Refused}
+use Rattle.watchdog.specs.declared.met.Met.{Met}
+use Rattle.watchdog.specs.declared.met.Met.TheVariants.{Expected, Heard, Ended, Looked, Refused}
 
 -- every how many seconds a report is expected, if one is: as set last, unless that is 0 or ended
 abbrev pub period_of : List Met → Option ℕ
