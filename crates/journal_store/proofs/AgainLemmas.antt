@@ -5,8 +5,8 @@ use Rattle.record_log.proofs.LawLemmas.{one}
 use Rattle.desk_core.specs.declared.entry.Entry.{Entry}
 use Rattle.desk_core.specs.Legal.{IsLegal}
 use Rattle.desk_core.specs.Past.{past}
-use Rattle.digest.specs.Alike.{AreAlike}
-use Rattle.digest.proofs.AlikeLemmas.{alike_joined}
+use Rattle.journal_store.specs.Alike.{AreAlike}
+use Rattle.journal_store.proofs.AlikeLemmas.{alike_joined}
 use Rattle.entry_record.specs.declared.stored.Stored.{Stored}
 use Rattle.journal_store.specs.Again.{IsReadAgain}
 use Rattle.journal_store.specs.Preface.{Front, IsFront, preface_of}

@@ -7,14 +7,14 @@ use Rattle.record_log.specs.Log.{blocks, texts}
 use Rattle.desk_core.specs.declared.entry.Entry.{Entry}
 use Rattle.desk_core.specs.Legal.{IsLegal}
 use Rattle.desk_core.specs.Past.{past}
-use Rattle.digest.specs.Alike.{AreAlike}
+use Rattle.journal_store.specs.Alike.{AreAlike}
 use Rattle.entry_record.specs.declared.stored.Stored.{Stored}
 use Rattle.journal_store.specs.Preface.{Front, IsFront, preface_of}
 use Rattle.journal_store.specs.Read.{AreFound, AreRead}
 use Rattle.journal_store.specs.Record.{AreOf, AreAdded, AreRecords, HoldJournal, restored, restored_of}
 use Rattle.journal_store.specs.Standing.{StandFor, IsNext}
 use Rattle.journal_store.proofs.RecordLemmas.{are_of, are_added, all_records}
-use Rattle.digest.proofs.AlikeLemmas.{alike_joined}
+use Rattle.journal_store.proofs.AlikeLemmas.{alike_joined}
 use Rattle.journal_store.proofs.SeatLemmas.{unseated, unseated_of, same_entries, seats_legal, seats_alike}
 use Rattle.journal_store.proofs.StandingLemmas.{begins, grows, rewritten}
 

@@ -1,14 +1,22 @@
 mod AgainLemmas
+mod AlikeLemmas
+mod DigestLemmas
 mod DigestedLemmas
 mod FaithfulLemmas
+mod FewestLemmas
+mod FinishLemmas
 mod FoundLemmas
 mod HoldLemmas
 mod KeptLemmas
+mod MemoryLemmas
 mod PrefaceLemmas
+mod ProbeLemmas
 mod ReadLemmas
 pub mod RecordLemmas
+mod ReplyLemmas
 mod RestoreLemmas
 mod SeatLemmas
+mod ShortLemmas
 mod StandingLemmas
 mod TitleLemmas
 mod Walks

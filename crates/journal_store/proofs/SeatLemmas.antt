@@ -5,8 +5,8 @@ use Rattle.desk_core.specs.declared.entry.Entry.{Entry}
 use Rattle.desk_core.specs.Legal.{IsLegal}
 use Rattle.desk_core.specs.Mutation.{entry_of}
 use Rattle.desk_core.specs.Past.{past}
-use Rattle.digest.specs.Alike.{AreAlike}
-use Rattle.digest.proofs.AlikeLemmas.{alike_itself, alike_step, reply_same}
+use Rattle.journal_store.specs.Alike.{AreAlike}
+use Rattle.journal_store.proofs.AlikeLemmas.{alike_itself, alike_step, reply_same}
 use Rattle.std.proofs.lemmas.List.{map-append, reverse-append}
 use Rattle.entry_record.specs.declared.stored.Stored.{Stored}
 use Rattle.entry_record.proofs.Readings.{one_value}

@@ -4,8 +4,8 @@ use Rattle.std.proofs.lemmas.List.{reverse-append, take-append-drop, length-take
 use Rattle.desk_core.specs.declared.entry.Entry.{Entry}
 use Rattle.desk_core.specs.Legal.{IsLegal}
 use Rattle.desk_core.specs.Past.{past}
-use Rattle.digest.specs.Alike.{AreAlike}
-use Rattle.digest.proofs.AlikeLemmas.{alike_itself, alike_joined, alike_later}
+use Rattle.journal_store.specs.Alike.{AreAlike}
+use Rattle.journal_store.proofs.AlikeLemmas.{alike_itself, alike_joined, alike_later}
 use Rattle.journal_store.specs.Preface.{Front}
 use Rattle.journal_store.specs.Standing.{StandFor, IsNext}
 

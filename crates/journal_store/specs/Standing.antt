@@ -3,7 +3,7 @@ use Rattle.std.specs.Prelude.{◌≡◌, ◌+◌, List, ◌++◌, length}
 use Rattle.desk_core.specs.declared.entry.Entry.{Entry}
 use Rattle.desk_core.specs.Legal.{IsLegal}
 use Rattle.desk_core.specs.Past.{past}
-use Rattle.digest.specs.Alike.{AreAlike}
+use Rattle.journal_store.specs.Alike.{AreAlike}
 use Rattle.journal_store.specs.Preface.{Front}
 
 -- A run began with one preface, and its file has another: the file has short entries in place of the older ones of the journal, which no

@@ -3,16 +3,16 @@
 ghost use Rattle.std.specs.Prelude.{◌≡◌, ◌<◌, IfSome, IfNone};
 ghost use Rattle.desk_core.specs.Legal.{IsLegal};
 ghost use Rattle.desk_core.specs.Past.{past};
-ghost use Rattle.digest.specs.Alike.{AreAlike};
-ghost use Rattle.digest.specs.Digest.{IsDigest};
+ghost use Rattle.journal_store.specs.Alike.{AreAlike};
+ghost use Rattle.journal_store.specs.Digest.{IsDigest};
 ghost use Rattle.journal_store.specs.Preface.{IsFront};
 ghost use Rattle.journal_store.specs.Record.{restored, restored_of};
 ghost use Rattle.journal_store.specs.Standing.{IsNext};
 
+use crate::digest::Digest;
 use crate::preface::Preface;
 use crate::restoring::EARLIER;
 use desk_core::Entry;
-use digest::Digest;
 use entry_record::Stored;
 use std::alloc::Global;
 

@@ -3,7 +3,7 @@ use Rattle.std.proofs.lemmas.List.{take_all, length-map, length-reverse, length-
 use Rattle.desk_core.specs.declared.entry.Entry.{Entry}
 use Rattle.desk_core.specs.Legal.{IsLegal}
 use Rattle.desk_core.specs.Past.{past}
-use Rattle.digest.specs.Digest.{IsDigest}
+use Rattle.journal_store.specs.Digest.{IsDigest}
 use Rattle.entry_record.specs.declared.stored.Stored.{Stored}
 use Rattle.journal_store.specs.Record.{restored, restored_of}
 use Rattle.journal_store.proofs.DigestedLemmas.{one_past, first_legal}

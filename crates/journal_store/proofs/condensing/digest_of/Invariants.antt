@@ -1,6 +1,6 @@
 use Rattle.std.proofs.Common.{take}
 use Rattle.desk_core.specs.Past.{past}
-use Rattle.digest.specs.Digest.{IsDigest}
+use Rattle.journal_store.specs.Digest.{IsDigest}
 use Rattle.journal_store.specs.Record.{restored_of}
 use Rattle.journal_store.proofs.condensing.digest_of.Given as goal
 

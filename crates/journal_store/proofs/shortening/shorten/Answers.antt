@@ -2,7 +2,7 @@ use Rattle.std.proofs.Common.{◌-◌, ◌+◌, ◌≤◌, List, [], length, tak
 use Rattle.desk_core.specs.declared.entry.Entry.{Entry}
 use Rattle.desk_core.specs.Legal.{IsLegal}
 use Rattle.desk_core.specs.Past.{past}
-use Rattle.digest.specs.Alike.{AreAlike}
+use Rattle.journal_store.specs.Alike.{AreAlike}
 use Rattle.entry_record.specs.declared.stored.Stored.{Stored}
 use Rattle.record_log.specs.Log.{texts}
 use Rattle.journal_store.specs.Record.{AreAdded, restored_of}

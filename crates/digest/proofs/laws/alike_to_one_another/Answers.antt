@@ -1,5 +1,0 @@
-use Rattle.digest.proofs.AlikeLemmas.{alike_itself, alike_joined, alike_turned}
-use Rattle.digest.proofs.laws.alike_to_one_another.Goals as goal
-
-pub returns : goal.returns
-returns c = record { itself = alike_itself; turned = alike_turned; joined = alike_joined }

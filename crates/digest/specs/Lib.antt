@@ -1,4 +1,0 @@
-pub mod Alike
-pub mod Digest
-pub mod Next
-pub mod Short
