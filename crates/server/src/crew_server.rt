@@ -7,10 +7,10 @@ ghost use Rattle.crew.specs.CrewWhy.{crew_fault, IsOtherReason};
 ghost use Rattle.crew.specs.Serve.{lists_in};
 ghost use Rattle.server.specs.CrewServer.{HasServedOrders};
 
+use crate::accept::Accept;
 use crate::serve_fault::ServeFault;
 use crate::served::Served;
 use crate::setup::SetUpHall;
-use call_socket::Accept;
 use crew::{OpenTurnstile, Report, serve_all};
 use desk_core::{Order, Refusal, Reply};
 use hall::Closed;

@@ -40,17 +40,23 @@
 //! ```
 #![tactic(auto)]
 
+mod accept;
 mod again;
 mod again_fault;
 mod crew_server;
+mod request_reader;
+mod response_writer;
 mod serve_fault;
 mod served;
 mod setup;
 mod storing;
 
+pub use accept::{Accept, ends_of};
 pub use again::hall_again;
 pub use again_fault::AgainFault;
 pub use crew_server::{Capacity, serve};
+pub use request_reader::{RequestReader, discard};
+pub use response_writer::ResponseWriter;
 pub use serve_fault::ServeFault;
 pub use served::Served;
 pub use setup::{SetUpHall, hall_of, run_setup};

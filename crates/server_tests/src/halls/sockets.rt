@@ -1,8 +1,8 @@
-//! A connection over TCP as a job: `call_socket`.
+//! A connection over TCP as a job.
 
 use crate::same::{holds, same};
-use call_socket::{Accept, ends_of};
 use crew::Job;
+use server::{Accept, ends_of};
 use std::io::{Read, Write};
 use std::net::{Net, TcpListener, TcpStream};
 use std::process::Abort;
