@@ -1,7 +1,8 @@
 use crate::observe_options::ObserveOptions;
 use control::Place;
-use observation::{Target, Verdict, exit_status};
-use observing::{Note, ObserveFault, Observed, Sink, observe, observe_once};
+use observing::{
+    Note, ObserveFault, Observed, Sink, Target, Verdict, exit_status, observe, observe_once,
+};
 use std::io;
 use std::net::{Net, TcpListener, TcpStream};
 use std::sync::Wait;

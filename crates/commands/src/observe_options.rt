@@ -2,7 +2,7 @@ ghost use Rattle.std.specs.Prelude.{◌≤◌, IfSome};
 
 use clap::ArgMatches;
 use control::Place;
-use observation::{Target, TargetFault, Terms};
+use observing::{Target, TargetFault, Terms};
 use std::alloc::{AllocError, Global};
 use std::fmt;
 

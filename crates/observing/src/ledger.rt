@@ -2,7 +2,8 @@ use crate::desk::Desk;
 use crate::observed::Telling;
 use crate::report::Report;
 use crate::sink::Sink;
-use observation::{Target, Verdict};
+use crate::target::Target;
+use crate::verdict::Verdict;
 use std::sync::Wait;
 
 /// What the newest look at each target came to.

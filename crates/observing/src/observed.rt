@@ -1,4 +1,4 @@
-use observation::Verdict;
+use crate::verdict::Verdict;
 use std::alloc::AllocError;
 use std::io::ErrorKind;
 use std::{fmt, io};

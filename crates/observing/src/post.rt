@@ -3,12 +3,16 @@
 ghost use Rattle.std.specs.Prelude.{◌≤◌, vec_len};
 
 use crate::desk::Desk;
+use crate::event::Event;
+use crate::lookout::Lookout;
 use crate::resolver::{Found, Lookup};
+use crate::stage::Stage;
+use crate::target::Target;
+use crate::verdict::Verdict;
 use crate::work::{Work, glance, read_into, write_on};
 use mio::event::Source;
 use mio::net::TcpStream;
 use mio::{Interest, Registry, Token};
-use observation::{Event, Lookout, Stage, Target, Verdict};
 use std::alloc::Global;
 use std::net::{IpAddr, Net, SocketAddr};
 use std::sync::Wait;

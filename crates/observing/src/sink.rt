@@ -1,5 +1,6 @@
 use crate::note::Note;
-use observation::{Target, Verdict};
+use crate::target::Target;
+use crate::verdict::Verdict;
 
 /// Whoever is shown what comes about.
 pub trait Sink {

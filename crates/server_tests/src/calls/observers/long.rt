@@ -1,7 +1,6 @@
 use crate::same::same;
 use control::Place;
-use observation::{Target, Terms, Verdict};
-use observing::{Note, Sink, observe};
+use observing::{Note, Sink, Target, Terms, Verdict, observe};
 use std::io::{Read, Write};
 use std::net::{SocketAddr, TcpListener};
 use std::process::Abort;

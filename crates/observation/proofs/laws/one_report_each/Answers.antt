@@ -1,5 +1,0 @@
-use Rattle.observation.proofs.LookoutLemmas.{one_report}
-use Rattle.observation.proofs.laws.one_report_each.Goals as goal
-
-pub returns : goal.returns
-returns c = one_report
