@@ -1,5 +1,5 @@
 -- The loop over the sessions of a server.
-use Rattle.connection_table.specs.Table.{TableState}
+use Rattle.reactor.specs.Table.{TableState}
 use Rattle.control.specs.declared.terms.Terms.{Terms}
 use Rattle.live_server.specs.Loop.{held_by}
 use Rattle.control_server.specs.Connection.{SessionConnection}

@@ -1,5 +1,5 @@
 ghost use Rattle.std.specs.Prelude.{◌≡◌, ℕ, IfSome};
-ghost use Rattle.connection_table.specs.Table.{place_at};
+ghost use Rattle.reactor.specs.Table.{place_at};
 ghost use Rattle.reactor.specs.Connection.{state_of};
 ghost use Rattle.reactor.specs.Talking.{IsSessionOf};
 ghost use Rattle.control_server.specs.Server.{sessions_of};
@@ -59,7 +59,7 @@ impl ControlServer {
     ghost use Rattle.std.specs.Prelude.{◌≡◌, IfOk};
     ghost use Rattle.std.specs.List.{All};
     ghost use Rattle.hall.specs.Seats.{IsOf};
-    ghost use Rattle.connection_table.specs.Table.{held_count};
+    ghost use Rattle.reactor.specs.Table.{held_count};
     ghost use Rattle.control_server.specs.Server.{sessions_of, terms_of};
     ghost use Rattle.control_server.specs.Seats.{SeatsHaveMet};
     ghost use Rattle.live_server.specs.Settled.{KeepsAccount};

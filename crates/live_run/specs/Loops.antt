@@ -3,7 +3,7 @@ use Rattle.std.specs.Prelude.{ℕ, ◌≡◌, ◌<◌, ◌≤◌, ◌+◌, List,
 use Rattle.std.specs.List.{slice_index_or}
 use Rattle.hall.specs.Seats.{SeatState}
 use Rattle.hall.specs.Looking.{HasLooked}
-use Rattle.connection_table.specs.Table.{held_count}
+use Rattle.reactor.specs.Table.{held_count}
 use Rattle.control_server.specs.Seats.{MetLines}
 use Rattle.control.specs.declared.rights.Rights.TheVariants.{All, Reports}
 use Rattle.live_server.specs.Loop.{EventServer, held_by}

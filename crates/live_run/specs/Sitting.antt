@@ -1,6 +1,6 @@
 -- Sessions at a place, each with one of the place's seats.
 use Rattle.std.specs.Prelude.{ℕ, ◌≡◌, ◌↔◌, List, Option, IfSome, IsNone, IsSome}
-use Rattle.connection_table.specs.Table.{held_count}
+use Rattle.reactor.specs.Table.{held_count}
 use Rattle.hall.specs.Seats.{SeatState}
 use Rattle.control.specs.declared.rights.Rights.{Rights}
 use Rattle.control.specs.declared.terms.Terms.{Terms}

@@ -1,7 +1,7 @@
 -- How many connections and Watches a table holds, where one key changes.
 use Rattle.std.proofs.Common.{◌≡◌, ℕ, ◌+◌, ◌≤◌, Some, None, is_some, refl, arith}
-use Rattle.connection_table.specs.Table.{TableState, Changes, held_count, watch_count, is_watch, newcomer, place_at}
-use Rattle.connection_table.proofs.Counts.{count_changed}
+use Rattle.reactor.specs.Table.{TableState, Changes, held_count, watch_count, is_watch, newcomer, place_at}
+use Rattle.reactor.proofs.Counts.{count_changed}
 
 module _ {C : Type 0} where
   -- no more are held where one ends

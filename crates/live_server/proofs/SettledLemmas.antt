@@ -2,8 +2,8 @@
 use Rattle.std.proofs.Common.{◌≡◌, ℕ, Bool, true, false, true≢false, ◌||◌, not, Option, Some, None, IsSome, List, refl, sym, ap, subst, ◌∙◌, arith, ⊎_elim}
 use Rattle.std.proofs.lemmas.Bool.{cases_eq}
 use Rattle.std.specs.Option.{option_map}
-use Rattle.connection_table.specs.declared.held_connection.HeldConnection.{HeldConnection}
-use Rattle.connection_table.specs.Table.{Changes, TableState, connection_at, is_watch, place_at}
+use Rattle.reactor.specs.declared.held_connection.HeldConnection.{HeldConnection}
+use Rattle.reactor.specs.Table.{Changes, TableState, connection_at, is_watch, place_at}
 use Rattle.reactor.specs.declared.connection.Connection.{Connection}
 use Rattle.reactor.specs.Connection.{may_look_at, state_of}
 use Rattle.live_server.specs.Settled.{AreSettled, AreSettledBut, KeepsOthers, is_settled}

@@ -1,7 +1,7 @@
 -- What a key holds stands, by its type.
 use Rattle.std.proofs.Common.{Option, Some, None}
 use Rattle.std.specs.Prelude.{IfSome}
-use Rattle.connection_table.specs.declared.held_connection.HeldConnection.{HeldConnection}
+use Rattle.reactor.specs.declared.held_connection.HeldConnection.{HeldConnection}
 use Rattle.reactor.specs.declared.connection.Connection.{Connection}
 use Rattle.reactor.specs.Connection.{state_of}
 

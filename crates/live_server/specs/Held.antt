@@ -1,5 +1,5 @@
 -- The connections that a loop holds, each in a place.
-use Rattle.connection_table.specs.Table.{TableState}
+use Rattle.reactor.specs.Table.{TableState}
 use Rattle.reactor.specs.declared.connection.Connection.{Connection}
 use Rattle.live_server.specs.declared.held.Held.{Held}
 use Rattle.live_server.specs.declared.places.Taken.{Taken}

@@ -1,6 +1,6 @@
 -- The connections that a loop holds.
 use Rattle.std.specs.Prelude.{[]}
-use Rattle.connection_table.specs.Table.{TableState}
+use Rattle.reactor.specs.Table.{TableState}
 use Rattle.reactor.specs.declared.connection.Connection.{Connection}
 use Rattle.reactor.specs.contracts.calling.CallMachine.TheImpl.{ghosts}
 use Rattle.web_call.specs.declared.call.Call.{Call}

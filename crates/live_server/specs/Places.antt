@@ -1,6 +1,6 @@
 -- The places of a server that its loops share, and those that a loop has taken.
 use Rattle.std.specs.Prelude.{ℕ, ◌≡◌}
-use Rattle.connection_table.specs.Table.{TableState, held_count, watch_count}
+use Rattle.reactor.specs.Table.{TableState, held_count, watch_count}
 use Rattle.live_server.specs.declared.places.ServerLimits.{ServerLimits}
 use Rattle.live_server.specs.declared.places.Places.{Places}
 use Rattle.live_server.specs.declared.places.Taken.{Taken}

@@ -1,7 +1,7 @@
 -- A table of connections in which each Watch that is looked at has a place.
 use Rattle.std.specs.Prelude.{ℕ, ◌≡◌, ◌≢◌, ◌≤◌, Bool, true, not, ◌||◌, Option, Some, None, List}
-use Rattle.connection_table.specs.declared.held_connection.HeldConnection.{HeldConnection}
-use Rattle.connection_table.specs.Table.{TableState, place_at}
+use Rattle.reactor.specs.declared.held_connection.HeldConnection.{HeldConnection}
+use Rattle.reactor.specs.Table.{TableState, place_at}
 use Rattle.reactor.specs.declared.connection.Connection.{Connection}
 use Rattle.reactor.specs.Connection.{may_look_at, state_of}
 

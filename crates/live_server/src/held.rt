@@ -2,9 +2,10 @@ ghost use Rattle.live_server.specs.Places.{HasPlaces};
 
 use crate::handler::{Handler, Visit};
 use crate::places::{Taken, Vacancy};
-use connection_table::{Table, counts_change, one_key_changes};
 use mio::{Registry, Token};
-use reactor::{Connection, Left, Machine, Occasion, Ready, Socket};
+use reactor::{
+    Connection, Left, Machine, Occasion, Ready, Socket, Table, counts_change, one_key_changes,
+};
 use std::alloc::Global;
 use std::io;
 
@@ -20,7 +21,7 @@ pub(crate) struct Held<S, M: Machine> {
 
 impl<S: Socket, M: Machine> Held<S, M> {
     ghost use Rattle.std.specs.Prelude.{◌≡◌, ◌<◌, false, true, length, None, IfNone, IfSome, IsTrue, IsFalse};
-    ghost use Rattle.connection_table.specs.Table.{IsHeld, place_at};
+    ghost use Rattle.reactor.specs.Table.{IsHeld, place_at};
     ghost use Rattle.reactor.specs.Connection.{is_over, may_look_at, state_of};
     ghost use Rattle.live_server.specs.Loop.{empty_table};
     ghost use Rattle.live_server.specs.Held.{held_in};

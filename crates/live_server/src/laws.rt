@@ -1,5 +1,5 @@
 ghost use Rattle.std.specs.Prelude.{ℕ, IfSome};
-ghost use Rattle.connection_table.specs.Table.{place_at};
+ghost use Rattle.reactor.specs.Table.{place_at};
 ghost use Rattle.reactor.specs.Calling.{IsCallOf};
 ghost use Rattle.reactor.specs.Connection.{state_of};
 ghost use Rattle.live_server.specs.Loop.{held_by};

@@ -6,7 +6,7 @@
 //! #![tactic(auto)]
 //!
 //! ghost use Rattle.std.specs.Prelude.{◌≡◌};
-//! ghost use Rattle.connection_table.specs.Table.{held_count};
+//! ghost use Rattle.reactor.specs.Table.{held_count};
 //! ghost use Rattle.live_server.specs.Loop.{held_by};
 //!
 //! use live_server::{EventServer, News};

@@ -44,7 +44,7 @@ const MOST_EVENTS: usize = 256;
 
 impl<A: Accept<S>, S: Socket, M: Machine> EventLoop<A, S, M> {
     ghost use Rattle.std.specs.Prelude.{◌≡◌, ◌-◌, ◌^◌, min, IfOk};
-    ghost use Rattle.connection_table.specs.Table.{IsAccounted, held_count, watch_count};
+    ghost use Rattle.reactor.specs.Table.{IsAccounted, held_count, watch_count};
     ghost use Rattle.std.specs.Arc.{arc_value};
     ghost use Rattle.live_server.specs.Loop.{empty_table, held_by, taken_by};
     ghost use Rattle.live_server.specs.Places.{HasPlaces, limits_of};

@@ -1,7 +1,7 @@
 //! The turns that a loop's connections take.
 
 ghost use Rattle.std.specs.Prelude.{◌≡◌, true, IsFalse};
-ghost use Rattle.connection_table.specs.Table.{place_at};
+ghost use Rattle.reactor.specs.Table.{place_at};
 ghost use Rattle.live_server.specs.Held.{held_in};
 ghost use Rattle.live_server.specs.Settled.{AreSettled, AreSettledBut, KeepsAccount, is_settled};
 
@@ -10,9 +10,8 @@ use crate::handler::Handler;
 use crate::held::Held;
 use crate::news::News;
 use crate::places::{Taken, Vacancy};
-use connection_table::Table;
 use mio::{Registry, Token};
-use reactor::{Connection, End, Left, MOST_TAKEN, Machine, Occasion, Ready, Socket};
+use reactor::{Connection, End, Left, MOST_TAKEN, Machine, Occasion, Ready, Socket, Table};
 use std::alloc::{AllocError, Global};
 use std::time::{Duration, Instant};
 use web_call::{Turn, Why};

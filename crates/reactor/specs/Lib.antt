@@ -2,9 +2,12 @@ pub mod Attendant
 pub mod Calling
 pub mod CallingLaws
 pub mod Connection
+pub mod Lends
 pub mod Link
 pub mod Moved
 pub mod Past
+pub mod Refused
+pub mod Table
 pub mod Talking
 pub mod TalkingLaws
 pub mod Times

@@ -1,4 +1,5 @@
-//! Conversations over connections, each taken as far as it goes without waiting, so that one thread holds thousands of them.
+//! Conversations over connections, each taken as far as it goes without waiting, so that one thread holds thousands of them,
+//! and the table that it holds them in.
 //!
 //! # A caller
 //!
@@ -31,24 +32,29 @@
 
 mod calling;
 mod connection;
+mod held_connection;
 mod host;
 mod laws;
 mod link;
 mod machine;
 mod past;
+mod refused;
 mod socket;
 mod stream;
+mod table;
 mod talking;
 mod turning;
 
 pub use calling::MOST_TAKEN;
 pub use connection::{Connection, End, Left, Occasion, Ready};
 pub use host::{Host, Step};
-pub use laws::{histories_chain, sessions_end, turns_chain};
+pub use laws::{counts_change, histories_chain, one_key_changes, sessions_end, turns_chain};
 pub use link::{Last, Link};
 pub use machine::Machine;
 pub use past::Past;
+pub use refused::{NotTaken, Refused};
 pub use socket::Socket;
 pub use stream::Stream;
+pub use table::Table;
 pub use talking::Attendant;
 pub use turning::{Fate, Turned, turn};

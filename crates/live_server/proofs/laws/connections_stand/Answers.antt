@@ -1,4 +1,4 @@
-use Rattle.connection_table.specs.Table.{place_at}
+use Rattle.reactor.specs.Table.{place_at}
 use Rattle.live_server.specs.Loop.{held_by}
 use Rattle.live_server.proofs.StandingLemmas.{each_stands}
 use Rattle.live_server.proofs.laws.connections_stand.Goals as goal

@@ -1,5 +1,5 @@
 use Rattle.std.proofs.Common.{sym}
-use Rattle.connection_table.specs.Table.{place_at, with_connection}
+use Rattle.reactor.specs.Table.{place_at, with_connection}
 use Rattle.live_server.proofs.SettledLemmas.{held_so, settled_still}
 use Rattle.live_server.proofs.held.Held.put_off.Goals as goal
 

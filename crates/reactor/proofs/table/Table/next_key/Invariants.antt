@@ -1,5 +1,5 @@
 use Rattle.std.proofs.Common.{◌≡◌, ℕ, ◌<◌, ◌≤◌, None, slice_index_or}
-use Rattle.connection_table.proofs.table.Table.next_key.Given as goal
+use Rattle.reactor.proofs.table.Table.next_key.Given as goal
 
 -- no key from the first on holds a connection
 abbrev pub invariant-loop-key : goal.invariant-loop-key

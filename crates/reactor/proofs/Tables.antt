@@ -1,9 +1,9 @@
 -- What a change of one key does to a table's parts.
 use Rattle.std.proofs.Common.{◌≡◌, ℕ, ◌+◌, ◌<◌, List, [], ◌∷◌, ◌++◌, length, length-append, Option, Some, None, count_by, refl, arith}
 use Rattle.slab.specs.Slab.{Slab, get, slab_len, Updates}
-use Rattle.connection_table.specs.declared.held_connection.HeldConnection.{HeldConnection}
-use Rattle.connection_table.specs.Table.{is_watch, newcomer, IsAccounted, IsTable}
-use Rattle.connection_table.proofs.Counts.{weight, count_changed}
+use Rattle.reactor.specs.declared.held_connection.HeldConnection.{HeldConnection}
+use Rattle.reactor.specs.Table.{is_watch, newcomer, IsAccounted, IsTable}
+use Rattle.reactor.proofs.Counts.{weight, count_changed}
 
 module _ {C : Type 0} where
   -- a table's parts are accounted for

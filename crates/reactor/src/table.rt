@@ -24,7 +24,7 @@ pub struct Table<C> {
 
 impl<C> Model for Table<C> {
     ghost use Rattle.std.specs.Prelude.{length};
-    ghost use Rattle.connection_table.specs.Table.{TableState, table_code, IsTable};
+    ghost use Rattle.reactor.specs.Table.{TableState, table_code, IsTable};
 
     ghost Value = { TableState C };
 
@@ -43,11 +43,11 @@ impl<C> Model for Table<C> {
 
 impl<C> Table<C> {
     ghost use Rattle.std.specs.Prelude.{◌≡◌, ◌+◌, ◌-◌, ◌^◌, ◌<◌, ◌≤◌, ◌↔◌, ◌==◌, ℕ, [], min, false, true, Some, None, IfSome, IfNone, OnSome, IfOk, IfErr, OnErr, OnOk, IsErrAnd, IsTrue, IsFalse, option_copied};
-    ghost use Rattle.connection_table.specs.declared.refused.Refused.TheVariants.{Full};
+    ghost use Rattle.reactor.specs.declared.refused.Refused.TheVariants.{Full};
     ghost use Rattle.std.specs.Option.{option_copied_mut};
     ghost use Rattle.std.specs.Borrow.{sem};
-    ghost use Rattle.connection_table.specs.Table.{place_at, connection_at, IsHeld, is_watch, newcomer, held_count, watch_count, IsAccounted, Changes, MayBeAdmitted, with_watch};
-    ghost use Rattle.connection_table.specs.Lends.{lends_held, lends_connection};
+    ghost use Rattle.reactor.specs.Table.{place_at, connection_at, IsHeld, is_watch, newcomer, held_count, watch_count, IsAccounted, Changes, MayBeAdmitted, with_watch};
+    ghost use Rattle.reactor.specs.Lends.{lends_held, lends_connection};
 
     /// An empty table, which takes no memory yet. It holds at most so many connections, and so many of them as open Watches.
     pub fn new(alloc: Global, most: usize, most_watches: usize) -> Table<C>

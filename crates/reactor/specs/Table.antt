@@ -2,7 +2,7 @@
 use Rattle.std.specs.Prelude.{◌≡◌, ◌≢◌, ℕ, ◌+◌, ◌-◌, ◌^◌, ◌<◌, ◌≤◌, ◌⊎◌, min, Bool, true, false, List, length, Option, Some, None, is_some, IsSome, count_by, slice_index_or, slice_set, refl}
 use Rattle.std.specs.Option.{option_map}
 use Rattle.std.specs.Coded.{Coded, code_by, coded×, coded_ℕ, coded_bool, coded_list, coded_option}
-use Rattle.connection_table.specs.declared.held_connection.HeldConnection.{HeldConnection}
+use Rattle.reactor.specs.declared.held_connection.HeldConnection.{HeldConnection}
 
 -- what each key from 0 on holds; how many connections were ever taken in, and how many of them have ended; how many may be held, and
 -- how many of these as open Watches

@@ -1,6 +1,6 @@
 use Rattle.std.proofs.Common.{arith}
-use Rattle.connection_table.proofs.Tables.{accounted, taken_in}
-use Rattle.connection_table.proofs.table.Table.insert.Goals as goal
+use Rattle.reactor.proofs.Tables.{accounted, taken_in}
+use Rattle.reactor.proofs.table.Table.insert.Goals as goal
 
 pub invariant_of-self : goal.invariant_of-self
 invariant_of-self g c =

@@ -1,7 +1,7 @@
 -- Why a connection was not taken in.
 use Rattle.std.specs.Prelude.{ℕ, List, codes}
-use Rattle.connection_table.specs.declared.refused.Refused.{Refused}
-use Rattle.connection_table.specs.declared.refused.Refused.TheVariants.{Full, NoMemory}
+use Rattle.reactor.specs.declared.refused.Refused.{Refused}
+use Rattle.reactor.specs.declared.refused.Refused.TheVariants.{Full, NoMemory}
 
 -- the text of a refusal
 abbrev pub refused_text : Refused → List ℕ

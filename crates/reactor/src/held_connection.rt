@@ -9,7 +9,7 @@ pub struct HeldConnection<C> {
 impl<C> HeldConnection<C> {
     ghost use Rattle.std.specs.Prelude.{◌≡◌};
     ghost use Rattle.std.specs.Borrow.{Lends, sem};
-    ghost use Rattle.connection_table.specs.contracts.held_connection.HeldConnection.{the_row};
+    ghost use Rattle.reactor.specs.contracts.held_connection.HeldConnection.{the_row};
 
     pub fn connection_mut(&mut self) -> &mut C
         ensures* lends { sem 𝓛 (Lends (the_row C.row) C.row self.entry result (λ connection. record self.old { connection = connection })) }

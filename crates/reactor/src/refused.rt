@@ -12,7 +12,7 @@ pub enum Refused {
 
 impl fmt::Display for Refused {
     ghost use Rattle.std.specs.Prelude.{Some};
-    ghost use Rattle.connection_table.specs.Refused.{refused_text};
+    ghost use Rattle.reactor.specs.Refused.{refused_text};
 
     ghost output = { λ refused. Some (refused_text refused) };
 

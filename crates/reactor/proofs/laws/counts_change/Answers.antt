@@ -1,7 +1,7 @@
 use Rattle.std.proofs.Common.{refl, is_some}
-use Rattle.connection_table.specs.Table.{is_watch}
-use Rattle.connection_table.proofs.Counts.{count_changed}
-use Rattle.connection_table.proofs.laws.counts_change.Goals as goal
+use Rattle.reactor.specs.Table.{is_watch}
+use Rattle.reactor.proofs.Counts.{count_changed}
+use Rattle.reactor.proofs.laws.counts_change.Goals as goal
 
 pub returns-clause-held : goal.returns-clause-held
 returns-clause-held g c old new key place changes =

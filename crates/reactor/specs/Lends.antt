@@ -1,8 +1,8 @@
 -- What a table ends as, where a `&mut` to a connection is returned.
 use Rattle.std.specs.Prelude.{ℕ, Option}
 use Rattle.std.specs.Borrow.{Lends, LendsIf, Fml, RattleType, MutBor}
-use Rattle.connection_table.specs.Table.{TableState, with_connection}
-use Rattle.connection_table.specs.contracts.table.Table.{the_row}
+use Rattle.reactor.specs.Table.{TableState, with_connection}
+use Rattle.reactor.specs.contracts.table.Table.{the_row}
 
 module _ (C : RattleType) (table : MutBor (TableState C.Denot)) (key : ℕ) where
   -- once the borrow r ends, the key holds the last connection written through r

@@ -1,3 +1,0 @@
-pub mod Refused
-pub mod Table
-pub mod Lends
