@@ -1,4 +1,4 @@
-use inquiry::Meter;
+use crate::meter::Meter;
 use live_server::Tally;
 use plain::Figures;
 use std::sync::Arc;

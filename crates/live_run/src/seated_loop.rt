@@ -3,10 +3,10 @@ ghost use Rattle.hall.specs.Seats.{IsOf};
 ghost use Rattle.live_run.specs.Loops.{LookedAndEnded, EndedEmpty, AllLookedAndEnded};
 
 use crate::counters::Counters;
+use crate::reception::Reception;
 use crew::{CopyingDoor, HallDoor};
 use desk_core::{Keep, KeepAll, Transcript};
 use hall::{Hall, Seat};
-use inquiry::Reception;
 use live_server::{EventServer, News};
 use probe_core::Probe;
 use std::sync::{Arc, Wait};

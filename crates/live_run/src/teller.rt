@@ -14,7 +14,7 @@ pub struct Teller<'a, D: BoardDoor, M: Meter> {
 
 impl<'a, D: BoardDoor, M: Meter> Teller<'a, D, M> {
     ghost use Rattle.std.specs.Prelude.{◌≡◌};
-    ghost use Rattle.inquiry.specs.Teller.{door_of};
+    ghost use Rattle.live_run.specs.Teller.{door_of};
 
     pub fn new(door: &'a mut D, meter: &'a M) -> Teller<'a, D, M>
         ensures reference { result.door.ghost_name ≡ door.entry.ghost_name }
@@ -27,7 +27,7 @@ impl<'a, D: BoardDoor, M: Meter> Teller<'a, D, M> {
 impl<'a, D: BoardDoor, M: Meter> Door for Teller<'a, D, M> {
     ghost use Rattle.std.specs.Prelude.{◌≡◌, true, refl};
     ghost use Rattle.std.proofs.Common.{◌∙◌};
-    ghost use Rattle.inquiry.specs.Teller.{door_of};
+    ghost use Rattle.live_run.specs.Teller.{door_of};
 
     ghost names = { λ teller. D.names (door_of teller) };
 

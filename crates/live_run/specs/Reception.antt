@@ -1,5 +1,5 @@
 -- What takes in the clients of both places.
-use Rattle.inquiry.specs.declared.reception.Reception.{Reception}
+use Rattle.live_run.specs.declared.reception.Reception.{Reception}
 
 -- the door that it asks
 abbrev pub door_of : {D M : Type 0} → Reception D M → D

@@ -15,7 +15,7 @@ pub struct Reception<'a, D: BoardDoor, M: Meter> {
 
 impl<'a, D: BoardDoor, M: Meter> Reception<'a, D, M> {
     ghost use Rattle.std.specs.Prelude.{◌≡◌};
-    ghost use Rattle.inquiry.specs.Reception.{door_of};
+    ghost use Rattle.live_run.specs.Reception.{door_of};
 
     pub fn new(door: &'a mut D, meter: &'a M) -> Reception<'a, D, M>
         ensures reference { result.door.ghost_name ≡ door.entry.ghost_name }
@@ -28,7 +28,7 @@ impl<'a, D: BoardDoor, M: Meter> Reception<'a, D, M> {
 impl<D: BoardDoor, M: Meter> Handler<Caller, Call> for Reception<'_, D, M> {
     ghost use Rattle.std.specs.Prelude.{◌≡◌, refl};
     ghost use Rattle.std.proofs.Common.{◌∙◌};
-    ghost use Rattle.inquiry.specs.Reception.{door_of};
+    ghost use Rattle.live_run.specs.Reception.{door_of};
 
     ghost is_ready = { λ _. Unit {0} };
 

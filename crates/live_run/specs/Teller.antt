@@ -1,5 +1,5 @@
 -- A door that answers plain requests too.
-use Rattle.inquiry.specs.declared.teller.Teller.{Teller}
+use Rattle.live_run.specs.declared.teller.Teller.{Teller}
 
 -- the door that it asks
 abbrev pub door_of : {D M : Type 0} → Teller D M → D

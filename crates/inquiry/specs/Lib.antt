@@ -1,2 +1,0 @@
-pub mod Teller
-pub mod Reception
