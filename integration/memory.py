@@ -1,5 +1,4 @@
-"""Memory that is refused, by each request for it in turn: only what wanted it fails, and says so, and all else goes on. It is not said where
-a thread is wanted at the start: what that is for begins when all else has ended.
+"""Memory that is refused, by each request for it in turn: only what wanted it fails, and says so, and all else goes on.
 
 The library refuse.c, which is loaded before the program, refuses what it is told to."""
 import contextlib
@@ -342,16 +341,12 @@ def is_of_its_own(command, found):
             or command == "observe" and (out, status) in (("b fail: no address\n", 3), ("b fail: out of memory\n", 3), ("b pass\n", 1)))
 
 
-def is_stopped(place):
-    """Tells the server at this place to stop, unless it has ended by now. Whether a session is answered there."""
-    with socket.socket(socket.AF_UNIX) as session, contextlib.suppress(ConnectionError):
-        session.settimeout(5)
+def stop(place):
+    """Tells the server at this place to stop, unless it ends by itself."""
+    with socket.socket(socket.AF_UNIX) as session, contextlib.suppress(OSError):
+        session.settimeout(20)
         session.connect(place)
-        try:
-            ask_line(session, "stop")
-        except TimeoutError:
-            return False
-    return True
+        ask_line(session, "stop")
 
 
 def starts(memory, folder, *options):
@@ -368,20 +363,16 @@ def starts(memory, folder, *options):
             lines = [process.stdout.readline() for _ in range(3)]
             if all(lines):
                 time.sleep(0.2)  # its loops begin
-        if all(lines) and not is_stopped(f"{folder}/place"):
-            # There was no memory for the thread of the sessions: calls are answered alone.
-            answer = exchange(int(lines[0].rpartition(":")[2]), call("Check", "a"))
-            process.kill()
-            process.communicate()
-            return answer.partition(END)[2]
+        if all(lines):
+            stop(f"{folder}/place")
         out, err = process.communicate(timeout=20)
         return [line.partition(" ")[0] for line in lines], out, err, process.returncode
 
-    said = re.compile("healthd: (script line [2-6]: refused no memory|out of memory)\n")
+    said = re.compile("healthd: (script line [2-6]: refused no memory|too few threads|out of memory)\n")
     refusals = memory.in_turn(
         " ".join(("run", *options[:1])), act, (["listening", "plain", "control"], "journal 5\n", "", 0),
-        lambda found: found == CHECKED or not found[1] and said.fullmatch(found[2]) and found[3] == 1)
-    return [found for found in refusals if found != CHECKED and all(found[0])]
+        lambda found: not found[1] and said.fullmatch(found[2]) and found[3] == 1)
+    return [found for found in refusals if all(found[0])]
 
 
 def unexpected(memory, folder):

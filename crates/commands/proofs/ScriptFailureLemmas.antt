@@ -5,7 +5,7 @@ use Rattle.script.specs.declared.script_fault.ScriptFault.{ScriptFault}
 use Rattle.script.specs.declared.script_fault.ScriptFault.TheVariants.{NoMemory}
 use Rattle.script.specs.Script.{IsScriptFault}
 use Rattle.commands.specs.declared.run_failure.RunFailure.{RunFailure}
-use Rattle.commands.specs.declared.run_failure.RunFailure.TheVariants.{Read, Script, Refused, Bind, Journal, TooFewFiles, HandedOver, EventLoop, Write, OutOfMemory}
+use Rattle.commands.specs.declared.run_failure.RunFailure.TheVariants.{Read, Script, Refused, Bind, Journal, TooFewFiles, HandedOver, EventLoop, TooFewThreads, Write, OutOfMemory}
 use Rattle.commands.specs.Run.{EndsSetUp}
 use Rattle.commands.specs.RunFailure.{IsScriptFailure}
 
@@ -17,6 +17,7 @@ script_ends bytes fault (Refused line) wrong is = absurd is
 script_ends bytes fault (Bind place cause) wrong is = is
 script_ends bytes fault (Journal path cause) wrong is = absurd is
 script_ends bytes fault TooFewFiles wrong is = absurd is
+script_ends bytes fault TooFewThreads wrong is = absurd is
 script_ends bytes fault (HandedOver descriptor) wrong is = absurd is
 script_ends bytes fault (EventLoop cause) wrong is = is
 script_ends bytes fault (Write cause) wrong is = is

@@ -19,7 +19,7 @@ use Rattle.live_run.specs.declared.refused_line.RefusedLine.{RefusedLine}
 use Rattle.live_run.specs.RefusedLine.{IsFirstRefused, IsMade}
 use Rattle.commands.specs.declared.bounds.Bounds.{Bounds}
 use Rattle.commands.specs.declared.run_failure.RunFailure.{RunFailure}
-use Rattle.commands.specs.declared.run_failure.RunFailure.TheVariants.{Read, Script, Refused, Bind, Journal, TooFewFiles, HandedOver, EventLoop, Write, OutOfMemory}
+use Rattle.commands.specs.declared.run_failure.RunFailure.TheVariants.{Read, Script, Refused, Bind, Journal, TooFewFiles, HandedOver, EventLoop, TooFewThreads, Write, OutOfMemory}
 
 -- a change got a reply
 abbrev pub HasReply : Result Reply Refusal → Type 0
@@ -66,6 +66,7 @@ EndsSetUp bytes (Refused line) = IsRefusedLine bytes line
 EndsSetUp bytes (Bind addr cause) = ⊥
 EndsSetUp bytes (Journal path cause) = ⊥
 EndsSetUp bytes TooFewFiles = ⊥
+EndsSetUp bytes TooFewThreads = ⊥
 EndsSetUp bytes (HandedOver descriptor) = ⊥
 EndsSetUp bytes (EventLoop cause) = ⊥
 EndsSetUp bytes (Write cause) = ⊥

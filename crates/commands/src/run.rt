@@ -227,19 +227,23 @@ where
         counters,
     } = begin(rt, alloc, &made, setting, supervisor)?;
     let ran = serve_to_end(rt, alloc, made, servers, places, maker, &counters, &news)?;
-    tell_end(rt, alloc, ran)
+    tell_end(rt, alloc, ran, &news)
 }
 
-/// Tells how many entries a run leaves, once the files of its sockets are taken away.
+/// Tells how many entries a run leaves, once the files of its sockets are taken away, or that it lacked a thread.
 fn tell_end<'a, R: Print + Files, P: Probe, K: Keep>(
     rt: &R,
     alloc: Global,
     ran: Ran<P, K>,
+    news: &News,
 ) -> Result<(), RunFailure<'a>> {
     remove_sockets(rt, &ran);
     let line = journal_line(alloc, &ran)?;
     // Whoever reads the line may have the journal's file.
     drop(store_of(ran));
+    if news.lacks_threads() {
+        return Err(RunFailure::TooFewThreads);
+    }
     print_line(rt, &line)
 }
 

@@ -40,6 +40,9 @@ pub enum RunFailure<'a> {
     /// A loop has no way to wait for its sockets, say for want of descriptors.
     #[error("event loop: {0}")]
     EventLoop(Cause),
+    /// The system made no thread for one of the places for sessions, or for the watchdog.
+    #[error("too few threads")]
+    TooFewThreads,
     #[error("write: {0}")]
     Write(Cause),
     #[error("out of memory")]

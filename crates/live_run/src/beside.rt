@@ -20,8 +20,8 @@ use std::time::Clock;
 
 /// Holds sessions of the control place beside loops that serve, until all is to end.
 ///
-/// Sessions have a thread of their own where one can be made. Where none can, they begin when the loops have ended, so that calls are
-/// served and nothing can be asked for.
+/// Sessions have a thread of their own. Where none can be made, they begin when the loops have ended, which is soon: the loops wait for
+/// them to begin.
 pub(crate) fn serve_beside<R, P: Probe + Send, K: Keep + Send, M>(
     rt: &R,
     hall: &Hall<P, K>,

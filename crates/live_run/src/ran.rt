@@ -13,6 +13,16 @@ pub struct SessionPlaces {
     pub watchdog: Option<WatchdogLoop>,
 }
 
+impl SessionPlaces {
+    /// How many threads these want beside those of the loops over calls.
+    pub(crate) fn threads(&self) -> u64 {
+        let has_control = u64::from(self.control.is_some());
+        let has_report = u64::from(self.report.is_some());
+        let has_watchdog = u64::from(self.watchdog.is_some());
+        has_control + has_report + has_watchdog
+    }
+}
+
 /// What is left of a hall that was run to its end.
 #[derive(Drop)]
 pub struct Ran<P: Probe, K: Keep = KeepAll> {

@@ -18,7 +18,7 @@ use std::thread;
 use std::thread::Threads;
 use std::time::Clock;
 
-/// Holds sessions of the report place in a thread of their own, where one can be made, beside those of the control place and the loops.
+/// Holds sessions of the report place in a thread of their own, beside those of the control place and the loops.
 pub(crate) fn serve_reported<R, P: Probe + Send, K: Keep + Send, M>(
     rt: &R,
     hall: &Hall<P, K>,

@@ -17,8 +17,9 @@ use live_server::{EventServer, News};
 use probe_core::{Maker, Probe};
 use std::alloc::{AllocError, Global};
 use std::sync::{Arc, Wait};
+use std::thread;
 use std::thread::Threads;
-use std::time::Clock;
+use std::time::{Clock, Duration};
 
 /// Loops on their seats, and the seats beside theirs, with room for all seats and loops to come back.
 #[derive(Drop)]
@@ -305,7 +306,21 @@ impl<P: Probe + Send, K: Keep + Send> Seating<P, K> {
     }
 }
 
-/// The loops when they have served.
+/// How many milliseconds the threads may take to begin that a run can't do without.
+const PATIENCE_MILLIS: u32 = 5_000;
+
+/// Waits until the threads have begun that a run can't do without. Where one hasn't in time, the system made none, and all is to end.
+fn await_threads<R: Clock>(rt: &R, news: &News) {
+    for _ in 0..PATIENCE_MILLIS {
+        if !news.awaits_threads() || news.has_ended() {
+            return;
+        }
+        thread::sleep(rt, Duration::from_millis(1));
+    }
+    news.end_for_lack_of_threads();
+}
+
+/// The loops when they have served, once all other threads have begun.
 pub(crate) fn after_serving<R: Wait + Threads + Clock + Sync, P: Probe + Send, K: Keep + Send>(
     rt: &R,
     hall: &Hall<P, K>,
@@ -316,6 +331,7 @@ pub(crate) fn after_serving<R: Wait + Threads + Clock + Sync, P: Probe + Send, K
     ensures len { vec_len result ≡ vec_len loops }
     ensures served { AllLookedAndEnded loops.items result.items }
 {
+    await_threads(rt, news);
     serve_loops(rt, hall, loops.as_mut_slice(), news);
     loops
 }

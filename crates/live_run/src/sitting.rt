@@ -69,6 +69,7 @@ where
         maker,
         news,
     };
+    news.begin_thread();
     server.run(&context, seats.as_mut_slice());
     Sitting {
         server: Some(server),

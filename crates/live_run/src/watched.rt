@@ -48,6 +48,7 @@ fn keep_watch<R: Wait + Clock, P: Probe, K: Keep>(
             seats,
         };
     };
+    news.begin_thread();
     watching.run(rt, hall, &mut seats[0], news);
     Watch {
         watchdog: Some(watching),
@@ -55,8 +56,8 @@ fn keep_watch<R: Wait + Clock, P: Probe, K: Keep>(
     }
 }
 
-/// Lets the watchdog have its rounds in a thread of its own, where one can be made, beside sessions and loops. Where none can, it has none:
-/// silence is then no failure.
+/// Lets the watchdog have its rounds in a thread of its own, beside sessions and loops. Where none can be made, it begins when these have
+/// ended, which is soon: the loops wait for it to begin.
 pub(crate) fn serve_watched<R, P: Probe + Send, K: Keep + Send, M>(
     rt: &R,
     hall: &Hall<P, K>,

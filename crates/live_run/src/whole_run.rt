@@ -24,6 +24,8 @@ use std::time::Clock;
 /// Serves by loops over a hall that is set up, beside sessions where there are places for them, until `news` tells that all is to end
 /// and no connection is left, and then closes the hall.
 ///
+/// The places and the watchdog have threads of their own. Where one of these can't be made all is to end, and `news` tells why.
+///
 /// The first seat has set the hall up, and the watchdog makes its fails by it. Those behind it are the loops', in their order; behind these 32 are the control place's, and the
 /// others the report place's. Plain requests are told of the server what `counters` read. Sessions make their changes by them, with probes that `maker` gives.
 pub fn run_live<R, P: Probe + Send, K: Keep + Send, M>(
@@ -67,6 +69,7 @@ where
         made.seats
         → ran.desk.journal ≡ replied 0 calls made.results) }
 {
+    news.await_threads(places.threads());
     let (hall, seats) = made.into_hall();
     match Seating::new(alloc, servers, seats, counters) {
         Ok(seating) => {

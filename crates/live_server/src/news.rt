@@ -2,10 +2,14 @@ use mio::Waker;
 use std::alloc::AllocError;
 use std::sync::atomic::{AtomicU64, Ordering};
 
-/// What the loops of a server are told: that something changed, and that all is to end.
+/// What the threads of a server tell each other: that something changed, that they have begun, and that all is to end.
 pub struct News {
     changes: AtomicU64,
     ends: AtomicU64,
+    /// How many threads that are needed have not begun.
+    awaited: AtomicU64,
+    /// Whether one of them was missing in the end.
+    lacks: AtomicU64,
     wakers: Vec<Waker>,
 }
 
@@ -14,6 +18,8 @@ impl Drop for News {
         let News {
             changes: _,
             ends: _,
+            awaited: _,
+            lacks: _,
             wakers: _,
         } = self;
     }
@@ -25,6 +31,8 @@ impl News {
         News {
             changes: AtomicU64::new(0),
             ends: AtomicU64::new(0),
+            awaited: AtomicU64::new(0),
+            lacks: AtomicU64::new(0),
             wakers,
         }
     }
@@ -34,12 +42,16 @@ impl News {
         let News {
             changes,
             ends,
+            awaited,
+            lacks,
             mut wakers,
         } = self;
         wakers.push(waker)?;
         Ok(News {
             changes,
             ends,
+            awaited,
+            lacks,
             wakers,
         })
     }
@@ -64,6 +76,32 @@ impl News {
     /// Whether all is to end.
     pub fn has_ended(&self) -> bool {
         self.ends.load(Ordering::SeqCst) != 0
+    }
+
+    /// Tells that so many threads are to begin, without which the server can't do.
+    pub fn await_threads(&self, count: u64) {
+        self.awaited.store(count, Ordering::SeqCst);
+    }
+
+    /// Tells that one of the threads has begun that are awaited.
+    pub fn begin_thread(&self) {
+        self.awaited.fetch_sub(1, Ordering::SeqCst);
+    }
+
+    /// Whether some of the threads that are awaited have not begun.
+    pub fn awaits_threads(&self) -> bool {
+        self.awaited.load(Ordering::SeqCst) != 0
+    }
+
+    /// Tells that all is to end, since a thread is missing.
+    pub fn end_for_lack_of_threads(&self) {
+        self.lacks.store(1, Ordering::SeqCst);
+        self.end();
+    }
+
+    /// Whether all was to end since a thread was missing.
+    pub fn lacks_threads(&self) -> bool {
+        self.lacks.load(Ordering::SeqCst) != 0
     }
 
     /// Wakes all loops.
