@@ -2,7 +2,6 @@
 
 mod crashes;
 mod histories;
-mod log_files;
 mod rewritings;
 mod spare;
 mod stores;

@@ -119,14 +119,6 @@ impl<S> Link<S> {
     {
         &self.stream
     }
-
-    /// The stream behind it, which is given back.
-    pub fn into_stream(self) -> S
-        ensures { result ≡ link_stream self }
-    {
-        let Link { stream, .. } = self;
-        stream
-    }
 }
 
 impl<S: Stream> Link<S> {

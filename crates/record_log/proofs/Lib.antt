@@ -6,5 +6,4 @@ pub mod LawLemmas
 pub mod LogLemmas
 mod OpeningLemmas
 mod ReadingLemmas
-mod RunLemmas
 mod TakenBackLemmas

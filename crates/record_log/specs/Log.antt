@@ -1,5 +1,5 @@
 -- What a file of entries stands for, at rest and after a crash.
-use Rattle.std.specs.Prelude.{◌≡◌, ◌≢◌, ◌⊎◌, ℕ, ◌<◌, ◌≤◌, List, [], ◌∷◌, ◌++◌, length, take, map, Vec}
+use Rattle.std.specs.Prelude.{◌≡◌, ◌≢◌, ◌⊎◌, ℕ, ◌<◌, ◌≤◌, List, [], ◌∷◌, ◌++◌, length, map, Vec}
 use Rattle.std.specs.declared.alloc.Global.{Global}
 use Rattle.std.specs.Int.{w32, to_be_bytes}
 use Rattle.record_log.specs.Checksum.{crc32}
@@ -57,13 +57,3 @@ IsAsBefore may_leave old file = may_leave file ⊎ (IsUnbegun old × IsUnbegun f
 -- the file stands for the entries from before the batch, or for those and all of the batch
 abbrev pub IsBeforeOrAfter : List (List ℕ) → List (List ℕ) → List ℕ → Type 0
 IsBeforeOrAfter entries batch file = StandsFor file entries ⊎ StandsFor file (entries ++ batch)
-
--- the entries of these batches, in order
-abbrev pub all_of : List (Vec (Vec ℕ Global) Global) → List (List ℕ)
-all_of [] = []
-all_of (batch ∷ batches) = texts batch.items ++ all_of batches
-
--- the file stands for the entries from before the run and those of some of the batches, none
--- skipped and none in part
-abbrev pub IsAfterSome : List (List ℕ) → List (Vec (Vec ℕ Global) Global) → List ℕ → Type 0
-IsAfterSome entries batches file = (n : ℕ) × StandsFor file (entries ++ all_of (take n batches))

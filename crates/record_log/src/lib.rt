@@ -62,4 +62,4 @@ pub use crate::not_replaced::NotReplaced;
 pub use crate::open_error::OpenError;
 pub use crate::reading::{ReadError, read_entries};
 pub use crate::record_log::RecordLog;
-pub use crate::rewriting::{write_anew, write_text_anew};
+pub use crate::rewriting::write_text_anew;

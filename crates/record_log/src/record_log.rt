@@ -1,6 +1,6 @@
 ghost use Rattle.std.specs.Prelude.{◌≡◌, ◌<◌, ◌++◌, List, ℕ, All, length, IfOk, OnOk, IsErrOf};
 ghost use Rattle.record_log.specs.Device.{LeavesOnly, IsCounted};
-ghost use Rattle.record_log.specs.Log.{StandsFor, IsDamagedAt, IsReady, IsAsBefore, IsBeforeOrAfter, IsAfterSome, all_of, blocks, texts};
+ghost use Rattle.record_log.specs.Log.{StandsFor, IsDamagedAt, IsReady, IsAsBefore, IsBeforeOrAfter, blocks, texts};
 ghost use Rattle.record_log.specs.declared.open_error.OpenError.TheVariants.{Failed, Damaged};
 
 use crate::block::{CLOSED, blocks_of};
@@ -99,32 +99,6 @@ impl<D: Device> RecordLog<D> {
             write_synced(&mut self.device, end, &[CLOSED])?;
         }
         self.end = end;
-        Ok(())
-    }
-
-    /// Adds one batch after another.
-    pub fn append_all(&mut self, alloc: Global, batches: &[Vec<Vec<u8>>]) -> Result<(), DeviceError>
-        requires ready { (entries : List (List ℕ))
-            × IsReady D.contents D.may_leave self.old entries }
-        requires some { All (λ batch. 0 < length batch.items) batches.now }
-        requires short { All (λ batch. All (λ entry. length entry.items < 256) batch.items)
-            batches.now }
-
-        ensures acknowledged { OnOk result ((entries : List (List ℕ))
-            → IsReady D.contents D.may_leave self.old entries
-            → IsReady D.contents D.may_leave self.new (entries ++ all_of batches.now)) }
-
-        // A crash within the call leaves the first of the batches, each of them whole.
-        ensures any_moment { (entries : List (List ℕ))
-            → IsReady D.contents D.may_leave self.old entries
-            → LeavesOnly D.moment D.left_since self.old.device self.new.device
-            (IsAfterSome entries batches.now) }
-        ensures failed { IsCounted (D.failures self.old.device) (D.failures self.new.device)
-            result }
-    {
-        for batch in batches {
-            self.append(alloc, batch)?;
-        }
         Ok(())
     }
 }

@@ -1,36 +1,15 @@
 //! A file is written anew beside its place, and put there once it is on the disk.
 
-ghost use Rattle.std.specs.Prelude.{◌≡◌, ◌<◌, ◌++◌, ◌∷◌, [], ℕ, List, All, length, IfOk};
-ghost use Rattle.record_log.specs.Log.{blocks, texts};
+ghost use Rattle.std.specs.Prelude.{◌≡◌, ◌++◌, ◌∷◌, [], ℕ, List, IfOk};
+ghost use Rattle.record_log.specs.Log.{blocks};
 ghost use Rattle.record_log.specs.FileView.{IsReadyFile};
 
-use crate::block::blocks_of;
 use crate::file_device::{lock, sync_folder};
 use crate::{FileDevice, FileError, HeldFile, NotReplaced, RecordLog};
 use std::fs::File;
 use std::os::unix::fs::FileExt;
 use std::rt::Files;
 use std::{fs, io};
-
-/// Puts a file of these entries in the place of a log's, as `write_text_anew` does.
-pub fn write_anew<R: Files<File = File> + AllocGlobal>(
-    rt: &R,
-    path: &str,
-    old: RecordLog<FileDevice>,
-    entries: &[Vec<u8>],
-) -> Result<RecordLog<FileDevice>, NotReplaced>
-    requires short { All (λ entry. length entry.items < 256) entries.now }
-    ensures { IfOk result (λ log. IsReadyFile log (texts entries.now)) }
-{
-    match blocks_of(rt.alloc(), entries) {
-        Ok(text) => write_text_anew(rt, path, old, &text),
-        Err(error) => Err(NotReplaced {
-            error: error.into(),
-            old: old.device.into_held(),
-            new: None,
-        }),
-    }
-}
 
 /// Puts a file of this text, which is some entries' blocks and a closed gate, in the place of a log's. A crash leaves the one or the
 /// other, and no moment leaves the path without a lock. After an `Err`, open the path anew by the files that are held.
