@@ -1,15 +1,8 @@
 pub mod Answer
 pub mod AskFailure
-pub mod Bounds
 pub mod Expect
 pub mod Fault
-pub mod Journaled
 pub mod Replay
-pub mod Expected
-pub mod Run
-pub mod RunFailure
-pub mod RunOptions
 pub mod Service
 pub mod StatusPrinter
 pub mod Tell
-pub mod Terminal

@@ -2,7 +2,6 @@ ghost use Rattle.std.specs.Prelude.{◌≡◌, ◌≤◌, ◌↔◌, ◌⊎◌, 
 ghost use Rattle.commands.specs.Expect.{IsExpected};
 
 use crate::ask_failure::AskFailure;
-use crate::cause::Cause;
 use crate::command::port_in;
 use crate::deadline::{Deadline, TimedStream};
 use crate::expect::{exit_status, status_spelled};
@@ -11,6 +10,7 @@ use crate::status_printer::{StatusPrinter, put_status};
 use clap::ArgMatches;
 use clap::parser::ValueSource;
 use client::{AskFault, Ended, Lent, Listener, Told, ask, watch_through};
+use control::Cause;
 use std::alloc::{AllocError, Global};
 use std::fmt::Write as _;
 use std::io;

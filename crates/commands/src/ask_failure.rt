@@ -2,9 +2,9 @@ ghost use Rattle.std.specs.Prelude.{◌≡◌};
 ghost use Rattle.commands.specs.declared.ask_failure.AskFailure.TheVariants.{Plain};
 ghost use Rattle.commands.specs.AskFailure.{plain_of};
 
-use crate::cause::Cause;
 use crate::fault::Fault;
 use client::AskFault;
+use control::Cause;
 use std::net::SocketAddr;
 use thiserror::Error;
 

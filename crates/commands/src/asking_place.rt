@@ -4,11 +4,10 @@ ghost use Rattle.std.specs.Prelude.{OnOk, string_bytes};
 ghost use Rattle.std.specs.Io.KnownBytes.{Appends, Keeps};
 ghost use Rattle.control.specs.Line.{ended};
 
-use crate::cause::Cause;
 use crate::show_failure::ShowFailure;
 use crate::tell_failure::{TellFailure, failure_at};
 use control::{
-    AnswerFault, ControlClient, LINE_ROOM, LineEnd, Place, connect_within, is_one_line,
+    AnswerFault, Cause, ControlClient, LINE_ROOM, LineEnd, Place, connect_within, is_one_line,
     is_turned_away, read_line, tell,
 };
 use std::alloc::Global;

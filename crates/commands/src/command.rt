@@ -5,10 +5,10 @@ use crate::observe_options::BadObserve;
 use crate::options::{
     ASK, BODY, HISTORY, JOURNAL, OBSERVE, RUN, SERVE, STATUS, TELL, asked_place, with_options,
 };
-use crate::run_options::BadOption;
 use clap::error::ErrorKind;
 use clap::{ArgMatches, Command};
 use std::alloc::{AllocError, Global};
+use std::fmt::Display;
 
 const VERSION: &str = "0.1.0";
 
@@ -70,7 +70,7 @@ fn run<'a>(alloc: Global) -> Result<Command<'a>, AllocError> {
 }
 
 /// The command line of a run that is refused, with the text that clap has for such.
-pub fn bad_option(alloc: Global, bad: BadOption<'_>) -> Result<clap::Error, AllocError> {
+pub fn bad_option<B: Display>(alloc: Global, bad: &B) -> Result<clap::Error, AllocError> {
     let message = format!(in alloc; "{bad}")?;
     refused(run(alloc)?, "healthd run", &message)
 }

@@ -1,6 +1,5 @@
 //! The options of the commands, as tables.
 
-use crate::bounds::MAX_LOOPS;
 use crate::expect::STATUS_NAMES;
 use clap::{Arg, ArgAction, Command, value_parser};
 use std::alloc::{AllocError, Global};
@@ -16,6 +15,9 @@ const NO_LIMIT: &str = "4294967295";
 
 /// The most connections of a server.
 const MAX_CONNECTIONS: i64 = 1_000_000;
+
+/// The most event loops of a run, which would start no more.
+const MAX_LOOPS: i64 = 64;
 
 /// An option of a command, or a word that is none.
 #[derive(Clone, Copy)]
@@ -138,7 +140,7 @@ pub(crate) static RUN: [CommandOption; 10] = [
     },
     CommandOption {
         name: "threads",
-        takes: Takes::Small("T", 1, MAX_LOOPS as i64),
+        takes: Takes::Small("T", 1, MAX_LOOPS),
         otherwise: Otherwise::Nothing,
         help: "Event loops, 1 to 64, e.g. 4; without it one a processor; there are no more than connections",
     },

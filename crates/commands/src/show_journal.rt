@@ -1,4 +1,4 @@
-use crate::cause::Cause;
+use control::Cause;
 use journal_lines::{PrintingFault, print_journal};
 use std::io;
 use std::io::BufWriter;

@@ -4,13 +4,12 @@ ghost use Rattle.commands.specs.Tell.{HasTold};
 ghost use Rattle.control.specs.Answer.{IsRefused};
 ghost use Rattle.control.specs.Line.{IsPartOfLine, ended};
 
-use crate::cause::Cause;
 use crate::expect::{DONE, UNMET};
 use crate::tell_failure::{TellFailure, failure_at};
 use crate::timed_control::{AnswerTime, TimedControl};
 use clap::ArgMatches;
 use control::{
-    AnswerFault, ControlClient, LINE_ROOM, LineEnd, Place, connect_within, is_refused,
+    AnswerFault, Cause, ControlClient, LINE_ROOM, LineEnd, Place, connect_within, is_refused,
     is_turned_away, read_line, tell,
 };
 use std::alloc::{AllocError, Global};

@@ -70,6 +70,7 @@
 
 mod answer;
 mod answer_fault;
+mod cause;
 mod client;
 mod description;
 mod description_text;
@@ -101,6 +102,7 @@ mod writing;
 
 pub use answer::Answer;
 pub use answer_fault::AnswerFault;
+pub use cause::Cause;
 pub use client::{ControlClient, connect, connect_within};
 pub use description::Description;
 pub use entry_text::{call_text, push_done, push_note};

@@ -8,13 +8,14 @@ use clap::error::ErrorKind;
 use commands::fault::Fault;
 use commands::observe::run_observe;
 use commands::observe_options::{ObserveOptions, targets_in};
-use commands::run_options::{RunOptions, Source};
 use commands::show_journal::run_journal;
-use commands::supervisor::Supervisor;
-use commands::terminal::is_input_terminal;
-use commands::{ask, body, command, history, replay, run, serve, status, tell};
+use commands::{ask, body, command, history, replay, serve, status, tell};
 use control::is_one_line;
 use probe_core::{Depends, FnMaker, Maker, Manual, Probe, ProbeFn, Rule, Threshold};
+use running::run;
+use running::run_options::{RunOptions, Source};
+use running::supervisor::Supervisor;
+use running::terminal::is_input_terminal;
 use std::alloc::AllocError;
 use std::fmt::Display;
 use std::fs::File;
@@ -172,7 +173,7 @@ where
 {
     let options = match RunOptions::read(matches) {
         Ok(options) => options,
-        Err(bad) => return refuse(rt, &command::bad_option(rt.alloc(), bad)?),
+        Err(bad) => return refuse(rt, &command::bad_option(rt.alloc(), &bad)?),
     };
     if options.script == Source::StandardInput && is_input_terminal(rt) {
         let _ = eprintln!(rt; "healthd: {READS_TERMINAL}");

@@ -1,6 +1,0 @@
-use Rattle.std.proofs.Common.{◌≡◌, length}
-use Rattle.commands.specs.Run.{AreLoopsOf}
-use Rattle.commands.proofs.loops.loops_with.Given as goal
-
-abbrev pub invariant-loop : goal.invariant-loop
-invariant-loop g l = (length l.servers.items ≡ l.counter) × AreLoopsOf l.fn.limits l.servers.items

@@ -1,0 +1,4 @@
+pub mod AloneLemmas
+pub mod ExpectedLemmas
+pub mod RunLemmas
+pub mod ScriptFailureLemmas

@@ -1,0 +1,7 @@
+pub mod Bounds
+pub mod Expected
+pub mod Journaled
+pub mod Run
+pub mod RunFailure
+pub mod RunOptions
+pub mod Terminal
