@@ -1,5 +1,5 @@
 /// What a server told a client.
-#[derive(Drop, PartialEq, Eq)]
+#[derive(Drop)]
 pub struct Told {
     /// The numbers of the statuses, in the order in which they came.
     pub statuses: Vec<u64>,
@@ -8,7 +8,7 @@ pub struct Told {
 }
 
 /// The status of a call, which its trailers tell.
-#[derive(Drop, PartialEq, Eq)]
+#[derive(Drop)]
 pub struct Ended {
     /// A status code of gRPC, which may be one that this program doesn't know.
     pub code: u32,

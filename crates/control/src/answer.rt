@@ -6,7 +6,7 @@ use health_wire::Serving;
 use script::{changed_text, checked_text};
 
 /// What a line of a session comes to.
-#[derive(Clone, Copy, PartialEq, Eq)]
+#[derive(Clone, Copy)]
 pub enum Answer {
     Changed(Result<Reply, Refusal>),
     /// What came of an expectation. It has the text of a change.

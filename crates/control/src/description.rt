@@ -2,7 +2,7 @@ use chronicle::TimeText;
 use desk_core::Standing;
 
 /// What a session is told of a service at once.
-#[derive(Clone, Copy, PartialEq, Eq)]
+#[derive(Clone, Copy)]
 pub struct Description {
     /// Why it has its status, since which entry, and which is its newest report.
     pub standing: Standing,

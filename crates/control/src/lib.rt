@@ -81,7 +81,6 @@ mod line;
 mod line_end;
 mod listener;
 mod meeting;
-pub mod one_thread;
 mod place;
 mod reading;
 mod reasons;

@@ -7,7 +7,7 @@ use desk_core::Order;
 use script::Line;
 
 /// What the sessions of a place may ask for.
-#[derive(Clone, Copy, PartialEq, Eq)]
+#[derive(Clone, Copy)]
 pub enum Rights {
     /// Whatever a session may.
     All,

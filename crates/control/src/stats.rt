@@ -1,7 +1,7 @@
 use std::fmt;
 
 /// What of a server is open now.
-#[derive(Clone, Copy, PartialEq, Eq)]
+#[derive(Clone, Copy)]
 pub struct OpenNow {
     /// Connections of calls.
     pub connections: u64,
@@ -12,7 +12,7 @@ pub struct OpenNow {
 }
 
 /// The calls that have ended.
-#[derive(Clone, Copy, PartialEq, Eq)]
+#[derive(Clone, Copy)]
 pub struct Ended {
     pub calls: u64,
     /// Those of them whose time was up.
@@ -24,7 +24,7 @@ pub struct Ended {
 }
 
 /// What a server counts of connections, calls and expiries.
-#[derive(Clone, Copy, PartialEq, Eq)]
+#[derive(Clone, Copy)]
 pub struct Counts {
     pub current: OpenNow,
     pub ended: Ended,
@@ -33,7 +33,7 @@ pub struct Counts {
 }
 
 /// What a server counts.
-#[derive(Clone, Copy, PartialEq, Eq)]
+#[derive(Clone, Copy)]
 pub struct Stats {
     /// The entries of the history.
     pub entries: u32,

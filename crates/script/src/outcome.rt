@@ -4,7 +4,7 @@ use health_wire::Serving;
 use std::fmt;
 
 /// What a line of a script comes to. Its text is what a run prints.
-#[derive(Clone, Copy, Debug, PartialEq, Eq)]
+#[derive(Clone, Copy)]
 pub enum Outcome {
     Changed(Result<Reply, Refusal>),
     Checked(Option<Serving>),

@@ -3,11 +3,11 @@
 ghost use Rattle.std.specs.Prelude.{◌≤◌};
 
 use crate::same::same;
-use control::one_thread::Manuals;
 use crew::CrewWhy;
+use probe_core::{Maker, Manual, Rule};
 use script::{Mode, read_script};
 use server::{Capacity, ServeFault, hall_of, serve};
-use std::alloc::Global;
+use std::alloc::{AllocError, Global};
 use std::net::{Net, TcpListener, TcpStream};
 use std::process::Abort;
 use std::sync::Wait;
@@ -18,6 +18,18 @@ const SCRIPT: &[u8] = b"catalogue a -
 max 10
 register a manual
 ";
+
+/// Makes services that are set by hand. There is no memory for one of another rule.
+struct Manuals;
+
+impl Maker<Manual> for Manuals {
+    fn make(&self, rule: Rule) -> Result<Manual, AllocError> {
+        match rule {
+            Rule::Manual => Ok(Manual::new()),
+            _ => Err(AllocError),
+        }
+    }
+}
 
 /// What is wrong with so many workers, who are to serve no call, over a hall of so many seats.
 fn fault_of<R>(rt: &R, alloc: Global, workers: u16, seats: u16) -> Option<ServeFault>
