@@ -6,5 +6,4 @@ mod controls;
 mod doors;
 mod exchanges;
 mod observers;
-mod parts;
 mod runs;

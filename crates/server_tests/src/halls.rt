@@ -3,7 +3,5 @@
 mod copies;
 mod crews;
 mod faults;
-mod keeping;
-mod names;
 mod sockets;
 mod watchdogs;

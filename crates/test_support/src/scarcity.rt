@@ -6,9 +6,6 @@ const LARGEST_BLOCK: usize = 1 << 40;
 /// The room of most tests, in bytes.
 const SMALL_ROOM: usize = 16_384;
 
-/// The bytes by which the room of a test grows from one refused growth to the next.
-const STEP: usize = 16;
-
 /// Room for the blocks, which get smaller by half each time that one is refused.
 const MAX_BLOCKS: usize = 20_000;
 
@@ -48,11 +45,6 @@ impl Scarcity {
     /// Takes all memory but a room of 16 KiB.
     pub fn with_small_room(alloc: Global) -> Result<Scarcity, AllocError> {
         Scarcity::new(alloc, SMALL_ROOM)
-    }
-
-    /// Takes the room but for so many steps of 16 bytes, for as long as the result is held.
-    pub fn leave_steps(&self, steps: usize) -> Result<Vec<u8>, AllocError> {
-        self.leave(steps.saturating_mul(STEP))
     }
 
     /// Takes the room but for its last `left` bytes, for as long as the result is held.

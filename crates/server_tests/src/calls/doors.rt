@@ -1,29 +1,12 @@
 //! A registry that forgets, and its door.
 
-use desk_core::{Behind, Catalogue, Desk, Entry, Keep, NotStored, Setting, Slot, Watch};
+use crate::keeping::KeepFour;
+use desk_core::{Behind, Catalogue, Desk, Setting, Slot, Watch};
 use health_wire::Serving;
 use plain::Inquiry;
 use probe_core::Manual;
 use std::alloc::{AllocError, Global};
 use web_call::Door;
-
-/// It keeps the last sixteen changes.
-#[derive(Drop)]
-pub(crate) struct KeepSixteen;
-
-impl Keep for KeepSixteen {
-    ghost use Rattle.std.specs.Prelude.{Some};
-
-    ghost kept = { Some 16 };
-
-    fn kept() -> Option<u32> {
-        Some(16)
-    }
-
-    fn store(&mut self, entries: &[Entry]) -> Result<(), NotStored> {
-        Ok(())
-    }
-}
 
 /// The names of its catalogue.
 pub(crate) static NAMES: [&str; 2] = ["a", ""];
@@ -32,7 +15,7 @@ pub(crate) static NAMES: [&str; 2] = ["a", ""];
 /// step, so often as a list says. It counts how often it was asked.
 #[derive(Drop)]
 pub(crate) struct Flipping<'a> {
-    desk: Desk<Manual, KeepSixteen>,
+    desk: Desk<Manual, KeepFour>,
     catalogue: &'a Catalogue,
     flips: &'a [u32],
     is_down: bool,
@@ -56,7 +39,7 @@ impl<'a> Flipping<'a> {
 }
 
 /// Sets the slot down and up in turn, so many times, and tells whether it is down then.
-fn flip(desk: &mut Desk<Manual, KeepSixteen>, slot: Slot, was_down: bool, times: u32) -> bool {
+fn flip(desk: &mut Desk<Manual, KeepFour>, slot: Slot, was_down: bool, times: u32) -> bool {
     let mut is_down = was_down;
     for _ in 0..times {
         is_down = !is_down;
@@ -79,7 +62,7 @@ impl Door for Flipping<'_> {
 
     ghost follows = { λ _ _. ⊤ };
 
-    ghost kept = { Some 16 };
+    ghost kept = { Some 4 };
 
     ghost is_plain = { false };
 

@@ -1,6 +1,6 @@
 use crate::calls::doors::{Flipping, NAMES};
-use crate::calls::parts::catalogue_of;
 use crate::calls::runs::{Asked, exchange_over};
+use crate::names::catalogue;
 use crate::same::{holds, same};
 use grpc_frame::Code;
 use std::alloc::Global;
@@ -175,7 +175,7 @@ fn expect(
     fault: Fault,
     calls: (usize, usize),
 ) {
-    let catalogue = catalogue_of(rt, alloc, &NAMES);
+    let catalogue = catalogue(rt, alloc, &NAMES);
     let mut door = Flipping::new(alloc, &catalogue, row.flips);
     let (read, write) = calls;
     let mut reader = FaultyReader::new(row.input, read, fault);

@@ -3,8 +3,8 @@
 ghost use Rattle.std.specs.Prelude.{◌<◌, length};
 ghost use Rattle.hall.specs.Seats.{IsOf};
 
-use crate::halls::keeping::KeepFour;
-use crate::halls::names::catalogue;
+use crate::keeping::KeepFour;
+use crate::names::catalogue;
 use crate::same::same;
 use crew::{CopyingDoor, HallDoor};
 use desk_core::{Behind, Setting, Transcript, Watch};
@@ -186,7 +186,7 @@ fn steps_without_memory<R: Wait>(
     watch: &mut Watch,
 ) -> Result<[Told; 3], AllocError> {
     let scarcity = Scarcity::with_small_room(alloc)?;
-    let filler = scarcity.leave_steps(0)?;
+    let filler = scarcity.leave(0)?;
     let told = [door.step(watch), door.step(watch), door.step(watch)];
     drop(filler);
     drop(scarcity);

@@ -1,4 +1,4 @@
-use crate::halls::names::catalogue;
+use crate::names::catalogue;
 use crate::same::holds;
 use hall::{Hall, HallFault, Seat};
 use probe_core::Manual;

@@ -7,7 +7,6 @@ use std::io::{Read, Write};
 use std::net::{Net, TcpListener, TcpStream};
 use std::process::Abort;
 use std::time::Duration;
-use test_support::Scarcity;
 
 const HOST: &str = "127.0.0.1";
 
@@ -57,16 +56,4 @@ fn gives_up_on_a_client_that_is_silent_and_takes_nothing(rt: HostRuntime) {
         is_taken = is_taken && writer.write(&bytes).is_ok();
     }
     holds(&rt, !is_taken, "not taken");
-}
-
-#[test]
-fn is_unopened_without_memory_for_its_buffer(rt: HostRuntime) {
-    let (listener, _client) = connected(&rt);
-    let accept = Accept::new(rt.alloc(), &listener);
-    let scarcity = Scarcity::with_small_room(rt.alloc()).expect(&rt, "memory");
-    let filler = scarcity.leave_steps(0).expect(&rt, "memory");
-    let opened = accept.open();
-    drop(filler);
-    drop(scarcity);
-    holds(&rt, opened.is_err(), "no memory");
 }

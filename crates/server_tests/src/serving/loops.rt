@@ -1,4 +1,4 @@
-//! Two loops over sockets of 127.0.0.1, and their clients.
+//! A loop over a socket of 127.0.0.1, and its clients.
 
 use live_server::{Acceptor, EventServer, News, Places, ServerLimits};
 use mio::net::TcpListener;
@@ -9,49 +9,21 @@ use std::process::Abort;
 use std::sync::Arc;
 use std::time::Clock;
 
-/// Two loops that share their places. Each has a socket of its own, so that neither can serve for the other.
-#[derive(Drop)]
-pub(crate) struct Loops {
-    pub(crate) servers: Vec<EventServer>,
-    /// What both are told.
-    pub(crate) news: News,
-    /// Where their sockets are.
-    pub(crate) addrs: [SocketAddr; 2],
-}
-
-impl Loops {
-    pub(crate) fn new<R: Net + Clock + Abort>(
-        rt: &R,
-        alloc: Global,
-        limits: ServerLimits,
-    ) -> Loops {
-        let shared = Arc::new(alloc, Places::new(limits)).expect(rt, "memory");
-        let (first, here) = loop_with(rt, alloc, &shared);
-        let (second, there) = loop_with(rt, alloc, &shared);
-        let wakers = [
-            first.waker().expect(rt, "a waker"),
-            second.waker().expect(rt, "a waker"),
-        ];
-        Loops {
-            servers: Vec::from_array(alloc, [first, second]).expect(rt, "memory"),
-            news: News::new(Vec::from_array(alloc, wakers).expect(rt, "memory")),
-            addrs: [here, there],
-        }
-    }
-}
-
-/// A loop over a socket, and where that is.
-fn loop_with<R: Net + Clock + Abort>(
+/// A loop, what it is told, and where its socket is.
+pub(crate) fn serving<R: Net + Clock + Abort>(
     rt: &R,
     alloc: Global,
-    places: &Arc<Places>,
-) -> (EventServer, SocketAddr) {
+    limits: ServerLimits,
+) -> (EventServer, News, SocketAddr) {
     let any = SocketAddr::from(([127, 0, 0, 1], 0));
     let listener = TcpListener::bind(rt, any).expect(rt, "a socket");
     let addr = listener.local_addr().expect(rt, "an address");
-    let places = places.clone().expect(rt, "memory");
-    let server = EventServer::new(rt, alloc, Acceptor::new(listener), places);
-    (server.expect(rt, "a loop"), addr)
+    let places = Arc::new(alloc, Places::new(limits)).expect(rt, "memory");
+    let made = EventServer::new(rt, alloc, Acceptor::new(listener), places);
+    let server = made.expect(rt, "a loop");
+    let wakers = [server.waker().expect(rt, "a waker")];
+    let news = News::new(Vec::from_array(alloc, wakers).expect(rt, "memory"));
+    (server, news, addr)
 }
 
 /// A client that has sent this.

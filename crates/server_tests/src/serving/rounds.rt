@@ -1,7 +1,7 @@
 //! What a round of a loop asks its door.
 
 use crate::same::same;
-use crate::serving::loops::{Loops, client};
+use crate::serving::loops::{client, serving};
 use crate::serving::recorder::asked_in_round;
 use crate::serving::stage::staged_of;
 use desk_core::Setting;
@@ -20,33 +20,28 @@ const LIMITS: ServerLimits = ServerLimits {
 fn a_round_tells_its_watches_little_and_behind_all_else(rt: HostRuntime) {
     let alloc = rt.alloc();
     let mut staged = staged_of(&rt, alloc);
-    let Loops {
-        mut servers,
-        news,
-        addrs,
-    } = Loops::new(&rt, alloc, LIMITS);
-    let server = servers.get_mut(0).expect(&rt, "a loop");
+    let (mut server, news, addr) = serving(&rt, alloc, LIMITS);
     let mut watches = Vec::new(alloc);
     for _ in 0..20 {
-        let watch = client(&rt, addrs[0], WATCH_OF_EMPTY);
+        let watch = client(&rt, addr, WATCH_OF_EMPTY);
         watches.push(watch).expect(&rt, "memory");
     }
-    let mut check = client(&rt, addrs[0], b"");
+    let mut check = client(&rt, addr, b"");
     for _ in 0..2 {
-        let _ = asked_in_round(&rt, server, &mut staged.door(), &news);
+        let _ = asked_in_round(&rt, &mut server, &mut staged.door(), &news);
     }
     for _ in 0..20 {
         staged.set(Setting::Down);
         staged.set(Setting::Up);
     }
     news.change();
-    let first = asked_in_round(&rt, server, &mut staged.door(), &news);
+    let first = asked_in_round(&rt, &mut server, &mut staged.door(), &news);
     check.write_all(CHECK_OF_EMPTY).expect(&rt, "a request");
-    let second = asked_in_round(&rt, server, &mut staged.door(), &news);
+    let second = asked_in_round(&rt, &mut server, &mut staged.door(), &news);
     for _ in 0..4 {
-        let _ = asked_in_round(&rt, server, &mut staged.door(), &news);
+        let _ = asked_in_round(&rt, &mut server, &mut staged.door(), &news);
     }
-    let last = asked_in_round(&rt, server, &mut staged.door(), &news);
+    let last = asked_in_round(&rt, &mut server, &mut staged.door(), &news);
     let expected = ((*b"rsss", 129), (*b"crss", 130), (*b"rsss", 145));
     same(&rt, &(first, second, last), &expected, &"the rounds");
 }

@@ -5,7 +5,7 @@ ghost use Rattle.std.specs.List.{All};
 ghost use Rattle.hall.specs.Seats.{IsOf};
 
 use crate::halls::crews::letters::notes;
-use crate::halls::names::catalogue;
+use crate::names::catalogue;
 use crew::{CallEnd, CrewFault, CrewWhy, Job, OpenTurnstile, Report, Turnstile, serve_all};
 use desk_core::{Name, Order, Setting};
 use hall::{Hall, Seat};

@@ -2,8 +2,8 @@
 
 ghost use Rattle.hall.specs.Seats.{IsOf};
 
-use crate::halls::names::catalogue;
 use crate::halls::watchdogs::reading::At;
+use crate::names::catalogue;
 use crate::same::same;
 use desk_core::{Finding, KeepMany};
 use hall::{Hall, Seat};

@@ -2,9 +2,10 @@
 
 ghost use Rattle.std.specs.Prelude.{◌≤◌, length};
 
+use crate::names::catalogue;
 use crate::same::holds;
 use chronicle::Who;
-use desk_core::{Call, Catalogue, Desk, Entry};
+use desk_core::{Call, Desk, Entry};
 use entry_record::Stored;
 use journal_store::{Preface, Witness};
 use probe_core::{Maker, Manual, Rule};
@@ -130,7 +131,6 @@ pub(crate) fn stored_as(rt: &impl Abort, alloc: Global, entries: &[Entry]) -> Ve
 
 /// A preface of the empty name alone.
 pub(crate) fn preface(rt: &impl Abort, alloc: Global) -> Preface {
-    let names = vec![in alloc; String::new(alloc)].expect(rt, "memory");
-    let catalogue = Catalogue::new(alloc, names).expect(rt, "a catalogue");
+    let catalogue = catalogue(rt, alloc, &[""]);
     Preface::new(alloc, &catalogue).expect(rt, "memory")
 }

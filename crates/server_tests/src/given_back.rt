@@ -26,8 +26,13 @@ fn expect_drops<R: Abort>(rt: &R, counters: &[Arc<AtomicU64>; 4], expected: [u64
     same(rt, &drops, &expected, &"the counters");
 }
 
-/// Two slots have a probe each. Replaces one of them, retires both slots, and registers a probe where the journal is full. What comes
-/// back is dropped at once.
+/// Registers a probe that counts its drop. What comes back is dropped at once.
+fn register<R: Abort>(rt: &R, desk: &mut Desk<Tracked>, slot: Slot, counter: &Arc<AtomicU64>) {
+    let probe = Tracked::new(counter.clone().expect(rt, "memory"));
+    drop(desk.register(0, slot, probe));
+}
+
+/// Two slots have a probe each. Replaces one of them, retires both slots, and registers a probe where the journal is full.
 fn expect_given_back<R: Abort>(
     rt: &R,
     desk: &mut Desk<Tracked>,
@@ -36,16 +41,16 @@ fn expect_given_back<R: Abort>(
     counters: &[Arc<AtomicU64>; 4],
 ) {
     let [a, b, c, other] = counters;
-    drop(desk.register(0, one, Tracked::new(a.clone().expect(rt, "memory"))));
-    drop(desk.register(0, two, Tracked::new(b.clone().expect(rt, "memory"))));
+    register(rt, desk, one, a);
+    register(rt, desk, two, b);
     expect_drops(rt, counters, [0, 0, 0, 0]);
-    drop(desk.register(0, one, Tracked::new(c.clone().expect(rt, "memory"))));
+    register(rt, desk, one, c);
     expect_drops(rt, counters, [1, 0, 0, 0]);
     drop(desk.retire(0, two));
     expect_drops(rt, counters, [1, 1, 0, 0]);
     drop(desk.retire(0, one));
     expect_drops(rt, counters, [1, 1, 1, 0]);
-    drop(desk.register(0, one, Tracked::new(other.clone().expect(rt, "memory"))));
+    register(rt, desk, one, other);
     expect_drops(rt, counters, [1, 1, 1, 1]);
 }
 

@@ -24,7 +24,7 @@ fn a_tail_at_its_limit_takes_no_memory(rt: HostRuntime) {
     put(&mut full, 40).expect(&rt, "memory");
     let mut empty: Tail<u64> = Tail::new(alloc, Some(16));
     let scarcity = Scarcity::with_small_room(alloc).expect(&rt, "memory");
-    let rest = scarcity.leave_steps(0).expect(&rt, "memory");
+    let rest = scarcity.leave(0).expect(&rt, "memory");
     let is_refused = empty.reserve(1).is_err();
     let goes_on = put(&mut full, 80).is_ok();
     drop(rest);

@@ -1,7 +1,10 @@
+//! Catalogues of tests.
+
 use desk_core::Catalogue;
 use std::alloc::Global;
 use std::process::Abort;
 
+/// A catalogue of these names.
 pub(crate) fn catalogue(rt: &impl Abort, alloc: Global, names: &[&str]) -> Catalogue {
     let mut listed = Vec::new(alloc);
     for name in names {
