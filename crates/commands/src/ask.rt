@@ -56,10 +56,23 @@ where
     let mut output = io::writer(rt);
     let told = ask_aloud(rt, alloc, addr, timeout_in(matches), &question, &mut output)?;
     let expected = expected_in(matches);
-    Ok(match method {
-        Method::Check => print_told(alloc, &mut output, method, expected, &told)?,
-        Method::Watch => print_end(alloc, &mut output, expected, &told)?,
-    })
+    Ok(print_rest(alloc, &mut output, method, expected, &told)?)
+}
+
+/// Prints what is not printed yet of what was told. It tells the exit status, where a status of this name may be expected.
+fn print_rest<O: Write>(
+    alloc: Global,
+    output: &mut O,
+    method: Method,
+    expected: Option<&str>,
+    told: &Told,
+) -> Result<u8, Fault>
+    ensures one_of_two { IfOk result (λ status. (status ≡ 0) ⊎ (status ≡ 3)) }
+{
+    match method {
+        Method::Check => print_told(alloc, output, method, expected, told),
+        Method::Watch => print_end(alloc, output, expected, told),
+    }
 }
 
 /// Asks the server that listens there, and prints each status of a Watch as it comes.

@@ -5,11 +5,12 @@ ghost use Rattle.commands.specs.AskFailure.{plain_of};
 use crate::fault::Fault;
 use client::AskFault;
 use control::Cause;
+use std::fmt;
 use std::net::SocketAddr;
 use thiserror::Error;
 
 /// What ends the command `ask` with status 1. Its text follows `healthd: ` on standard error.
-#[derive(Clone, Copy, Debug, PartialEq, Eq, Error)]
+#[derive(Clone, Copy, PartialEq, Eq, Error)]
 pub enum AskFailure {
     #[error("{0}")]
     Plain(Fault),
@@ -18,6 +19,12 @@ pub enum AskFailure {
     /// The time that the call may take is up: so many seconds.
     #[error("timed out after {0} s")]
     TimedOut(u64),
+}
+
+impl fmt::Debug for AskFailure {
+    fn fmt<W: fmt::Write>(&self, f: &mut fmt::Formatter<W>) -> fmt::Result {
+        fmt::Display::fmt(self, f)
+    }
 }
 
 impl AskFailure {

@@ -7,10 +7,11 @@ use crew::CrewWhy;
 use script::ScriptFault;
 use server::ServeFault;
 use std::alloc::{AllocError, AllocFailed};
+use std::fmt;
 use thiserror::Error;
 
 /// What ends a command with status 1. Its text follows `healthd: ` on standard error.
-#[derive(Clone, Copy, Debug, PartialEq, Eq, Error)]
+#[derive(Clone, Copy, PartialEq, Eq, Error)]
 pub enum Fault {
     #[error("bad hex")]
     BadHex,
@@ -42,6 +43,12 @@ pub enum Fault {
     Ask(AskFault),
     #[error("out of memory")]
     OutOfMemory,
+}
+
+impl fmt::Debug for Fault {
+    fn fmt<W: fmt::Write>(&self, f: &mut fmt::Formatter<W>) -> fmt::Result {
+        fmt::Display::fmt(self, f)
+    }
 }
 
 impl From<AllocError> for Fault {

@@ -45,11 +45,21 @@ where
         observe(rt, place, targets, terms, &mut printer)?;
         return Ok(UNREAD);
     }
-    let Observed { verdicts, telling } = observe_once(rt, place, targets, terms, &mut printer)?;
+    let observed = observe_once(rt, place, targets, terms, &mut printer)?;
+    print_observed(rt, targets, &observed)
+}
+
+/// Prints what each target was, in their order. It tells the exit status.
+fn print_observed<R: Print>(
+    rt: &R,
+    targets: &[Target],
+    observed: &Observed,
+) -> Result<u8, ObserveFault> {
+    let Observed { verdicts, telling } = observed;
     for (target, verdict) in targets.iter().zip(verdicts.iter()) {
         print_look(rt, target, *verdict)?;
     }
-    Ok(exit_status(&verdicts, telling.untold == 0))
+    Ok(exit_status(verdicts, telling.untold == 0))
 }
 
 /// What a look came to, in a line.

@@ -5,10 +5,11 @@ ghost use Rattle.commands.specs.declared.tell_failure.TellFailure.TheVariants.{O
 use crate::tell_failure::TellFailure;
 use control::Place;
 use std::alloc::{AllocError, AllocFailed};
+use std::fmt;
 use thiserror::Error;
 
 /// What ends the commands `status` and `history` with status 1. Its text follows `healthd: ` on standard error.
-#[derive(Debug, Drop, Error)]
+#[derive(Drop, Error)]
 pub enum ShowFailure<'a> {
     #[error("{0}")]
     Told(TellFailure<'a>),
@@ -24,6 +25,12 @@ pub enum ShowFailure<'a> {
     /// The answer is not UTF-8.
     #[error("{0} answered no text")]
     NoText(Place<'a>),
+}
+
+impl fmt::Debug for ShowFailure<'_> {
+    fn fmt<W: fmt::Write>(&self, f: &mut fmt::Formatter<W>) -> fmt::Result {
+        fmt::Display::fmt(self, f)
+    }
 }
 
 impl<'a> From<TellFailure<'a>> for ShowFailure<'a> {

@@ -1,12 +1,12 @@
 use control::Cause;
 use journal_lines::{PrintingFault, print_journal};
-use std::io;
 use std::io::BufWriter;
 use std::rt::Files;
+use std::{fmt, io};
 use thiserror::Error;
 
 /// What ends the command `journal` with status 1. Its text follows `healthd: ` on standard error.
-#[derive(Clone, Copy, Debug, Error)]
+#[derive(Clone, Copy, Error)]
 pub enum JournalFailure<'a> {
     #[error("journal {0}: not a file")]
     NotAFile(&'a str),
@@ -19,6 +19,12 @@ pub enum JournalFailure<'a> {
     Write(Cause),
     #[error("out of memory")]
     OutOfMemory,
+}
+
+impl fmt::Debug for JournalFailure<'_> {
+    fn fmt<W: fmt::Write>(&self, f: &mut fmt::Formatter<W>) -> fmt::Result {
+        fmt::Display::fmt(self, f)
+    }
 }
 
 impl<'a> JournalFailure<'a> {

@@ -74,25 +74,33 @@ where
     R: Input + Print + Clock + AllocGlobal + Net<Stream = TcpStream>,
     ensures one_of_two { IfOk result (λ status. (status ≡ 0) ⊎ (status ≡ 3)) }
 {
-    let alloc = rt.alloc();
     let client = connect_to(rt, place, timeout)?;
+    let Ok(mut input) = BufReader::new(rt.alloc(), rt.reader()) else {
+        return Err(TellFailure::OutOfMemory);
+    };
+    tell_input(rt, place, timeout, &client, &mut input)
+}
+
+/// Tells each line of an input over a connection. It tells the exit status.
+fn tell_input<'a, R, I: Read>(
+    rt: &R,
+    place: Place<'a>,
+    timeout: Duration,
+    client: &ControlClient,
+    input: &mut I,
+) -> Result<u8, TellFailure<'a>>
+where
+    R: Print + Clock + AllocGlobal,
+    ensures one_of_two { IfOk result (λ status. (status ≡ 0) ⊎ (status ≡ 3)) }
+{
+    let alloc = rt.alloc();
     let time = AnswerTime::new(timeout);
-    let Ok(mut reader) = BufReader::new(alloc, TimedControl::new(rt, &client, &time)) else {
+    let Ok(mut reader) = BufReader::new(alloc, TimedControl::new(rt, client, &time)) else {
         return Err(TellFailure::OutOfMemory);
     };
-    let Ok(mut input) = BufReader::new(alloc, rt.reader()) else {
-        return Err(TellFailure::OutOfMemory);
-    };
-    let mut writer = TimedControl::new(rt, &client, &time);
+    let mut writer = TimedControl::new(rt, client, &time);
     let mut output = io::writer(rt);
-    tell_lines(
-        alloc,
-        place,
-        &mut input,
-        &mut reader,
-        &mut writer,
-        &mut output,
-    )
+    tell_lines(alloc, place, input, &mut reader, &mut writer, &mut output)
 }
 
 fn connect_to<'a, R: Net<Stream = TcpStream>>(

@@ -3,11 +3,12 @@ ghost use Rattle.commands.specs.declared.tell_failure.TellFailure.TheVariants.{O
 
 use control::{AnswerFault, Cause, Place};
 use std::alloc::{AllocError, AllocFailed};
+use std::fmt;
 use std::io::ErrorKind;
 use thiserror::Error;
 
 /// What ends the command `tell` with status 1. Its text follows `healthd: ` on standard error.
-#[derive(Clone, Copy, Debug, Error)]
+#[derive(Clone, Copy, Error)]
 pub enum TellFailure<'a> {
     #[error("connect {0}: {1}")]
     Connect(Place<'a>, Cause),
@@ -34,6 +35,12 @@ pub enum TellFailure<'a> {
     Write(Cause),
     #[error("out of memory")]
     OutOfMemory,
+}
+
+impl fmt::Debug for TellFailure<'_> {
+    fn fmt<W: fmt::Write>(&self, f: &mut fmt::Formatter<W>) -> fmt::Result {
+        fmt::Display::fmt(self, f)
+    }
 }
 
 impl From<AllocError> for TellFailure<'_> {

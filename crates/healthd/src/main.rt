@@ -61,26 +61,26 @@ where
         + Net<Listener = TcpListener, Stream = TcpStream>,
     R::Dir: Send + Sync,
 {
-    let alloc = rt.alloc();
-    let words: Vec<String> = match env::args(rt) {
-        Ok(words) => words.collect(alloc)?,
+    let words = match words_of(rt) {
+        Ok(words) => words,
         Err(error) => return refuse_words(rt, &error),
     };
     let control = env::var(rt, command::CONTROL_VARIABLE).ok();
     let place = control.as_deref().filter(|place| !place.is_empty());
-    let matches = match command::command(alloc, place)?.try_get_matches_from(words.as_slice()) {
-        Ok(matches) => matches,
-        Err(error) => return refuse(rt, &error),
-    };
-    run_command(rt, Supervisor::from_env(rt, process_id), &matches)
+    let parsed = command::command(rt.alloc(), place)?.try_get_matches_from(words.as_slice());
+    match parsed {
+        Ok(matches) => run_command(rt, process_id, &matches),
+        Err(error) => refuse(rt, &error),
+    }
+}
+
+/// The words of this process.
+fn words_of<R: Env + AllocGlobal>(rt: &R) -> io::Result<Vec<String>> {
+    Ok(env::args(rt)?.collect(rt.alloc())?)
 }
 
 /// Runs the command that the words name. All probes of the program are made here.
-fn run_command<R>(
-    rt: &R,
-    supervisor: Supervisor,
-    matches: &ArgMatches<'_>,
-) -> Result<ExitCode, Fault>
+fn run_command<R>(rt: &R, process_id: u32, matches: &ArgMatches<'_>) -> Result<ExitCode, Fault>
 where
     R: Input
         + Print
@@ -109,14 +109,14 @@ where
         };
         Ok(probe)
     };
-    run_with(rt, make, supervisor, matches)
+    run_with(rt, make, process_id, matches)
 }
 
 /// The same, with the probes that the closure makes.
 fn run_with<R, P: Probe + Send, F: ProbeFn<Made = P> + Sync + Drop>(
     rt: &R,
     make: F,
-    supervisor: Supervisor,
+    process_id: u32,
     matches: &ArgMatches<'_>,
 ) -> Result<ExitCode, Fault>
 where
@@ -136,18 +136,24 @@ where
 {
     let maker = FnMaker::new(make);
     match matches.subcommand() {
-        Some(("body", matches)) => body::run(rt, matches)?,
-        Some(("replay", _)) => replay::run(rt, &maker)?,
-        Some(("serve", matches)) => serve::run(rt, &maker, matches)?,
-        Some(("run", matches)) => return run_to_end(rt, &maker, supervisor, matches),
-        Some(("ask", matches)) => return ask_server(rt, matches),
-        Some(("tell", matches)) => return tell_server(rt, matches),
-        Some(("status", matches)) => return show_status(rt, matches),
-        Some(("history", matches)) => return show_history(rt, matches),
-        Some(("journal", matches)) => return show_journal(rt, matches),
-        Some(("observe", matches)) => return observe_targets(rt, matches),
-        _ => return Ok(ExitCode::from(REFUSED)),
+        Some(("body", matches)) => done(body::run(rt, matches)),
+        Some(("replay", _)) => done(replay::run(rt, &maker)),
+        Some(("serve", matches)) => done(serve::run(rt, &maker, matches)),
+        Some(("run", matches)) => {
+            run_to_end(rt, &maker, Supervisor::from_env(rt, process_id), matches)
+        }
+        Some(("ask", matches)) => ask_server(rt, matches),
+        Some(("tell", matches)) => tell_server(rt, matches),
+        Some(("status", matches)) => show_status(rt, matches),
+        Some(("history", matches)) => show_history(rt, matches),
+        Some(("journal", matches)) => show_journal(rt, matches),
+        Some(("observe", matches)) => observe_targets(rt, matches),
+        _ => Ok(ExitCode::from(REFUSED)),
     }
+}
+
+fn done(ended: Result<(), Fault>) -> Result<ExitCode, Fault> {
+    ended?;
     Ok(ExitCode::SUCCESS)
 }
 

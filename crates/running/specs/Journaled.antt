@@ -22,6 +22,13 @@ pub record IsSetupOf (bytes : List ℕ) (entries : List Entry) : Type 0 where
   pub changes : All IsMade results
   pub entries_are : entries ≡ replied 0 (line_changes script.names script.lines) results
 
+-- the bytes are a script to run, which has these names and asks for at most so many entries
+pub record IsCatalogueOf (bytes : List ℕ) (names : List (List ℕ)) (most : ℕ) : Type 0 where
+  pub script : ScriptParts
+  pub is : IsScript Run bytes script
+  pub names_are : names ≡ script.names
+  pub most_is : most ≡ script.max
+
 -- The bytes are a script to run, and the hall has its names, so many seats, and the entries of a journal, which its first seat alone has
 -- made: it has seen these and no others. It may have the script's most entries, or as many as the journal has
 pub record IsJournaled (bytes : List ℕ) (seats : ℕ) (made : SetUpState) : Type 0 where

@@ -1,23 +1,26 @@
 //! A server that listens and has told where: what it is made of, and how.
 
-ghost use Rattle.std.specs.Prelude.{◌≡◌, ◌↔◌, ◌≤◌, [], List, Option, None, IfOk, IsSome, vec_len};
+ghost use Rattle.std.specs.Prelude.{◌≡◌, ◌↔◌, ◌≤◌, [], List, Option, None, IfOk, IfSome, IsSome, vec_len};
+ghost use Rattle.control_server.specs.Server.{terms_of};
 ghost use Rattle.desk_core.specs.declared.call.Call.{Call};
+ghost use Rattle.live_run.specs.Sitting.{terms_by};
 ghost use Rattle.live_run.specs.WholeRun.{HaveTerms};
 ghost use Rattle.running.specs.Run.{AreLoopsOf, IsWhollySetUp, limits_in};
 
 use crate::bounds::Bounds;
 use crate::expected::{entries_of, waking, watch_over};
 use crate::listening::listen_at_all;
-use crate::listening_lines::{lines_of, print_lines};
+use crate::listening_lines::{ListeningLines, lines_of, print_lines};
 use crate::loops::{Loops, loops_at, notifying};
 use crate::run_failure::RunFailure;
 use crate::run_options::RunOptions;
 use crate::supervisor::Supervisor;
 use crate::tallies::{counters_of, gauges_of};
+use control::Rights;
 use control_server::MAX_SESSIONS;
 use desk_core::Keep;
 use diary::{Held, Setup};
-use handover::Notifier;
+use handover::{HandedOver, Notifier};
 use live_run::{Counters, Gauges, SessionPlaces, WatchdogLoop};
 use live_server::{EventServer, News};
 use log_lines::Outlet;
@@ -113,12 +116,43 @@ where
         → setting.entry.options.report ≡ None → setting.entry.expected.now ≡ []
         → IfOk result (λ begun. begun.places.watchdog ≡ None) }
 {
-    let options = setting.options;
     let Supervisor {
-        mut sockets,
+        sockets,
         notifier,
         outlet,
     } = supervisor;
+    let (loops, address, lines) = listen(rt, alloc, made, &setting, sockets)?;
+    let outlet = outlet_for(setting.options, outlet);
+    let begun = watched(rt, alloc, made, setting, loops, address, outlet)?;
+    print_lines(rt, &lines)?;
+    let _ = notifier.ready();
+    Ok(begun.notifying(notifier))
+}
+
+/// Loops that listen at all places, the address that calls come to, and the lines that tell where the loops listen.
+fn listen<'a, R, P: Probe, K: Keep>(
+    rt: &R,
+    alloc: Global,
+    made: &SetUpHall<P, K>,
+    setting: &Setting<'a, '_>,
+    mut sockets: HandedOver,
+) -> Result<(Loops, SocketAddr, ListeningLines), RunFailure<'a>>
+where
+    R: Files + Clock + Net<Listener = TcpListener, Stream = TcpStream>,
+    requires set_up { (calls : List (Option Call)) × IsWhollySetUp calls made.now }
+    ensures each { IfOk result (λ begun. vec_len begun.0.servers ≡ setting.now.loops) }
+    ensures limits { IfOk result (λ begun. AreLoopsOf (limits_in setting.now.options.bounds)
+        begun.0.servers.items) }
+    ensures controlled { IfOk result (λ begun. IsSome begun.0.control ↔ IsSome
+        setting.now.options.control) }
+    ensures reported { IfOk result (λ begun. IsSome begun.0.report ↔ IsSome
+        setting.now.options.report) }
+    ensures all { IfOk result (λ begun. IfSome begun.0.control
+        (λ server. terms_of server ≡ terms_by Rights.All made.now.hall.most)) }
+    ensures reports { IfOk result (λ begun. IfSome begun.0.report
+        (λ server. terms_of server ≡ terms_by Rights.Reports made.now.hall.most)) }
+{
+    let options = setting.options;
     let listening = listen_at_all(rt, alloc, made, options, &mut sockets)?;
     let address = listening.address;
     let lines = lines_of(alloc, &listening)?;
@@ -131,11 +165,12 @@ where
         made.most(),
         &setting.expectations,
     )?;
-    let outlet = if options.is_quiet { None } else { outlet };
-    let begun = watched(rt, alloc, made, setting, loops, address, outlet)?;
-    print_lines(rt, &lines)?;
-    let _ = notifier.ready();
-    Ok(begun.notifying(notifier))
+    Ok((loops, address, lines))
+}
+
+/// Where a server of these options writes its log: nowhere, if it is quiet.
+fn outlet_for(options: RunOptions<'_>, outlet: Option<Outlet>) -> Option<Outlet> {
+    if options.is_quiet { None } else { outlet }
 }
 
 /// These loops, which serve at this address, beside a watchdog where one is needed. It tells a diary, which writes to the outlet.

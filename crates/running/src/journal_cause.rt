@@ -1,10 +1,11 @@
 use control::Cause;
 use durable::OpeningFault;
+use std::fmt;
 use std::io::ErrorKind;
 use thiserror::Error;
 
 /// Why a run can't go on from the history in a file.
-#[derive(Clone, Copy, Debug, Error)]
+#[derive(Clone, Copy, Error)]
 pub enum JournalCause {
     /// Another process has the file.
     #[error("in use")]
@@ -23,6 +24,12 @@ pub enum JournalCause {
     NotStored,
     #[error("{0}")]
     System(Cause),
+}
+
+impl fmt::Debug for JournalCause {
+    fn fmt<W: fmt::Write>(&self, f: &mut fmt::Formatter<W>) -> fmt::Result {
+        fmt::Display::fmt(self, f)
+    }
 }
 
 impl JournalCause {

@@ -49,12 +49,9 @@ where
     ensures reported { IfOk result (λ listening. IsSome listening.report ↔ IsSome
         options.entry.report) }
 {
-    let calls = listener_of(rt, made, options.listen, sockets)?;
-    let address = address_of(&calls, options.listen)?;
-    let plain = plain_of(rt, made, options.plain, sockets)?;
-    let plain_address = plain_address_of(&plain, options)?;
-    let control = sessions_at(rt, alloc, made, options.control, Access::Owner)?;
-    let report = sessions_at(rt, alloc, made, options.report, Access::Group)?;
+    let (calls, address) = calls_at(rt, made, options.listen, sockets)?;
+    let (plain, plain_address) = plain_at(rt, made, options, sockets)?;
+    let (control, report) = sessions_at_both(rt, alloc, made, options)?;
     Ok(Listening {
         calls,
         address,
@@ -63,6 +60,55 @@ where
         control,
         report,
     })
+}
+
+/// The socket that calls come to, for a hall that is set up, and where it listens.
+fn calls_at<'a, R, P: Probe, K: Keep>(
+    rt: &R,
+    made: &SetUpHall<P, K>,
+    addr: SocketAddr,
+    sockets: &mut HandedOver,
+) -> Result<(TcpListener, SocketAddr), RunFailure<'a>>
+where
+    R: Net<Listener = TcpListener, Stream = TcpStream>,
+    requires set_up { (calls : List (Option Call)) × IsWhollySetUp calls made.now }
+{
+    let listener = listener_of(rt, made, addr, sockets)?;
+    let address = address_of(&listener, addr)?;
+    Ok((listener, address))
+}
+
+/// The socket that plain requests come to, if there is one, for a hall that is set up, and where it listens.
+fn plain_at<'a, R, P: Probe, K: Keep>(
+    rt: &R,
+    made: &SetUpHall<P, K>,
+    options: RunOptions<'a>,
+    sockets: &mut HandedOver,
+) -> Result<(Option<TcpListener>, Option<SocketAddr>), RunFailure<'a>>
+where
+    R: Net<Listener = TcpListener, Stream = TcpStream>,
+    requires set_up { (calls : List (Option Call)) × IsWhollySetUp calls made.now }
+    ensures there { IfOk result (λ plain. IsSome options.entry.plain → IsSome plain.0) }
+{
+    let listener = plain_of(rt, made, options.plain, sockets)?;
+    let address = plain_address_of(&listener, options)?;
+    Ok((listener, address))
+}
+
+/// The sockets of the places for sessions that there are, for a hall that is set up: that of control, then that of reports.
+fn sessions_at_both<'a, R: Files + Net, P: Probe, K: Keep>(
+    rt: &R,
+    alloc: Global,
+    made: &SetUpHall<P, K>,
+    options: RunOptions<'a>,
+) -> Result<(Option<ControlListener>, Option<ControlListener>), RunFailure<'a>>
+    requires set_up { (calls : List (Option Call)) × IsWhollySetUp calls made.now }
+    ensures controlled { IfOk result (λ both. IsSome both.0 ↔ IsSome options.entry.control) }
+    ensures reported { IfOk result (λ both. IsSome both.1 ↔ IsSome options.entry.report) }
+{
+    let control = sessions_at(rt, alloc, made, options.control, Access::Owner)?;
+    let report = sessions_at(rt, alloc, made, options.report, Access::Group)?;
+    Ok((control, report))
 }
 
 /// The socket that calls come to, for a hall that is set up: the first that was handed over, or else one that listens at the address.

@@ -1,7 +1,10 @@
 ghost use Rattle.std.specs.Prelude.{◌≡◌, ◌↔◌, IfOk, IfSome, IsSome, vec_len};
+ghost use Rattle.std.specs.Arc.{arc_value};
 ghost use Rattle.control.specs.declared.terms.Terms.{Terms};
 ghost use Rattle.control_server.specs.Server.{terms_of};
 ghost use Rattle.live_run.specs.Sitting.{terms_by};
+ghost use Rattle.live_server.specs.Loop.{empty_table, held_by};
+ghost use Rattle.live_server.specs.Places.{limits_of};
 ghost use Rattle.running.specs.Run.{AreLoopsOf};
 
 use crate::listening::Listening;
@@ -11,6 +14,7 @@ use control::{ControlListener, Rights, Terms};
 use control_server::ControlServer;
 use handover::Notifier;
 use live_server::{Acceptor, EventServer, News, Places, ServerLimits};
+use mio::Waker;
 use std::alloc::Global;
 use std::io;
 use std::net::{Net, TcpListener, TcpStream};
@@ -57,7 +61,7 @@ where
         control,
         report,
     } = listening;
-    let (servers, news) = event_loops(rt, alloc, &calls, &plain, limits, loops)?;
+    let (servers, news) = loops_over(rt, alloc, calls, plain, limits, loops)?;
     let all = terms_with(Rights::All, most);
     let control = session_loop(rt, alloc, control, &servers, all, expectations)?;
     let reports = terms_with(Rights::Reports, most);
@@ -68,6 +72,23 @@ where
         control,
         report,
     })
+}
+
+/// The loops over calls, which need these sockets no longer: each has handles of its own.
+fn loops_over<'a, R>(
+    rt: &R,
+    alloc: Global,
+    calls: TcpListener,
+    plain: Option<TcpListener>,
+    limits: ServerLimits,
+    loops: u16,
+) -> Result<(Vec<EventServer>, News), RunFailure<'a>>
+where
+    R: Clock + Net<Listener = TcpListener, Stream = TcpStream>,
+    ensures each { IfOk result (λ made. vec_len made.0 ≡ loops) }
+    ensures limits { IfOk result (λ made. AreLoopsOf limits made.0.items) }
+{
+    event_loops(rt, alloc, &calls, &plain, limits, loops)
 }
 
 /// The terms of sessions with these rights, over a history of at most so many entries.
@@ -114,12 +135,29 @@ where
     let mut wakers = Vec::new(alloc);
     let places = Arc::new(alloc, Places::new(limits))?;
     for _ in 0..loops {
-        let acceptor = acceptor_of(listener, plain)?;
-        let server = EventServer::new(rt, alloc, acceptor, places.clone()?)?;
-        wakers.push(server.waker()?)?;
+        let (server, waker) = loop_with(rt, alloc, listener, plain, &places)?;
+        wakers.push(waker)?;
         servers.push(server)?;
     }
     Ok((servers, News::new(wakers)))
+}
+
+/// A loop that shares these places, and what wakes it.
+fn loop_with<R>(
+    rt: &R,
+    alloc: Global,
+    listener: &TcpListener,
+    plain: &Option<TcpListener>,
+    places: &Arc<Places>,
+) -> io::Result<(EventServer, Waker)>
+where
+    R: Clock + Net<Listener = TcpListener, Stream = TcpStream>,
+    ensures { IfOk result (λ made. held_by made.0 ≡ empty_table (limits_of (arc_value places.now))) }
+{
+    let acceptor = acceptor_of(listener, plain)?;
+    let server = EventServer::new(rt, alloc, acceptor, places.clone()?)?;
+    let waker = server.waker()?;
+    Ok((server, waker))
 }
 
 /// What accepts the connections that come to these sockets, with handles of its own.

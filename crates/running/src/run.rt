@@ -219,12 +219,31 @@ where
     requires enough { setting.loops < made.hall.seats }
     requires served { setting.loops ≤ setting.options.bounds.connections }
 {
+    let begun = begin(rt, alloc, &made, setting, supervisor)?;
+    serve_begun(rt, alloc, maker, made, begun)
+}
+
+/// Serves with what has begun until it is told to end.
+fn serve_begun<'a, R, P: Probe + Send, K: Keep + Send, M: Maker<P> + Sync>(
+    rt: &R,
+    alloc: Global,
+    maker: &M,
+    made: SetUpHall<P, K>,
+    begun: Begun,
+) -> Result<(), RunFailure<'a>>
+where
+    R: Print + Files + Clock + Wait + Threads + Sync,
+    requires set_up { (calls : List (Option Call)) × IsWhollySetUp calls made }
+    requires some { 1 ≤ vec_len begun.servers }
+    requires enough { vec_len begun.servers < made.hall.seats }
+    requires terms { HaveTerms made.hall.most begun.places }
+{
     let Begun {
         servers,
         news,
         places,
         counters,
-    } = begin(rt, alloc, &made, setting, supervisor)?;
+    } = begun;
     let ran = serve_to_end(rt, alloc, made, servers, places, maker, &counters, &news)?;
     tell_end(rt, alloc, ran, &news)
 }

@@ -11,12 +11,12 @@ use durable::OpeningFault;
 use live_run::RefusedLine;
 use script::{ScriptFault, changed_text, explain};
 use std::alloc::{AllocError, AllocFailed, Global};
-use std::io;
 use std::io::ErrorKind;
+use std::{fmt, io};
 use thiserror::Error;
 
 /// What ends the command `run` with status 1. Its text follows `healthd: ` on standard error.
-#[derive(Debug, Drop, Error)]
+#[derive(Drop, Error)]
 pub enum RunFailure<'a> {
     #[error("read {0}: {1}")]
     Read(Source<'a>, Cause),
@@ -46,6 +46,12 @@ pub enum RunFailure<'a> {
     Write(Cause),
     #[error("out of memory")]
     OutOfMemory,
+}
+
+impl fmt::Debug for RunFailure<'_> {
+    fn fmt<W: fmt::Write>(&self, f: &mut fmt::Formatter<W>) -> fmt::Result {
+        fmt::Display::fmt(self, f)
+    }
 }
 
 impl From<AllocError> for RunFailure<'_> {

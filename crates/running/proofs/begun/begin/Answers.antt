@@ -4,34 +4,30 @@ use Rattle.control.specs.declared.rights.Rights.TheVariants as rights
 use Rattle.control_server.specs.Server.{terms_of}
 use Rattle.live_run.specs.Sitting.{terms_by}
 use Rattle.running.specs.Run.{AreLoopsOf, limits_in}
-use Rattle.running.proofs.RunLemmas.{limits_are}
 use Rattle.running.proofs.begun.begin.Goals as goal
 
 pub returns-clause-limits : goal.returns-clause-limits
 returns-clause-limits g c =
     subst (λ servers. AreLoopsOf (limits_in c.args.setting.options.bounds) servers.items) (sym (c.notifying.ensures.servers ∙ c.in_ok-begun.ensures.servers))
-    (subst (λ limits. AreLoopsOf limits c.in_ok-loops.loops.servers.items) (limits_are c.limits.result c.args.setting.options.bounds c.limits.ensures.connections c.limits.ensures.watches)
-    c.in_ok-loops.ensures.limits)
+    c.in_ok-loops.ensures.limits
 
 pub returns-clause-controlled : goal.returns-clause-controlled
 returns-clause-controlled g c =
     let told = c.notifying.ensures.control in
     let is = c.in_ok-begun.ensures.control in
     let held = c.in_ok-loops.ensures.controlled in
-    let bound = c.in_ok-listening.ensures.controlled in
-    (λ some. bound.0 (held.0 (subst (λ server. IsSome server) is (told.0 some))), λ some. told.1 (subst (λ server. IsSome server) (sym is) (held.1 (bound.1 some))))
+    (λ some. held.0 (subst (λ server. IsSome server) is (told.0 some)), λ some. told.1 (subst (λ server. IsSome server) (sym is) (held.1 some)))
 
 pub returns-clause-reported : goal.returns-clause-reported
 returns-clause-reported g c =
     let is = c.notifying.ensures.report ∙ c.in_ok-begun.ensures.report in
     let held = c.in_ok-loops.ensures.reported in
-    let bound = c.in_ok-listening.ensures.reported in
-    (λ some. bound.0 (held.0 (subst (λ server. IsSome server) is some)), λ some. subst (λ server. IsSome server) (sym is) (held.1 (bound.1 some)))
+    (λ some. held.0 (subst (λ server. IsSome server) is some), λ some. subst (λ server. IsSome server) (sym is) (held.1 some))
 
 pub returns-clause-terms : goal.returns-clause-terms
 returns-clause-terms g c = c.notifying.ensures.terms c.args.made.now.hall.most (record {
   control = subst (λ server. IfSome server (λ one. terms_of one ≡ terms_by rights.All c.args.made.now.hall.most)) (sym c.in_ok-begun.ensures.control)
-      (subst (λ most. IfSome c.in_ok-loops.loops.control (λ one. terms_of one ≡ terms_by rights.All most)) c.most.ensures c.in_ok-loops.ensures.all);
+      c.in_ok-loops.ensures.all;
   report = subst (λ server. IfSome server (λ one. terms_of one ≡ terms_by rights.Reports c.args.made.now.hall.most)) (sym c.in_ok-begun.ensures.report)
-      (subst (λ most. IfSome c.in_ok-loops.loops.report (λ one. terms_of one ≡ terms_by rights.Reports most)) c.most.ensures c.in_ok-loops.ensures.reports);
+      c.in_ok-loops.ensures.reports;
 })
