@@ -2,10 +2,11 @@ ghost use Rattle.std.specs.Prelude.{◌≡◌};
 ghost use Rattle.client.specs.declared.ask_fault.AskFault.TheVariants.{NoMemory};
 
 use std::alloc::{AllocError, AllocFailed};
+use std::fmt;
 use thiserror::Error;
 
 /// Why a client was told nothing. Its text is one line, which a program may put its name before.
-#[derive(Clone, Copy, Debug, PartialEq, Eq, Error)]
+#[derive(Clone, Copy, PartialEq, Eq, Error)]
 pub enum AskFault {
     /// A read returned an error, or the input ended before the response told what was asked.
     #[error("read")]
@@ -22,6 +23,12 @@ pub enum AskFault {
     /// An allocation failed, for the request or for what is kept of the response.
     #[error("out of memory")]
     NoMemory,
+}
+
+impl fmt::Debug for AskFault {
+    fn fmt<W: fmt::Write>(&self, f: &mut fmt::Formatter<W>) -> fmt::Result {
+        fmt::Display::fmt(self, f)
+    }
 }
 
 impl From<AllocError> for AskFault {

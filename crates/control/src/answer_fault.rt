@@ -2,11 +2,11 @@ ghost use Rattle.std.specs.Prelude.{◌≡◌};
 ghost use Rattle.control.specs.declared.answer_fault.AnswerFault.TheVariants.{OutOfMemory};
 
 use std::alloc::{AllocError, AllocFailed};
-use std::io;
+use std::{fmt, io};
 use thiserror::Error;
 
 /// Why a line has no answer.
-#[derive(Clone, Copy, Debug, Error)]
+#[derive(Clone, Copy, Error)]
 pub enum AnswerFault {
     /// A write or a flush returned this error, or a write took no byte.
     #[error("write: {0}")]
@@ -22,6 +22,12 @@ pub enum AnswerFault {
     TooLong,
     #[error("out of memory")]
     OutOfMemory,
+}
+
+impl fmt::Debug for AnswerFault {
+    fn fmt<W: fmt::Write>(&self, f: &mut fmt::Formatter<W>) -> fmt::Result {
+        fmt::Display::fmt(self, f)
+    }
 }
 
 impl From<AllocError> for AnswerFault {

@@ -8,7 +8,7 @@ use std::net::SocketAddr;
 const MAX_PATH_LEN: usize = 107;
 
 /// Where a server is asked for changes.
-#[derive(Clone, Copy, Debug)]
+#[derive(Clone, Copy)]
 pub enum Place<'a> {
     /// A TCP socket. Port 0 has the system pick one.
     Address(SocketAddr),
@@ -27,6 +27,12 @@ impl fmt::Display for Place<'_> {
             Place::Address(addr) => write!(f, "{addr}"),
             Place::Path(path) => f.write_str(path),
         }
+    }
+}
+
+impl fmt::Debug for Place<'_> {
+    fn fmt<W: fmt::Write>(&self, f: &mut fmt::Formatter<W>) -> fmt::Result {
+        fmt::Display::fmt(self, f)
     }
 }
 

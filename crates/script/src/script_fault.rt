@@ -3,10 +3,11 @@ ghost use Rattle.script.specs.declared.script_fault.ScriptFault.TheVariants.{NoM
 
 use desk_core::CatalogueFault;
 use std::alloc::{AllocError, AllocFailed};
+use std::fmt;
 use thiserror::Error;
 
 /// Why bytes are no script. Its text is one line, which a program may put its name before.
-#[derive(Clone, Copy, Debug, PartialEq, Eq, Error)]
+#[derive(Clone, Copy, PartialEq, Eq, Error)]
 pub enum ScriptFault {
     #[error("script too long")]
     TooLong,
@@ -19,6 +20,12 @@ pub enum ScriptFault {
     Catalogue(CatalogueFault),
     #[error("out of memory")]
     NoMemory,
+}
+
+impl fmt::Debug for ScriptFault {
+    fn fmt<W: fmt::Write>(&self, f: &mut fmt::Formatter<W>) -> fmt::Result {
+        fmt::Display::fmt(self, f)
+    }
 }
 
 impl From<AllocError> for ScriptFault {
