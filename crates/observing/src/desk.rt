@@ -12,13 +12,24 @@ const REPORTS: usize = 4096;
 const NOTES: usize = 256;
 
 /// What the loop, the resolver and the teller hand to each other.
-#[derive(Drop)]
 pub(crate) struct Desk {
     pub(crate) lookups: Mailbox<Lookup>,
     pub(crate) found: Mailbox<Found>,
     pub(crate) reports: Mailbox<Report>,
     pub(crate) notes: Mailbox<Note>,
     waker: Waker,
+}
+
+impl Drop for Desk {
+    fn drop(self) {
+        let Desk {
+            lookups: _,
+            found: _,
+            reports: _,
+            notes: _,
+            waker: _,
+        } = self;
+    }
 }
 
 impl Desk {

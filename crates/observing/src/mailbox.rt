@@ -9,11 +9,20 @@ struct Held<T: Drop> {
 }
 
 /// Hands items from one thread to another, in order, as many at once as there is room for.
-#[derive(Drop)]
 pub(crate) struct Mailbox<T: Drop> {
     held: Mutex<Held<T>>,
     changed: Condvar,
     room: usize,
+}
+
+impl<T: Drop> Drop for Mailbox<T> {
+    fn drop(self) {
+        let Mailbox {
+            held: _,
+            changed: _,
+            room: _,
+        } = self;
+    }
 }
 
 impl<T: Drop> Mailbox<T> {

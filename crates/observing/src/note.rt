@@ -1,7 +1,7 @@
 use std::io::ErrorKind;
 
 /// What an operator is to know, besides what the looks came to.
-#[derive(Debug, Drop, PartialEq, Eq)]
+#[derive(Drop)]
 pub enum Note {
     /// The server refused the reports of the target at this place, with this answer.
     Refused(usize, String),

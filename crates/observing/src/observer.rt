@@ -151,12 +151,7 @@ fn teller_for<'a>(
     place: Place<'a>,
     targets: &'a [Target],
 ) -> Result<Teller<'a>, ObserveFault> {
-    let mut refusals = Vec::with_capacity(alloc, targets.len())?;
-    for _ in targets {
-        if refusals.push(None).is_err() {
-            return Err(ObserveFault::OutOfMemory);
-        }
-    }
+    let refusals = vec![in alloc; None; targets.len()]?;
     Ok(Teller::new(place, targets, refusals))
 }
 
@@ -169,14 +164,9 @@ fn tower_for<'a, R: Clock>(
     once: bool,
 ) -> Result<Tower<'a>, ObserveFault> {
     let watch = Stopwatch::new(rt)?;
-    let events = Events::with_capacity(alloc, EVENTS)?;
     let posts = posts_for(alloc, targets, terms, once)?;
-    let mut verdicts = Vec::with_capacity(alloc, targets.len())?;
-    for _ in targets {
-        if verdicts.push(None).is_err() {
-            return Err(ObserveFault::OutOfMemory);
-        }
-    }
+    let verdicts = vec![in alloc; None; targets.len()]?;
+    let events = Events::with_capacity(alloc, EVENTS)?;
     let ledger = Ledger::new(targets, verdicts);
     Ok(Tower::new(poll, events, watch, posts, ledger, once))
 }

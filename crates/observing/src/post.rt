@@ -20,7 +20,6 @@ use std::sync::Wait;
 /// The most addresses of a host that are tried.
 const MAX_ADDRESSES: usize = 32;
 
-#[derive(Drop)]
 pub(crate) struct Post<'a> {
     place: usize,
     target: &'a Target,
@@ -34,6 +33,22 @@ pub(crate) struct Post<'a> {
     /// Whether its host is being looked up, for this look or for an earlier one.
     is_asked: bool,
     ghost sent_fits: { sent ≤ vec_len request },
+}
+
+impl Drop for Post<'_> {
+    fn drop(self) {
+        let Post {
+            place: _,
+            target: _,
+            lookout: _,
+            request: _,
+            addresses: _,
+            stream: _,
+            dialled: _,
+            sent: _,
+            is_asked: _,
+        } = self;
+    }
 }
 
 impl<'a> Post<'a> {
@@ -59,26 +74,19 @@ impl<'a> Post<'a> {
         })
     }
 
-    /// What is looked at.
-    pub(crate) fn target(&self) -> &'a Target {
-        self.target
-    }
-
     /// The reading at which it has to have a turn.
     pub(crate) fn until(&self) -> u64 {
         self.lookout.until()
     }
 
     /// Begins a look if one is due.
-    pub(crate) fn begin(&mut self, alloc: Global, now: u64) -> bool
+    pub(crate) fn begin(&mut self, alloc: Global, now: u64)
         requires { now < 2 ^ 63 }
     {
-        if !self.lookout.begin(alloc, now) {
-            return false;
+        if self.lookout.begin(alloc, now) {
+            self.stream = None;
+            self.addresses.clear();
         }
-        self.stream = None;
-        self.addresses.clear();
-        true
     }
 
     /// Time has passed.
@@ -107,21 +115,21 @@ impl<'a> Post<'a> {
         now: u64,
         found: Found,
     ) -> Option<Verdict> {
-        let Found {
-            place: _,
-            number,
-            addresses,
-        } = found;
         self.is_asked = false;
-        if number == self.lookout.number() {
-            self.addresses = addresses;
-            let count = self.addresses.len();
-            let told = self.hear(now, Event::Resolved(count));
-            if told.is_some() {
-                return told;
-            }
+        let told = self.take(now, found);
+        if told.is_some() {
+            return told;
         }
         self.go_on(rt, alloc, registry, desk, now)
+    }
+
+    fn take(&mut self, now: u64, found: Found) -> Option<Verdict> {
+        if found.number != self.lookout.number() {
+            return None;
+        }
+        self.addresses = found.addresses;
+        let count = self.addresses.len();
+        self.hear(now, Event::Resolved(count))
     }
 
     fn hear(&mut self, now: u64, event: Event<'_>) -> Option<Verdict> {
@@ -187,18 +195,16 @@ impl<'a> Post<'a> {
     }
 
     fn ask<R: Wait>(&self, rt: &R, alloc: Global, desk: &Desk) -> bool {
-        match String::from_str(alloc, self.target.host()) {
-            Ok(host) => desk.lookups.put(
-                rt,
-                Lookup {
-                    place: self.place,
-                    number: self.lookout.number(),
-                    host,
-                    port: self.target.port(),
-                },
-            ),
-            Err(_) => false,
-        }
+        let Ok(host) = String::from_str(alloc, self.target.host()) else {
+            return false;
+        };
+        let lookup = Lookup {
+            place: self.place,
+            number: self.lookout.number(),
+            host,
+            port: self.target.port(),
+        };
+        desk.lookups.put(rt, lookup)
     }
 
     /// Begins a connection to the address of this place.

@@ -23,7 +23,6 @@ const PAUSE_SECONDS: u64 = 1;
 /// For how many milliseconds a connection is taken to be open over which an answer has come.
 const FRESH_MILLIS: u64 = 500;
 
-#[derive(Drop)]
 pub(crate) struct Teller<'a> {
     place: Place<'a>,
     targets: &'a [Target],
@@ -35,6 +34,20 @@ pub(crate) struct Teller<'a> {
     /// The refusal that was noted last for each target, while it stands.
     refusals: Vec<Option<String>>,
     telling: Telling,
+}
+
+impl Drop for Teller<'_> {
+    fn drop(self) {
+        let Teller {
+            place: _,
+            targets: _,
+            client: _,
+            pause: _,
+            fresh: _,
+            refusals: _,
+            telling: _,
+        } = self;
+    }
 }
 
 impl<'a> Teller<'a> {
@@ -186,19 +199,21 @@ impl<'a> Teller<'a> {
         } else {
             None
         };
-        let Some(noted) = self.refusals.get_mut(place) else {
-            return;
-        };
-        if *noted == refusal {
-            return;
-        }
-        if let Some(text) = &refusal {
-            if let Ok(text) = text.clone() {
-                desk.notes.put(rt, Note::Refused(place, text));
-                desk.wake();
+        if let Some(noted) = self.refusals.get_mut(place) {
+            if *noted != refusal {
+                note_refusal(rt, desk, place, &refusal);
             }
+            *noted = refusal;
         }
-        *noted = refusal;
+    }
+}
+
+fn note_refusal<R: Wait>(rt: &R, desk: &Desk, place: usize, refusal: &Option<String>) {
+    if let Some(text) = refusal {
+        if let Ok(text) = text.clone() {
+            desk.notes.put(rt, Note::Refused(place, text));
+            desk.wake();
+        }
     }
 }
 

@@ -18,7 +18,6 @@ const RETRY_MILLIS: u64 = 100;
 /// How many milliseconds a round waits at most.
 const MAX_MILLIS: u64 = 60_000;
 
-#[derive(Drop)]
 pub(crate) struct Tower<'a> {
     poll: Poll,
     events: Events,
@@ -26,6 +25,19 @@ pub(crate) struct Tower<'a> {
     posts: Vec<Post<'a>>,
     ledger: Ledger<'a>,
     once: bool,
+}
+
+impl Drop for Tower<'_> {
+    fn drop(self) {
+        let Tower {
+            poll: _,
+            events: _,
+            watch: _,
+            posts: _,
+            ledger: _,
+            once: _,
+        } = self;
+    }
 }
 
 impl<'a> Tower<'a> {
