@@ -7,6 +7,7 @@ pub mod Seats
 pub mod Ends
 pub mod Entering
 pub mod Taken
+pub mod GivenBack
 pub mod Gathered
 pub mod LookingLemmas
 pub mod CarryingOut

@@ -2,6 +2,7 @@ use Rattle.std.proofs.Common.{◌≡◌, length, map, ap, refl, sym, subst, arit
 use Rattle.std.specs.Prelude.{Option, IsSome, unwrap_or}
 use Rattle.std.proofs.lemmas.List.{length-map, length-reverse}
 use Rattle.desk_core.specs.Desk.{State}
+use Rattle.desk_core.specs.Legal.{IsLegal}
 use Rattle.desk_core.specs.Past.{past}
 use Rattle.hall.specs.Seats.{HallState, held_of}
 use Rattle.hall.specs.Steps.{AllBegin}
@@ -39,6 +40,11 @@ returns-clause-kept g c =
       c.into_parts-table.ensures.names,
       ap (λ (d : State). d.max_entries) done.1 ∙ (done.0.limit ∙ c.into_parts-table.ensures.most),
     )
+
+pub returns-clause-legal : goal.returns-clause-legal
+returns-clause-legal g c =
+    let done = closing g c in
+    subst (λ (d : State). IsLegal (past d.journal)) (sym done.1) done.0.legal
 
 pub returns-clause-seats : goal.returns-clause-seats
 returns-clause-seats g c =

@@ -1,13 +1,15 @@
-use Rattle.std.proofs.Common.{List, ◌∷◌, ap, sym, subst, arith, ◌∙◌}
+use Rattle.std.proofs.Common.{List, ◌∷◌, refl, ap, sym, subst, arith, ◌∙◌}
+use Rattle.std.specs.Prelude.{Some}
 use Rattle.desk_core.specs.declared.call.Call.TheVariants.{Observe}
 use Rattle.desk_core.specs.declared.call.Finding.TheVariants.{Fail}
 use Rattle.desk_core.specs.declared.entry.Entry.{Entry}
 use Rattle.desk_core.specs.Mutation.{entry_of}
 use Rattle.desk_core.specs.Silence.{is_to_fail}
-use Rattle.hall.specs.Seats.{SeatState}
+use Rattle.hall.specs.Seats.{SeatState, IsCarriedOut}
 use Rattle.hall.specs.Silence.{seen_before}
 use Rattle.hall.specs.Steps.{HasDesk, seen_in}
-use Rattle.hall.proofs.Taken.{may_commit, may_count, may_leave, newest, unchanged, before_newest, seat_taken, seat_kept, own_entry}
+use Rattle.hall.proofs.Taken.{may_commit, may_count, may_leave, newest, unchanged, before_newest, seat_taken, seat_kept, own_entry, carried_out, seat_of}
+use Rattle.hall.proofs.GivenBack.{seat_left, gone_on, own_kept}
 use Rattle.hall.proofs.hall.Hall.fail_unheard.Goals as goal
 
 pub finish-requires-clause-desk : goal.finish-requires-clause-desk
@@ -68,3 +70,41 @@ returns-clause-due g c =
     (ap seen_in c.leave-in-Err.ensures.rests ∙ (unchanged _ _ _ _ _ c.in-Err.ensures.answered).history)
     ∙ sym c.is_to_fail.ensures.value
     ∙ c.if-not-is_to_fail.false
+
+pub leave-requires-clause-desk : goal.leave-requires-clause-desk
+leave-requires-clause-desk g c = may_leave c.seat.inside.place.me c.enter-desk.new.place.me c.seat.inside.number c.seat.inside.made c.enter-desk.result c.enter-desk.result (record { seat = c.seat.invariant; limit = c.enter-desk.ensures.limit; has = c.enter-desk.ensures.desk; follows = c.enter-desk.ensures.follows }) (record { limit = refl; history = refl })
+
+pub invariant_of-seat : goal.invariant_of-seat
+invariant_of-seat g c = seat_left c.seat.inside.place.me c.enter-desk.new.place.me c.leave.new.place.me c.seat.inside.number c.seat.inside.made c.enter-desk.result c.enter-desk.result (record { seat = c.seat.invariant; limit = c.enter-desk.ensures.limit; has = c.enter-desk.ensures.desk; follows = c.enter-desk.ensures.follows }) (record { limit = refl; history = refl }) c.leave.ensures.rests
+
+pub returns-then-not-is_to_fail-clause-goes_on : goal.returns-then-not-is_to_fail-clause-goes_on
+returns-then-not-is_to_fail-clause-goes_on g c =
+    gone_on _ c.seat.inside.place.table_id _ c.seat.inside.place.me c.enter-desk.new.place.me c.leave.new.place.me c.seat.inside.number c.seat.inside.made c.enter-desk.result c.enter-desk.result c.seat.view_is (record { seat = c.seat.invariant; limit = c.enter-desk.ensures.limit; has = c.enter-desk.ensures.desk; follows = c.enter-desk.ensures.follows })
+    (c.leave.ensures.place ∙ c.enter-desk.ensures.place) (record { limit = refl; history = refl }) c.leave.ensures.rests
+
+pub returns-then-not-is_to_fail-clause-kept : goal.returns-then-not-is_to_fail-clause-kept
+returns-then-not-is_to_fail-clause-kept g c =
+    own_kept _ c.seat.inside.place.table_id c.leave.new.place.table_id c.seat.inside.place.me c.enter-desk.new.place.me c.leave.new.place.me c.seat.inside.number c.seat.inside.made c.enter-desk.result c.enter-desk.result c.seat.view_is (record { seat = c.seat.invariant; limit = c.enter-desk.ensures.limit; has = c.enter-desk.ensures.desk; follows = c.enter-desk.ensures.follows }) (record { limit = refl; history = refl }) c.leave.ensures.rests
+
+pub returns-then-not-is_to_fail-clause-none : goal.returns-then-not-is_to_fail-clause-none
+returns-then-not-is_to_fail-clause-none g c =
+    ap (λ number. is_to_fail g.K.Keep.kept number c.args.slot c.args.from (seen_in c.leave.new.place.me)) (sym (ap (λ (seat : SeatState). seat.number) c.seat.view_is))
+    ∙ ap (is_to_fail g.K.Keep.kept c.seat.inside.number c.args.slot c.args.from) (ap seen_in c.leave.ensures.rests)
+    ∙ sym c.is_to_fail.ensures.value
+    ∙ c.if-not-is_to_fail.true
+
+pub returns-in-Ok-clause-made : goal.returns-in-Ok-clause-made
+returns-in-Ok-clause-made g c =
+    subst (IsCarriedOut c.args.seat.now (seat_of c.finish.new.place.table_id c.finish.new.place.me c.seat.inside.number) (Some (Observe c.args.slot Fail)))
+    (sym (ap (λ effect. effect.result) c.effect.ensures))
+    (carried_out c.args.seat.now c.seat.inside.place.table_id c.finish.new.place.table_id c.seat.inside.place.me c.enter-desk.new.place.me c.finish.new.place.me c.seat.inside.number c.seat.inside.made
+    c.entry-entry.result.seat c.enter-desk.result c.change.new.self (Observe c.args.slot Fail) _ c.seat.view_is
+    (record { seat = c.seat.invariant; limit = c.enter-desk.ensures.limit; has = c.enter-desk.ensures.desk; follows = c.enter-desk.ensures.follows }) (c.finish.ensures.place ∙ c.enter-desk.ensures.place) c.in-Ok.ensures.answered c.finish.ensures.rests)
+
+pub returns-clause-made : goal.returns-clause-made
+returns-clause-made g c =
+    subst (IsCarriedOut c.args.seat.now (seat_of c.leave-in-Err.new.place.table_id c.leave-in-Err.new.place.me c.seat.inside.number) (Some (Observe c.args.slot Fail)))
+    (sym (ap (λ effect. effect.result) c.of_refusal.ensures))
+    (carried_out c.args.seat.now c.seat.inside.place.table_id c.leave-in-Err.new.place.table_id c.seat.inside.place.me c.enter-desk.new.place.me c.leave-in-Err.new.place.me c.seat.inside.number
+    c.seat.inside.made _ c.enter-desk.result c.change.new.self (Observe c.args.slot Fail) _ c.seat.view_is
+    (record { seat = c.seat.invariant; limit = c.enter-desk.ensures.limit; has = c.enter-desk.ensures.desk; follows = c.enter-desk.ensures.follows }) (c.leave-in-Err.ensures.place ∙ c.enter-desk.ensures.place) c.in-Err.ensures.answered c.leave-in-Err.ensures.rests)
