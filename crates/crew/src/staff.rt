@@ -2,7 +2,7 @@ ghost use Rattle.std.specs.Prelude.{◌≡◌, ◌≤◌, ◌+◌, [], ◌++◌,
 ghost use Rattle.std.specs.List.{All};
 ghost use Rattle.std.specs.Vec.Iter.{into_iter_items, into_iter_len};
 ghost use Rattle.hall.specs.Seats.{IsOf};
-ghost use Rattle.crew.specs.CommandRun.{HaveRun, IsReady};
+ghost use Rattle.crew.specs.CommandRun.{HaveRun, IsEquipped, IsReady};
 ghost use Rattle.crew.specs.Staff.{reports_of};
 ghost use Rattle.crew.specs.Worker.{HaveLooked};
 
@@ -28,6 +28,31 @@ pub struct Left<P: Probe> {
     pub ends: Vec<(u32, CallEnd)>,
 }
 
+impl<P: Probe> Left<P> {
+    ghost use Rattle.std.specs.Prelude.{◌≤◌, vec_capacity, IfOk};
+    ghost use Rattle.crew.specs.Staff.{IsEmptyFor};
+
+    /// Empty buffers, with room for so many seats, lists of results and reports.
+    fn with_room(
+        alloc: Global,
+        seats: usize,
+        lists: usize,
+        ends: usize,
+    ) -> Result<Left<P>, AllocError>
+        ensures room { IfOk result (IsEmptyFor seats lists) }
+        ensures ends { IfOk result (λ left. ends ≤ vec_capacity left.ends) }
+    {
+        let seats = Vec::with_capacity(alloc, seats)?;
+        let results = Vec::with_capacity(alloc, lists)?;
+        let ends = Vec::with_capacity(alloc, ends)?;
+        Ok(Left {
+            seats,
+            results,
+            ends,
+        })
+    }
+}
+
 /// The workers and the command runs of a crew, the seats that neither need, and the empty buffers that all will be given back in.
 #[derive(Drop)]
 pub struct Staff<P: Probe> {
@@ -35,6 +60,20 @@ pub struct Staff<P: Probe> {
     pub runs: Vec<CommandRun<P>>,
     pub spare: IntoIter<Seat<P>>,
     pub left: Left<P>,
+}
+
+/// Takes the memory for the results of each list of orders.
+fn equip(alloc: Global, lists: Vec<Vec<Order>>) -> Result<Vec<Commands>, AllocError>
+    ensures orders { IfOk result (λ equipped.
+        map (λ list. list.orders) equipped.items ≡ lists.items) }
+    ensures equipped { IfOk result (λ equipped. All IsEquipped equipped.items) }
+{
+    let mut equipped = Vec::with_capacity(alloc, lists.len())?;
+    for orders in lists {
+        let results = Vec::with_capacity(alloc, orders.len())?;
+        equipped.push(Commands { orders, results })?;
+    }
+    Ok(equipped)
 }
 
 /// Gives each list of orders a seat.
@@ -80,14 +119,13 @@ fn dismiss<P: Probe>(
     }
 }
 
-impl<P: Probe + Send> Staff<P> {
+impl<P: Probe> Staff<P> {
     ghost use Rattle.std.specs.Prelude.{◌≡◌, ◌+◌, ◌≤◌, map, length, vec_len, vec_capacity, IfOk, IfErr};
     ghost use Rattle.std.specs.List.{All};
     ghost use Rattle.std.specs.Vec.Iter.{into_iter_len};
-    ghost use Rattle.hall.specs.Seats.{IsOf};
-    ghost use Rattle.crew.specs.Serve.{CrewHasServed, lists_in};
+    ghost use Rattle.crew.specs.Serve.{lists_in};
     ghost use Rattle.crew.specs.CommandRun.{IsEquipped};
-    ghost use Rattle.crew.specs.Staff.{HasMemory, IsEmptyFor, IsStaffOf, IsVacant, orders_of, reports_of, seats_of};
+    ghost use Rattle.crew.specs.Staff.{IsEmptyFor, IsStaffOf, IsVacant, reports_of, seats_of};
 
     /// Takes all memory: for a staff that has nobody yet, and for the results of all orders.
     fn vacant(
@@ -103,20 +141,15 @@ impl<P: Probe + Send> Staff<P> {
         ensures equipped { IfOk result (λ taken. All IsEquipped taken.1.items) }
     {
         let count = orders.len();
-        let mut lists = Vec::with_capacity(alloc, count)?;
-        for orders in orders {
-            let results = Vec::with_capacity(alloc, orders.len())?;
-            lists.push(Commands { orders, results })?;
-        }
+        let lists = equip(alloc, orders)?;
+        let left = Left::with_room(alloc, seats, count, jobs)?;
+        let workers = Vec::with_capacity(alloc, workers as usize)?;
+        let runs = Vec::with_capacity(alloc, count)?;
         let staff = Staff {
-            workers: Vec::with_capacity(alloc, workers as usize)?,
-            runs: Vec::with_capacity(alloc, count)?,
+            workers,
+            runs,
             spare: Vec::new(alloc).into_iter(),
-            left: Left {
-                seats: Vec::with_capacity(alloc, seats)?,
-                results: Vec::with_capacity(alloc, count)?,
-                ends: Vec::with_capacity(alloc, jobs)?,
-            },
+            left,
         };
         Ok((staff, lists))
     }
@@ -153,31 +186,6 @@ impl<P: Probe + Send> Staff<P> {
         })
     }
 
-    /// Lets the workers serve calls beside the command runs, and gives everything back.
-    pub fn run<R: Wait + Threads + Sync, J: Job + Send, T: Turnstile>(
-        self,
-        rt: &R,
-        place: &Workplace<'_, P, J, T>,
-    ) -> Left<P>
-    where
-        J::Input: Send,
-        J::Output: Send,
-        requires seats { All (IsOf place.now.hall.now) (seats_of self) }
-        requires memory { HasMemory self }
-        ensures served { CrewHasServed place.now.hall.now.names (vec_len self.workers)
-            (orders_of self) (lists_in result.results) (seats_of self) result.seats.items }
-        ensures ours { All (IsOf place.now.hall.now) result.seats.items }
-    {
-        let (workers, runs) = run_beside(rt, place, self.workers, self.runs);
-        let done = Staff {
-            workers,
-            runs,
-            spare: self.spare,
-            left: self.left,
-        };
-        done.give_back()
-    }
-
     /// Puts all seats, results and reports into the buffers.
     fn give_back(self) -> Left<P>
         requires { IsEmptyFor
@@ -207,6 +215,39 @@ impl<P: Probe + Send> Staff<P> {
             results,
             ends,
         }
+    }
+}
+
+impl<P: Probe + Send> Staff<P> {
+    ghost use Rattle.std.specs.Prelude.{vec_len};
+    ghost use Rattle.std.specs.List.{All};
+    ghost use Rattle.hall.specs.Seats.{IsOf};
+    ghost use Rattle.crew.specs.Serve.{CrewHasServed, lists_in};
+    ghost use Rattle.crew.specs.Staff.{HasMemory, orders_of, seats_of};
+
+    /// Lets the workers serve calls beside the command runs, and gives everything back.
+    pub fn run<R: Wait + Threads + Sync, J: Job + Send, T: Turnstile>(
+        self,
+        rt: &R,
+        place: &Workplace<'_, P, J, T>,
+    ) -> Left<P>
+    where
+        J::Input: Send,
+        J::Output: Send,
+        requires seats { All (IsOf place.now.hall.now) (seats_of self) }
+        requires memory { HasMemory self }
+        ensures served { CrewHasServed place.now.hall.now.names (vec_len self.workers)
+            (orders_of self) (lists_in result.results) (seats_of self) result.seats.items }
+        ensures ours { All (IsOf place.now.hall.now) result.seats.items }
+    {
+        let (workers, runs) = run_beside(rt, place, self.workers, self.runs);
+        let done = Staff {
+            workers,
+            runs,
+            spare: self.spare,
+            left: self.left,
+        };
+        done.give_back()
     }
 }
 

@@ -9,8 +9,8 @@ pub run_beside-workers-requires-clause-runs : goal.run_beside-workers-requires-c
 run_beside-workers-requires-clause-runs g c κs within =
     runs_ready _ (map (λ worker. worker.seat) c.args.self.workers.items) c.args.self.runs.items _ c.requires.seats c.requires.memory.lists
 
-pub give_back-requires-after_bounds : goal.give_back-requires-after_bounds
-give_back-requires-after_bounds g c κs within = record {
+pub give_back-requires : goal.give_back-requires
+give_back-requires g c = record {
   no_seats = c.requires.memory.left.no_seats;
   seats = omega (arith, c.requires.memory.left.seats, c.run_beside-workers.ensures.workers, c.run_beside-workers.ensures.runs);
   no_results = c.requires.memory.left.no_results;
