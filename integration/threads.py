@@ -12,6 +12,7 @@ from servers import HERE, SERVING, Server, holds
 
 WATCH, REPORT, CONTROL, LOOPS = 1, 2, 3, (4, 5, 6)
 QUIET = "catalogue a -\nregister a manual\n"
+EXPECTING = "catalogue a -\nregister a threshold 2\nexpect a 3600\n"
 
 
 def begun(number, *options, script=QUIET, control=True):
@@ -45,7 +46,7 @@ library = f"{folder}/refuse_thread.so"
 subprocess.run(["cc", "-O2", "-shared", "-fPIC", "-o", library, f"{HERE}/refuse_thread.c"], check=True)
 report = ("--report", f"{folder}/report")
 ends("to watch over sessions", WATCH)
-ends("to watch over what its script expects", WATCH, script=QUIET + "expect a 3600\n", control=False)
+ends("to watch over what its script expects", WATCH, script=EXPECTING, control=False)
 ends("for the report place", REPORT, *report)
 ends("for the report place, which is the only one,", REPORT, *report, control=False)
 ends("for the control place", CONTROL)

@@ -1,8 +1,8 @@
 use Rattle.std.proofs.Common.{◌≡◌, ◌∙◌, ap}
 use Rattle.durable.specs.Journal.{JournalState}
-use Rattle.commands.proofs.RunLemmas.{setup_first}
-use Rattle.commands.proofs.journaled.journal_at.Goals as goal
-use Rattle.commands.proofs.journaled.journal_at.Goals.{then-is_empty+in_ok-entries+in_default, else-is_empty}
+use Rattle.running.proofs.RunLemmas.{setup_first}
+use Rattle.running.proofs.journaled.journal_at.Goals as goal
+use Rattle.running.proofs.journaled.journal_at.Goals.{then-is_empty+in_ok-entries+in_default, else-is_empty}
 
 pub begin-requires-clause-first : goal.begin-requires-clause-first
 begin-requires-clause-first g c = setup_first c.args.bytes.now c.in_ok-entries.entries.items c.in_ok-entries.ensures.entries

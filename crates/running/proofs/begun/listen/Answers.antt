@@ -3,9 +3,9 @@ use Rattle.std.specs.Prelude.{IfSome}
 use Rattle.control.specs.declared.rights.Rights.TheVariants as rights
 use Rattle.control_server.specs.Server.{terms_of}
 use Rattle.live_run.specs.Sitting.{terms_by}
-use Rattle.commands.specs.Run.{AreLoopsOf}
-use Rattle.commands.proofs.RunLemmas.{limits_are}
-use Rattle.commands.proofs.begun.listen.Goals as goal
+use Rattle.running.specs.Run.{AreLoopsOf}
+use Rattle.running.proofs.RunLemmas.{limits_are}
+use Rattle.running.proofs.begun.listen.Goals as goal
 
 pub returns-clause-limits : goal.returns-clause-limits
 returns-clause-limits g c =
