@@ -211,7 +211,6 @@ holds("some of them open between the orders", between > 0)
 
 # The same where the thread that makes the orders, which is the first, stands behind all others on its processor: a Watch that waits looks
 # as soon as it is woken. One that is woken before an order, and not behind it, is not told the last.
-ORDERS = "fail a\npass a\n" * 500 + "resume\n"
 processor, beside, wrong = {min(os.sched_getaffinity(0))}, 0, []
 for _ in range(20):
     last = Serving(f"catalogue a -\nmax 20000\nregister a threshold 1 1 unknown\npass a\ngo\n{ORDERS}", 1, 1)
