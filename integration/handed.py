@@ -39,7 +39,7 @@ def call_all():
 
 server = Server("--threads", "2", socket_of=listener, env=env)
 holds("the socket that was handed over is listened at", server.port == port, str(server.lines))
-holds("READY=1 arrives once it serves", supervisor.recv(100) == b"READY=1")
+holds("READY=1 arrives once the places are told", supervisor.recv(100) == b"READY=1")
 clients = [threading.Thread(target=call_all) for _ in range(CLIENTS)]
 for client in clients:
     client.start()

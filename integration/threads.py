@@ -3,12 +3,13 @@ can do without it serves by the threads that it has.
 
 The library refuse_thread.c, which is loaded before the program, refuses the thread of a number. A run makes these in this order: one to watch
 over silence, one for the report place and one for the control place, and then those of its loops."""
+import os
 import shutil
 import subprocess
 import sys
 import tempfile
 
-from servers import HERE, SERVING, Server, holds
+from servers import HERE, SERVING, Server, holds, timed
 
 WATCH, REPORT, CONTROL, LOOPS = 1, 2, 3, (4, 5, 6)
 QUIET = "catalogue a -\nregister a manual\n"
@@ -22,9 +23,13 @@ def begun(number, *options, script=QUIET, control=True):
 
 def ends(what, number, *options, **settings):
     server = begun(number, *options, **settings)
-    status, out = server.process.wait(20), server.process.stdout.read()
+    status, seconds = timed(server.process.wait, 20)
+    out = server.process.stdout.read()
     holds(f"a run without a thread {what} ends", (status, out, server.said()) == (1, "", "healthd: too few threads\n"),
           f"with status {status} it said {out!r} and {server.said()!r}")
+    holds("it waits for the thread for about five seconds", 4.5 < seconds < 12, f"{seconds:.1f}")
+    left = [path for path in (server.control, f"{folder}/report") if path and os.path.exists(path)]
+    holds("it leaves no socket behind", not left, f"{left}")
     shutil.rmtree(server.folder)
 
 
@@ -51,6 +56,11 @@ ends("for the report place", REPORT, *report)
 ends("for the report place, which is the only one,", REPORT, *report, control=False)
 ends("for the control place", CONTROL)
 ends("for the control place, beside a report place,", CONTROL, *report)
+ends("for the control place, whose history is in a file,", CONTROL, "--journal", f"{folder}/journal")
+Server("--journal", f"{folder}/journal", script=QUIET).stop()
+server = begun(REPORT, *report)
+_, seconds = timed(server.stop)
+holds("a run that waits for a thread stops when it is told to", seconds < 3, f"{seconds:.1f} s")
 serves("that has nothing to watch over, without a thread for it,", WATCH, control=False)
 serves("without a report place, and without a thread for it,", REPORT)
 serves("without a control place, and without a thread for it,", CONTROL, control=False)
