@@ -2,7 +2,7 @@ use std::error::Error;
 use std::fmt;
 
 /// Why a crew has no report.
-#[derive(Clone, Copy, Debug, PartialEq, Eq, Hash)]
+#[derive(Clone, Copy, Debug, PartialEq, Eq)]
 pub enum CrewWhy {
     /// There are no workers.
     NoWorkers = 1,

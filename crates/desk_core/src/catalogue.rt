@@ -16,7 +16,7 @@ const MAX_NAMES: usize = 16;
 const MAX_NAME_LEN: usize = 128;
 
 /// Why names make no catalogue, in the order in which it is tested.
-#[derive(Clone, Copy, Debug, PartialEq, Eq, Hash)]
+#[derive(Clone, Copy, Debug, PartialEq, Eq)]
 pub enum CatalogueFault {
     NoNames = 1,
     TooMany = 2,

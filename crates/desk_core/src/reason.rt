@@ -1,7 +1,7 @@
 use crate::slot::Slot;
 
 /// An entry that a reason names.
-#[derive(Clone, Copy, Debug, PartialEq, Eq)]
+#[derive(Clone, Copy)]
 pub struct Cause {
     /// Its place in the journal.
     pub place: u32,
@@ -10,7 +10,7 @@ pub struct Cause {
 }
 
 /// Why a service has the status that it has.
-#[derive(Clone, Copy, PartialEq, Eq)]
+#[derive(Clone, Copy)]
 pub enum Reason {
     /// It is serving.
     Serving,

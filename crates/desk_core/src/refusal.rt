@@ -2,7 +2,7 @@ use std::error::Error;
 use std::fmt;
 
 /// Why a change was not taken. It leaves no entry, and changes nothing.
-#[derive(Clone, Copy, Debug, PartialEq, Eq, Hash)]
+#[derive(Clone, Copy, Debug, PartialEq, Eq)]
 pub enum Refusal {
     /// A number of a threshold is outside 1 to 1,000, or a mask has the service's own slot or a later one.
     BadRule = 1,

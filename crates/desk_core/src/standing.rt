@@ -1,7 +1,7 @@
 use crate::reason::Reason;
 
 /// What is told of a service at once, at a point of the history.
-#[derive(Clone, Copy, PartialEq, Eq)]
+#[derive(Clone, Copy)]
 pub struct Standing {
     /// Why it has its status.
     pub reason: Reason,

@@ -6,7 +6,7 @@ use std::fmt;
 pub type NoMemory = AllocError;
 
 /// Why the body of a request is not the frame of one message. Faults are met from the left, and the first one counts.
-#[derive(Clone, Copy, Debug, PartialEq, Eq, Hash)]
+#[derive(Clone, Copy, Debug, PartialEq, Eq)]
 pub enum FrameFault {
     /// The frame of a message ends in its header or in its content.
     Truncated = 1,
@@ -55,7 +55,7 @@ impl fmt::Display for FrameFault {
 impl Error for FrameFault {}
 
 /// Why a stream gives no frame now. The stream stays as it was.
-#[derive(Clone, Copy, Debug, PartialEq, Eq, Hash)]
+#[derive(Clone, Copy, Debug, PartialEq, Eq)]
 pub enum SplitFault {
     /// An allocation failed. The frame stays in the rest, and a later call may take it.
     NoMemory = 1,
@@ -114,7 +114,7 @@ impl<T: Drop> From<AllocFailed<T>> for SplitFault {
 }
 
 /// Why the trailers of a response tell no status.
-#[derive(Clone, Copy, Debug, PartialEq, Eq, Hash)]
+#[derive(Clone, Copy, Debug, PartialEq, Eq)]
 pub enum TrailerFault {
     /// A line has no colon. It counts before the other faults.
     NoColon = 1,

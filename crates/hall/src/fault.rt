@@ -2,7 +2,7 @@ use std::error::Error;
 use std::fmt;
 
 /// Why there is no hall, in the order in which it is tested.
-#[derive(Clone, Copy, Debug, PartialEq, Eq, Hash)]
+#[derive(Clone, Copy, Debug, PartialEq, Eq)]
 pub enum HallFault {
     NoSeats = 1,
     /// More than 1,024 seats.

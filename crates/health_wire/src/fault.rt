@@ -9,7 +9,7 @@ use std::fmt;
 pub type NoMemory = AllocError;
 
 /// Why bytes hold no message. Faults are met from the left, and the first one counts.
-#[derive(Clone, Copy, Debug, PartialEq, Eq, Hash)]
+#[derive(Clone, Copy, Debug, PartialEq, Eq)]
 pub enum WireFault {
     /// The bytes end inside a varint, or before a value is whole.
     Truncated = 1,

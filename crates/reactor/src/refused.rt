@@ -2,7 +2,7 @@ use std::error::Error;
 use std::fmt;
 
 /// Why a connection was not taken in. It leaves the table as it was.
-#[derive(Clone, Copy, Debug, PartialEq, Eq, Hash)]
+#[derive(Clone, Copy, Debug, PartialEq, Eq)]
 pub enum Refused {
     /// As many connections are held as may be.
     Full = 1,
