@@ -9,7 +9,7 @@ import subprocess
 import sys
 import tempfile
 
-from servers import HERE, SERVING, Server, holds, timed
+from servers import HERE, LOGGED, SERVING, Server, holds, timed
 
 WATCH, REPORT, CONTROL, LOOPS = 1, 2, 3, (4, 5, 6)
 QUIET = "catalogue a -\nregister a manual\n"
@@ -27,6 +27,8 @@ def ends(what, number, *options, **settings):
     out = server.process.stdout.read()
     holds(f"a run without a thread {what} ends", (status, out, server.said()) == (1, "", "healthd: too few threads\n"),
           f"with status {status} it said {out!r} and {server.said()!r}")
+    logged = [LOGGED.sub("", line) for line in server.written() if LOGGED.match(line)]
+    holds("its log tells why it ended, and no place", logged == ["INFO  ended: too few threads\n"], f"{logged}")
     holds("it waits for the thread for about five seconds", 4.5 < seconds < 12, f"{seconds:.1f}")
     left = [path for path in (server.control, f"{folder}/report") if path and os.path.exists(path)]
     holds("it leaves no socket behind", not left, f"{left}")

@@ -3,6 +3,7 @@ ghost use Rattle.hall.specs.Seats.{IsOf};
 
 use crate::batch::{Batch, board_of};
 use crate::bounds::Bounds;
+use crate::ending::Ending;
 use crate::held::Held;
 use crate::moment::Moment;
 use crate::page::Page;
@@ -125,7 +126,7 @@ impl Diary {
         self.pen.write_now();
     }
 
-    /// Tells all that has come about, and that the server ended.
+    /// Tells all that has come about, and how the server ended. Of one that has not served it tells no place.
     pub fn end<R: Wait, C: Clock, P: Probe, K: Keep>(
         &mut self,
         rt: &R,
@@ -133,11 +134,15 @@ impl Diary {
         hall: &Hall<P, K>,
         seat: &mut Seat<P, K>,
         held: Held,
+        ending: Ending,
     )
         requires ours { IsOf hall.now seat.old }
         ensures looked { HasLooked seat.old seat.new }
         ensures ours { IsOf hall.now seat.new }
     {
+        if let Ending::LacksThreads = ending {
+            self.address = None;
+        }
         for _ in 0..LAST_TIMES {
             self.follow(rt, clock, hall, seat, held);
             if !self.has_more {
@@ -150,7 +155,7 @@ impl Diary {
             ..self.moment
         };
         self.pen.account(moment);
-        self.pen.write(moment, Event::Ended("stopped"));
+        self.pen.write(moment, Event::Ended(ending.why()));
         self.pen.write_now();
     }
 

@@ -35,6 +35,7 @@
 mod batch;
 mod bounds;
 mod diary;
+mod ending;
 mod held;
 mod moment;
 mod page;
@@ -44,4 +45,5 @@ mod story;
 mod words;
 
 pub use crate::diary::{Diary, Setup};
+pub use crate::ending::Ending;
 pub use crate::held::Held;

@@ -2,7 +2,7 @@
 
 use crate::gauges::Gauges;
 use desk_core::Keep;
-use diary::Diary;
+use diary::{Diary, Ending};
 use hall::{Hall, Seat};
 use live_server::News;
 use mio::{Events, Poll, Token, Waker};
@@ -90,7 +90,7 @@ impl WatchdogLoop {
         Waker::new(self.poll.registry(), WAKER)
     }
 
-    /// Has rounds until all is to end, and tells the diary that.
+    /// Has rounds until all is to end, and tells the diary why.
     pub(crate) fn run<R: Wait + Clock, P: Probe, K: Keep>(
         &mut self,
         rt: &R,
@@ -104,7 +104,7 @@ impl WatchdogLoop {
         ensures ours { IsOf hall.now seat.new }
     {
         self.rounds(rt, hall, seat, news);
-        self.tell_end(rt, hall, seat);
+        self.tell_end(rt, hall, seat, ending_of(news));
     }
 
     /// Has rounds until all is to end.
@@ -131,7 +131,8 @@ impl WatchdogLoop {
         }
     }
 
-    /// A round, and how long the next may be away. Loops are told where a status changed, and the diary what has come about.
+    /// A round, and how long the next may be away. Loops are told where a status changed, and the diary, once all threads have begun, what
+    /// has come about.
     fn round<R: Wait + Clock, P: Probe, K: Keep>(
         &mut self,
         rt: &R,
@@ -145,6 +146,9 @@ impl WatchdogLoop {
         ensures ours { IsOf hall.now seat.new }
     {
         let patience = self.watch(rt, hall, seat, news);
+        if news.awaits_threads() {
+            return patience.min(Duration::from_millis(TELLING_MILLIS));
+        }
         patience.min(self.tell(rt, hall, seat))
     }
 
@@ -193,13 +197,14 @@ impl WatchdogLoop {
         }
     }
 
-    /// Tells the diary, if there is one, that all ended.
+    /// Tells the diary, if there is one, how all ended.
     #[tactic(auto, using(crate::proofs::WatchLemmas::watched_by_look, crate::proofs::WatchLemmas::unwatched))]
     fn tell_end<R: Wait + Clock, P: Probe, K: Keep>(
         &mut self,
         rt: &R,
         hall: &Hall<P, K>,
         seat: &mut Seat<P, K>,
+        ending: Ending,
     )
         requires ours { IsOf hall.now seat.old }
         ensures watched { HasWatched K.kept (guards_in self.old) seat.old (guards_in self.new)
@@ -209,10 +214,19 @@ impl WatchdogLoop {
         match &mut self.telling {
             Some(telling) => {
                 let held = telling.gauges.held();
-                telling.diary.end(rt, rt, hall, seat, held);
+                telling.diary.end(rt, rt, hall, seat, held, ending);
             }
             None => {}
         }
+    }
+}
+
+/// How a run ended whose news these are.
+fn ending_of(news: &News) -> Ending {
+    if news.lacks_threads() {
+        Ending::LacksThreads
+    } else {
+        Ending::Stopped
     }
 }
 

@@ -78,7 +78,7 @@ impl News {
         self.ends.load(Ordering::SeqCst) != 0
     }
 
-    /// Tells that so many threads are to begin, without which the server can't do.
+    /// Tells how many threads have to begin before the server serves.
     pub fn await_threads(&self, count: u64) {
         self.awaited.store(count, Ordering::SeqCst);
     }

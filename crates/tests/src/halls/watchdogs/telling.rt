@@ -7,7 +7,7 @@ use crate::names::catalogue;
 use crate::same::holds;
 use chronicle::Who;
 use desk_core::{Finding, KeepMany, Refusal};
-use diary::{Diary, Held, Setup};
+use diary::{Diary, Ending, Held, Setup};
 use hall::{Hall, Seat};
 use log_lines::Outlet;
 use probe_core::{Start, Threshold};
@@ -35,10 +35,11 @@ enum Step {
     Refused(Refusal, u32),
     /// The diary is called at this reading.
     Follow(u64),
-    /// It is called once more, and the server ends.
-    End(u64),
+    /// It is called once more, and the server ends so.
+    End(u64, Ending),
 }
 
+use Ending::{LacksThreads, Stopped};
 use Step::{End, Fail as Fails, FailUnnoted, Follow, Many, OwnFail, Pass, Refused};
 
 /// A server that holds nothing.
@@ -82,10 +83,10 @@ impl<R: Wait> Scene<'_, R> {
                 self.diary
                     .follow(self.rt, &clock, self.hall, self.own, NOTHING);
             }
-            End(millis) => {
+            End(millis, ending) => {
                 let clock = At(millis);
                 self.diary
-                    .end(self.rt, &clock, self.hall, self.own, NOTHING);
+                    .end(self.rt, &clock, self.hall, self.own, NOTHING, ending);
             }
         }
     }
@@ -205,11 +206,16 @@ fn told<R: Wait + Files + Abort>(rt: &R, alloc: Global, steps: &[Step]) -> Strin
 static ROWS: &[(&str, &[Step], &str)] = &[
     (
         "the server ends right after it began",
-        &[End(1)],
+        &[End(1, Stopped)],
         "\
 INFO  serving on 127.0.0.1:8080, 3 services, 2 entries
 INFO  ended: stopped
 ",
+    ),
+    (
+        "the server lacks a thread, and has not served",
+        &[Pass("api"), End(1, LacksThreads)],
+        "INFO  ended: too few threads\n",
     ),
     (
         "it is left for the next time until it is known who asked",
@@ -250,7 +256,7 @@ WARN  api: serving -> not_serving, entry 7 (expiry: fail api)
     ),
     (
         "more entries than are told at a time, at the end",
-        &[Follow(1), Many("api", 1_500), End(2)],
+        &[Follow(1), Many("api", 1_500), End(2, Stopped)],
         "\
 WARN  2901 lines left out
 INFO  ended: stopped
