@@ -61,7 +61,7 @@ where
         control,
         report,
     } = listening;
-    let (servers, news) = loops_over(rt, alloc, calls, plain, limits, loops)?;
+    let (servers, news) = event_loops(rt, alloc, calls, plain, limits, loops)?;
     let all = terms_with(Rights::All, most);
     let control = session_loop(rt, alloc, control, &servers, all, expectations)?;
     let reports = terms_with(Rights::Reports, most);
@@ -74,8 +74,15 @@ where
     })
 }
 
-/// The loops over calls, which need these sockets no longer: each has handles of its own.
-fn loops_over<'a, R>(
+/// The terms of sessions with these rights, over a history of at most so many entries.
+fn terms_with(rights: Rights, most: u32) -> Terms
+    ensures { result ≡ terms_by rights most }
+{
+    Terms { rights, most }
+}
+
+/// So many loops over calls, which share places for these limits, and what tells them news. Each has handles of its own on these sockets.
+pub fn event_loops<'a, R>(
     rt: &R,
     alloc: Global,
     calls: TcpListener,
@@ -88,31 +95,7 @@ where
     ensures each { IfOk result (λ made. vec_len made.0 ≡ loops) }
     ensures limits { IfOk result (λ made. AreLoopsOf limits made.0.items) }
 {
-    event_loops(rt, alloc, &calls, &plain, limits, loops)
-}
-
-/// The terms of sessions with these rights, over a history of at most so many entries.
-fn terms_with(rights: Rights, most: u32) -> Terms
-    ensures { result ≡ terms_by rights most }
-{
-    Terms { rights, most }
-}
-
-/// So many loops, which share places for these limits, and what tells them news.
-pub fn event_loops<'a, R>(
-    rt: &R,
-    alloc: Global,
-    listener: &TcpListener,
-    plain: &Option<TcpListener>,
-    limits: ServerLimits,
-    loops: u16,
-) -> Result<(Vec<EventServer>, News), RunFailure<'a>>
-where
-    R: Clock + Net<Listener = TcpListener, Stream = TcpStream>,
-    ensures each { IfOk result (λ made. vec_len made.0 ≡ loops) }
-    ensures limits { IfOk result (λ made. AreLoopsOf limits made.0.items) }
-{
-    match loops_with(rt, alloc, listener, plain, limits, loops) {
+    match loops_with(rt, alloc, &calls, &plain, limits, loops) {
         Ok(made) => Ok(made),
         Err(error) => Err(failure_by(error, RunFailure::EventLoop)),
     }

@@ -256,12 +256,12 @@ fn tell_end<'a, R: Print + Files, P: Probe, K: Keep>(
     news: &News,
 ) -> Result<(), RunFailure<'a>> {
     remove_sockets(rt, &ran);
-    let line = journal_line(alloc, &ran)?;
-    // Whoever reads the line may have the journal's file.
-    drop(store_of(ran));
     if news.lacks_threads() {
         return Err(RunFailure::TooFewThreads);
     }
+    let line = journal_line(alloc, &ran)?;
+    // Whoever reads the line may have the journal's file.
+    drop(store_of(ran));
     print_line(rt, &line)
 }
 
