@@ -305,7 +305,7 @@ def commands(memory, folder):
         name, right = " ".join(word for word in words if not re.search("[/0-9]", word)), act(memory.refused(MOST))
         holds(f"{name} ends with the status {status}", right[2] == status, f"{right}")
         refusals = memory.in_turn(
-            name, act, right, lambda found: found[1:] == (OUT_OF_MEMORY, 1) and right[0].startswith(found[0]) or is_of_its_own(words[0], found))
+            name, act, right, lambda found: found[1:] == (OUT_OF_MEMORY, 1) and right[0].startswith(found[0]) or is_of_its_own(words[0], found, server.control))
         if words[0] == "replay" and status == 0:
             others = {out for out, _, status in refusals if status == 0}
             lines = right[0].count("\n")
@@ -333,12 +333,13 @@ def tells(memory, server):
         holds("no change is made later either", seen(session)[0] - begun == told.count("done\n"), f"{seen(session)[0] - begun} of {told}")
 
 
-def is_of_its_own(command, found):
+def is_of_its_own(command, found, place):
     """What two commands make of it: a replay goes on behind a change that has no memory, and a look that has none has failed; where
-    there is none to tell the server of a look, that is the status 1."""
+    there is none to tell the server of a look, that is the status 1, and said."""
     out, _, status = found
     return (command == "replay" and status == 0 and f"{REFUSED}\n" in out
-            or command == "observe" and (out, status) in (("b fail: no address\n", 3), ("b fail: out of memory\n", 3), ("b pass\n", 1)))
+            or command == "observe" and (out, status) in (("b fail: no address\n", 3), ("b fail: out of memory\n", 3))
+            or command == "observe" and found == ("b pass\n", f"healthd: looks not told to {place}: 1\n", 1))
 
 
 def stop(place):

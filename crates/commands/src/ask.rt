@@ -247,7 +247,21 @@ pub fn ask_within<R: Clock + Net<Stream = TcpStream>, L: Listener>(
         return Err(AskFailure::Plain(Fault::OutOfMemory));
     };
     let mut writer = TimedStream::new(rt, &stream, deadline);
-    match put(alloc, &mut reader, &mut writer, question, listener) {
+    put_in_time(alloc, &mut reader, &mut writer, question, listener, late)
+}
+
+/// Asks over a stream that is given up at its deadline, past which it is too late.
+fn put_in_time<R: Clock, L: Listener>(
+    alloc: Global,
+    reader: &mut BufReader<TimedStream<'_, R>>,
+    writer: &mut TimedStream<'_, R>,
+    question: &Question<'_>,
+    listener: &mut L,
+    late: AskFailure,
+) -> Result<Told, AskFailure>
+    requires wants { L.has_enough listener.old ≡ false }
+{
+    match put(alloc, reader, writer, question, listener) {
         Ok(told) => Ok(told),
         Err(_) if reader.get_ref().is_late() || writer.is_late() => Err(late),
         Err(fault) => Err(AskFailure::Plain(Fault::Ask(fault))),

@@ -115,15 +115,26 @@ where
     };
     let writer = TimedControl::new(rt, &client, &time);
     let mut asked = AskingPlace::new(alloc, place, reader, writer);
+    show_from(rt, &mut asked, output, options, next)
+}
+
+/// The same, by a session that is there.
+fn show_from<'a, C: Clock, R: Read + Drop, W: Write + Drop, O: Write>(
+    clock: &C,
+    asked: &mut AskingPlace<'a, R, W>,
+    output: &mut O,
+    options: HistoryOptions,
+    next: &mut Option<u32>,
+) -> Result<(), ShowFailure<'a>> {
     let mut first = match *next {
         Some(first) => first,
-        None => show_kept(&mut asked, output, options)?,
+        None => show_kept(asked, output, options)?,
     };
     *next = Some(first);
     if !options.follows {
         return Ok(());
     }
-    let followed = follow(rt, &mut asked, output, options.is_json, &mut first);
+    let followed = follow(clock, asked, output, options.is_json, &mut first);
     *next = Some(first);
     followed
 }
@@ -222,8 +233,8 @@ fn show_entry<'a, R: Read + Drop, W: Write + Drop, O: Write>(
     if answer.as_str() == "forgotten" {
         return Ok(());
     }
-    let Some(json) = entry_json(alloc, &answer)? else {
-        return Err(asked.unexpected(answer));
-    };
-    print_line(output, if is_json { json } else { answer })
+    match entry_json(alloc, &answer)? {
+        Some(json) => print_line(output, if is_json { json } else { answer }),
+        None => Err(asked.unexpected(answer)),
+    }
 }

@@ -40,12 +40,17 @@ where
         place,
         is_verbose: is_verbose && !is_once,
         is_unread: false,
+        has_noted: false,
     };
     if !is_once {
         observe(rt, place, targets, terms, &mut printer)?;
         return Ok(UNREAD);
     }
     let observed = observe_once(rt, place, targets, terms, &mut printer)?;
+    let untold = observed.telling.untold;
+    if untold > 0 && !printer.has_noted {
+        let _ = eprintln!(rt; "healthd: looks not told to {place}: {untold}");
+    }
     print_observed(rt, targets, &observed)
 }
 
@@ -76,6 +81,8 @@ struct Printer<'a, R> {
     is_verbose: bool,
     /// Whether standard output takes no more.
     is_unread: bool,
+    /// Whether standard error was told why something was not.
+    has_noted: bool,
 }
 
 impl<R: Print + Eprint> Sink for Printer<'_, R> {
@@ -87,6 +94,7 @@ impl<R: Print + Eprint> Sink for Printer<'_, R> {
 
     fn noted(&mut self, targets: &[Target], note: &Note) {
         let (rt, place) = (self.rt, self.place);
+        self.has_noted = true;
         let _ = match note {
             Note::Refused(number, answer) => match targets.get(*number) {
                 Some(target) => {

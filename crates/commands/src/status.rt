@@ -90,12 +90,21 @@ fn text_of(alloc: Global, rows: &[Row], form: Form) -> Result<String, AllocError
 fn ask_rows<'a, R: Read + Drop, W: Write + Drop>(
     asked: &mut AskingPlace<'a, R, W>,
 ) -> Result<Vec<Row>, ShowFailure<'a>> {
-    let alloc = asked.alloc();
     let list = asked.ask("list")?;
-    let names = names_in(alloc, &list)?;
-    if names.is_empty() {
+    let rows = rows_of(asked, &list)?;
+    if rows.is_empty() {
         return Err(asked.unexpected(list));
     }
+    Ok(rows)
+}
+
+/// How each service of this list stands.
+fn rows_of<'a, R: Read + Drop, W: Write + Drop>(
+    asked: &mut AskingPlace<'a, R, W>,
+    list: &str,
+) -> Result<Vec<Row>, ShowFailure<'a>> {
+    let alloc = asked.alloc();
+    let names = names_in(alloc, list)?;
     let mut rows = Vec::new(alloc);
     for name in &names {
         rows.push(ask_row(asked, name)?)?;
