@@ -336,10 +336,11 @@ def tells(memory, server):
 def is_of_its_own(command, found, place):
     """What two commands make of it: a replay goes on behind a change that has no memory, and a look that has none has failed; where
     there is none to tell the server of a look, that is the status 1, and said."""
-    out, _, status = found
+    out, said, status = found
     return (command == "replay" and status == 0 and f"{REFUSED}\n" in out
             or command == "observe" and (out, status) in (("b fail: no address\n", 3), ("b fail: out of memory\n", 3))
-            or command == "observe" and found == ("b pass\n", f"healthd: looks not told to {place}: 1\n", 1))
+            or command == "observe" and (out, status) == ("b pass\n", 1)
+            and said in (f"healthd: looks not told to {place}: 1\n", f"healthd: {place}: out of memory\n"))
 
 
 def stop(place):
