@@ -21,17 +21,35 @@ def begun(number, *options, script=QUIET, control=True):
     return Server("--threads", "4", *options, script=script, control=control, env={"LD_PRELOAD": library, "THREAD": str(number)})
 
 
+def log_of(server):
+    return [LOGGED.sub("", line) for line in server.written() if LOGGED.match(line)]
+
+
 def ends(what, number, *options, **settings):
     server = begun(number, *options, **settings)
     status, seconds = timed(server.process.wait, 20)
     out = server.process.stdout.read()
     holds(f"a run without a thread {what} ends", (status, out, server.said()) == (1, "", "healthd: too few threads\n"),
           f"with status {status} it said {out!r} and {server.said()!r}")
-    logged = [LOGGED.sub("", line) for line in server.written() if LOGGED.match(line)]
+    logged = log_of(server)
     holds("its log tells why it ended, and no place", logged == ["INFO  ended: too few threads\n"], f"{logged}")
     holds("it waits for the thread for about five seconds", 4.5 < seconds < 12, f"{seconds:.1f}")
     left = [path for path in (server.control, f"{folder}/report") if path and os.path.exists(path)]
     holds("it leaves no socket behind", not left, f"{left}")
+    shutil.rmtree(server.folder)
+
+
+def stops_while_it_waits(what, number, *options):
+    server = begun(number, *options)
+    told = server.tell("stop")
+    status, seconds = timed(server.process.wait, 20)
+    out = server.process.stdout.read()
+    holds(f"a run that waits for a thread {what} stops when it is told to",
+          (told, status, out, server.said()) == (("stopping", 0), 0, "journal 1\n", "") and seconds < 3,
+          f"it answered {told}, and ended after {seconds:.1f} s with status {status}, {out!r} and {server.said()!r}")
+    logged = log_of(server)
+    holds(f"the log of a run that waits for a thread {what} tells that it was stopped, and no place",
+          logged == ["INFO  ended: stopped\n"], f"{logged}")
     shutil.rmtree(server.folder)
 
 
@@ -60,9 +78,9 @@ ends("for the control place", CONTROL)
 ends("for the control place, beside a report place,", CONTROL, *report)
 ends("for the control place, whose history is in a file,", CONTROL, "--journal", f"{folder}/journal")
 Server("--journal", f"{folder}/journal", script=QUIET).stop()
-server = begun(REPORT, *report)
-_, seconds = timed(server.stop)
-holds("a run that waits for a thread stops when it is told to", seconds < 3, f"{seconds:.1f} s")
+stops_while_it_waits("to watch over sessions", WATCH)
+stops_while_it_waits("to watch over sessions at two places", WATCH, *report)
+stops_while_it_waits("for the report place", REPORT, *report)
 serves("that has nothing to watch over, without a thread for it,", WATCH, control=False)
 serves("without a report place, and without a thread for it,", REPORT)
 serves("without a control place, and without a thread for it,", CONTROL, control=False)

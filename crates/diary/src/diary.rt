@@ -140,7 +140,7 @@ impl Diary {
         ensures looked { HasLooked seat.old seat.new }
         ensures ours { IsOf hall.now seat.new }
     {
-        if let Ending::LacksThreads = ending {
+        if !ending.has_served() {
             self.address = None;
         }
         for _ in 0..LAST_TIMES {

@@ -225,6 +225,8 @@ impl WatchdogLoop {
 fn ending_of(news: &News) -> Ending {
     if news.lacks_threads() {
         Ending::LacksThreads
+    } else if news.awaits_threads() {
+        Ending::StoppedEarly
     } else {
         Ending::Stopped
     }

@@ -83,9 +83,12 @@ impl News {
         self.awaited.store(count, Ordering::SeqCst);
     }
 
-    /// Tells that one of the threads has begun that are awaited.
+    /// Tells that one of the threads has begun that are awaited. It does not count once all is to end, since what was for a thread that
+    /// could not be made is done behind the rest.
     pub fn begin_thread(&self) {
-        self.awaited.fetch_sub(1, Ordering::SeqCst);
+        if !self.has_ended() {
+            self.awaited.fetch_sub(1, Ordering::SeqCst);
+        }
     }
 
     /// Whether some of the threads that are awaited have not begun.

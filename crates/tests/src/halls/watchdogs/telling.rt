@@ -39,7 +39,7 @@ enum Step {
     End(u64, Ending),
 }
 
-use Ending::{LacksThreads, Stopped};
+use Ending::{LacksThreads, Stopped, StoppedEarly};
 use Step::{End, Fail as Fails, FailUnnoted, Follow, Many, OwnFail, Pass, Refused};
 
 /// A server that holds nothing.
@@ -216,6 +216,11 @@ INFO  ended: stopped
         "the server lacks a thread, and has not served",
         &[Pass("api"), End(1, LacksThreads)],
         "INFO  ended: too few threads\n",
+    ),
+    (
+        "the server is told to stop before it serves",
+        &[Pass("api"), End(1, StoppedEarly)],
+        "INFO  ended: stopped\n",
     ),
     (
         "it is left for the next time until it is known who asked",
