@@ -6,7 +6,7 @@ ghost use Rattle.control.specs.Place.{IsLocal};
 use crate::place::Place;
 use std::io;
 use std::io::{ErrorKind, Read, Write};
-use std::net::{Net, Shutdown, TcpStream};
+use std::net::{Net, TcpStream};
 use std::os::unix::net::UnixStream;
 use std::time::Duration;
 
@@ -63,14 +63,6 @@ impl ControlClient {
         match self {
             ControlClient::Tcp(stream) => stream.set_write_timeout(time),
             ControlClient::Unix(stream) => stream.set_write_timeout(time),
-        }
-    }
-
-    /// Ends its reads, its writes, or both.
-    pub fn shutdown(&self, how: Shutdown) -> io::Result<()> {
-        match self {
-            ControlClient::Tcp(stream) => stream.shutdown(how),
-            ControlClient::Unix(stream) => stream.shutdown(how),
         }
     }
 

@@ -77,41 +77,19 @@ impl ControlListener {
             ControlListener::Unix(place) => place.remove(rt),
         }
     }
-}
 
-impl Source for ControlListener {
-    fn register(
+    /// Has a poll report under this token that a connection may wait.
+    pub fn register(
         &mut self,
         registry: &Registry,
         token: Token,
-        interests: Interest,
+        interest: Interest,
     ) -> io::Result<()> {
         match self {
-            ControlListener::Tcp(listener) => listener.register(registry, token, interests),
+            ControlListener::Tcp(listener) => listener.register(registry, token, interest),
             ControlListener::Unix(place) => {
-                place.listener_mut().register(registry, token, interests)
+                place.listener_mut().register(registry, token, interest)
             }
-        }
-    }
-
-    fn reregister(
-        &mut self,
-        registry: &Registry,
-        token: Token,
-        interests: Interest,
-    ) -> io::Result<()> {
-        match self {
-            ControlListener::Tcp(listener) => listener.reregister(registry, token, interests),
-            ControlListener::Unix(place) => {
-                place.listener_mut().reregister(registry, token, interests)
-            }
-        }
-    }
-
-    fn deregister(&mut self, registry: &Registry) -> io::Result<()> {
-        match self {
-            ControlListener::Tcp(listener) => listener.deregister(registry),
-            ControlListener::Unix(place) => place.listener_mut().deregister(registry),
         }
     }
 }

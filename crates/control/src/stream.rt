@@ -1,4 +1,5 @@
 ghost use Rattle.std.specs.Io.{ReadsAtMost, WritesAtMost};
+ghost use Rattle.std.specs.Prelude.{◌≡◌};
 
 use mio::event::Source;
 use mio::net::{TcpStream, UnixStream};
@@ -28,6 +29,36 @@ impl ControlStream {
         match self {
             ControlStream::Tcp(stream) => stream.set_nodelay(nodelay),
             ControlStream::Unix(_) => Ok(()),
+        }
+    }
+
+    /// Has a poll report it under this token, now and each time that it becomes ready.
+    pub fn register(
+        &mut self,
+        registry: &Registry,
+        token: Token,
+        interest: Interest,
+    ) -> io::Result<()>
+        ensures { self.new ≡ self.old }
+    {
+        match self {
+            ControlStream::Tcp(stream) => stream.register(registry, token, interest),
+            ControlStream::Unix(stream) => stream.register(registry, token, interest),
+        }
+    }
+
+    /// The same where the poll reports it already.
+    pub fn reregister(
+        &mut self,
+        registry: &Registry,
+        token: Token,
+        interest: Interest,
+    ) -> io::Result<()>
+        ensures { self.new ≡ self.old }
+    {
+        match self {
+            ControlStream::Tcp(stream) => stream.reregister(registry, token, interest),
+            ControlStream::Unix(stream) => stream.reregister(registry, token, interest),
         }
     }
 
@@ -63,42 +94,5 @@ impl Write for &ControlStream {
 
     fn flush(&mut self) -> io::Result<()> {
         Ok(())
-    }
-}
-
-impl Source for ControlStream {
-    ghost use Rattle.std.specs.Prelude.{◌≡◌};
-
-    ghost keeps = { λ a b. b ≡ a };
-
-    fn register(
-        &mut self,
-        registry: &Registry,
-        token: Token,
-        interests: Interest,
-    ) -> io::Result<()> {
-        match self {
-            ControlStream::Tcp(stream) => stream.register(registry, token, interests),
-            ControlStream::Unix(stream) => stream.register(registry, token, interests),
-        }
-    }
-
-    fn reregister(
-        &mut self,
-        registry: &Registry,
-        token: Token,
-        interests: Interest,
-    ) -> io::Result<()> {
-        match self {
-            ControlStream::Tcp(stream) => stream.reregister(registry, token, interests),
-            ControlStream::Unix(stream) => stream.reregister(registry, token, interests),
-        }
-    }
-
-    fn deregister(&mut self, registry: &Registry) -> io::Result<()> {
-        match self {
-            ControlStream::Tcp(stream) => stream.deregister(registry),
-            ControlStream::Unix(stream) => stream.deregister(registry),
-        }
     }
 }

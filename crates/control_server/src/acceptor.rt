@@ -2,7 +2,6 @@
 
 use control::{ControlListener, ControlStream, UnixPlace};
 use live_server::Accept;
-use mio::event::Source;
 use mio::{Interest, Poll, Token};
 use std::io;
 use std::io::ErrorKind;

@@ -104,7 +104,7 @@ impl Socket for ControlStream {
         token: Token,
         interest: Interest,
     ) -> io::Result<()> {
-        registry.register(self, token, interest)
+        ControlStream::register(self, registry, token, interest)
     }
 
     fn reregister(
@@ -113,7 +113,7 @@ impl Socket for ControlStream {
         token: Token,
         interest: Interest,
     ) -> io::Result<()> {
-        registry.reregister(self, token, interest)
+        ControlStream::reregister(self, registry, token, interest)
     }
 
     fn shut(&mut self) -> io::Result<()> {
