@@ -410,16 +410,17 @@ holds("nobody listens at its plain place any more", found == "", found)
 
 # Both places take turns: beside more clients that wait at the one than may be connected, one gets in that waits at the other.
 server = Server("--threads", "1", "--connections", "2", "--watches", "1", "--plain", "127.0.0.1:0", script=SCRIPT)
+asks = {server.port: call("Check", request_for("web1")), server.plain: asking("/status/web1").encode()}
 
 
-def gets_in(place, full, request):
+def gets_in(place, full):
     """What one is answered who comes to the place last, while nobody is accepted."""
     freeze(server.process)
     waiting = [connect(full) for _ in range(4)]
     for client in waiting:
         client.sendall(b"GET ")
     with connect(place, 5) as late:
-        late.sendall(request)
+        late.sendall(asks[place])
         server.process.send_signal(signal.SIGCONT)
         try:
             found = rest_of(late)
@@ -427,12 +428,16 @@ def gets_in(place, full, request):
             found = b"nothing"
     for client in waiting:
         client.close()
+    # Connections are handed over in their order: once one is answered that came behind them, none of those is left that was not accepted.
+    with connect(full, 5) as behind:
+        behind.sendall(asks[full])
+        rest_of(behind)
     until("those that waited have left", lambda: server.stats()["connections"], 0)
     return found
 
 
-found = [(gets_in(server.port, server.plain, call("Check", request_for("web1"))).endswith(OK),
-          parted(gets_in(server.plain, server.port, asking("/status/web1").encode())) == status("web1", "serving")) for _ in range(4)]
+found = [(gets_in(server.port, server.plain).endswith(OK),
+          parted(gets_in(server.plain, server.port)) == status("web1", "serving")) for _ in range(4)]
 holds("a Check gets in beside many that wait at the plain place", all(check for check, _ in found), str(found))
 holds("a GET gets in beside many that wait at the service's own port", all(get for _, get in found), str(found))
 holds("it ends", server.stop() == 0)
