@@ -1,9 +1,9 @@
 -- A response that is read in pieces.
-use Rattle.std.proofs.Common.{ℕ, ◌≡◌, ◌+◌, ◌<◌, ◌≤◌, Bool, true, false, List, [], ◌∷◌, ◌++◌, Option, length, refl, sym, ap, ◌∙◌, subst, inl, inr, arith, length-append}
+use Rattle.std.proofs.Common.{ℕ, ◌≡◌, ◌≢◌, ◌+◌, ◌<◌, ◌≤◌, Bool, true, false, ◌||◌, List, [], ◌∷◌, ◌++◌, Option, length, take, refl, sym, ap, ◌∙◌, subst, inl, inr, arith, length-append}
 use Rattle.std.proofs.KnownBytes.{Consumes-nil, Consumes-kept}
-use Rattle.std.proofs.lemmas.List.{append-nil}
+use Rattle.std.proofs.lemmas.List.{append-nil, length-take-le}
 use Rattle.std.proofs.lemmas.Bool.Decides.{nat_tests}
-use Rattle.std.specs.Prelude.{IfOk, IfErr, IsSome, Result, Ok, Err}
+use Rattle.std.specs.Prelude.{IfOk, IfErr, IsErrAnd, IsSome, Result, Ok, Err}
 use Rattle.std.specs.Io.KnownBytes.{Consumes, Keeps}
 use Rattle.client.specs.declared.ask_fault.AskFault.{AskFault}
 use Rattle.client.specs.declared.ask_fault.AskFault.TheVariants.{Read, Write, BadResponse, Http, NoMemory}
@@ -106,10 +106,49 @@ end_told Check most bytes told end is (ByEnd more watch reply unfinished none) =
 end_told Watch most bytes told end is says = cc
 
 -- so what a call tells is an answer to it
+pub answer_of_told : (told : Answered) (method : Method) (most : ℕ) (bytes : List ℕ) → IsTold method most bytes told.statuses.items told.end → 1 ≤ most
+    → IsAnswerTo method most told
+answer_of_told told method most bytes says some = record {
+  check = λ is. end_told method most bytes told.statuses.items told.end is says;
+  watch = λ is. let few = few_told method most bytes told.statuses.items told.end is some says in omega (arith, told.statuses.ok.0, few);
+}
+
 pub is_answer : (result : Result Answered AskFault) (method : Method) (most : ℕ) (remaining after : Option (List ℕ)) → IsReadFor result method most remaining after
     → 1 ≤ most → IfOk result (IsAnswerTo method most)
-is_answer (Ok told) method most remaining after read some = record {
-  check = λ is. end_told method most read.0 told.statuses.items told.end is read.2.0;
-  watch = λ is. let few = few_told method most read.0 told.statuses.items told.end is some read.2.0 in omega (arith, told.statuses.ok.0, few);
-}
+is_answer (Ok told) method most remaining after read some = answer_of_told told method most read.0 read.2.0 some
 is_answer (Err fault) method most remaining after read some = tt
+
+-- a reader has failed where it stopped
+pub stopped_fails : (old new stopped : Bool) → new ≡ (old || stopped) → stopped ≡ true → new ≡ true
+stopped_fails true new stopped is stops = is
+stopped_fails false new stopped is stops = is ∙ stops
+
+-- and has not where it did not
+pub going_keeps : (old new stopped : Bool) → new ≡ (old || stopped) → stopped ≡ false → new ≡ old
+going_keeps true new stopped is goes = is
+going_keeps false new stopped is goes = is ∙ goes
+
+-- a read of no byte consumed none
+pub none_read : (old new : Option (List ℕ)) (buf : List ℕ) (count : ℕ) → count ≡ 0 → Consumes old new (take count buf) → Consumes old new []
+none_read old new buf count none read = subst (λ (n : ℕ). Consumes old new (take n buf)) none read
+
+-- what was read is some bytes, and no more than were wanted
+pub some_read : (buf : List ℕ) (count : ℕ) → count ≤ length buf → count ≢ 0 → 0 < length (take count buf)
+some_read buf count within some = subst (λ (n : ℕ). 0 < n) (sym (length-take-le count buf within)) (omega (arith, some))
+
+pub few_read : (buf : List ℕ) (count room wanted : ℕ) → count ≤ length buf → length buf ≡ room → room ≤ wanted → length (take count buf) ≤ wanted
+few_read buf count room wanted within same fits = omega (arith, within, same, fits, length-take-le count buf within)
+
+-- a fault has its cause whatever is answered else
+pub cause_of : (S T : Type 0) (fault : AskFault) (first failed failed_after : Bool) → failed ≡ first
+    → (let result : Result S AskFault = Err fault in HasReadCause result failed failed_after) → let result : Result T AskFault = Err fault in HasReadCause result first failed_after
+cause_of S T Read first failed failed_after same cause = cause
+cause_of S T Write first failed failed_after same cause = cause ∙ same
+cause_of S T BadResponse first failed failed_after same cause = cause ∙ same
+cause_of S T (Http status) first failed failed_after same cause = cause ∙ same
+cause_of S T NoMemory first failed failed_after same cause = cause ∙ same
+
+-- an answer that has this fault is it
+pub is_no_memory : {T : Type 0} (result : Result T AskFault) → IsErrAnd result (λ fault. fault ≡ NoMemory) → result ≡ Err NoMemory
+is_no_memory (Ok value) never = absurd never
+is_no_memory (Err fault) is = ap Err is

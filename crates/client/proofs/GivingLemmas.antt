@@ -6,8 +6,8 @@ use Rattle.std.proofs.lemmas.List.Elements.{All-nil}
 use Rattle.std.proofs.lemmas.Bool.Decides.{nat_tests}
 use Rattle.std.proofs.Math.Seq.{take-length}
 use Rattle.std.proofs.lemmas.Bool.{leb-true}
-use Rattle.std.proofs.Common.{get_or, nat_le, ◌||◌}
-use Rattle.std.specs.Prelude.{Ok}
+use Rattle.std.proofs.Common.{get_or, min, nat_le, ◌||◌}
+use Rattle.std.specs.Prelude.{Ok, if◌then◌else◌}
 use Rattle.grpc_frame.specs.Split.{max_content_len}
 use Rattle.web_call.specs.InputHead.{IsHead, IsOpenHead, ends_blank, max_head_len}
 use Rattle.web_call.specs.declared.method.Method.{Method}
@@ -206,3 +206,12 @@ pub one_byte : (piece : List ℕ) → 0 < length piece → length piece ≤ 1 �
 one_byte [] some within = absurd (omega arith)
 one_byte (byte ∷ []) some within = refl
 one_byte (byte ∷ other ∷ rest) some within = absurd (omega arith)
+
+-- what is wanted with a frame is wanted of the body, and of the frame where it is content
+pub within_body : (content : Bool) (count wanted missing : ℕ) → count ≤ (if content then min wanted missing else wanted) → count ≤ wanted
+within_body true count wanted missing within = omega (arith, within)
+within_body false count wanted missing within = within
+
+pub within_frame : (content : Bool) (count wanted missing : ℕ) → content ≡ true → count ≤ (if content then min wanted missing else wanted) → count ≤ missing
+within_frame true count wanted missing is within = omega (arith, within)
+within_frame false count wanted missing is within = cc

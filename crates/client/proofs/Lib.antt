@@ -2,6 +2,7 @@ pub mod AskingLemmas
 pub mod BodyLemmas
 pub mod GivingLemmas
 pub mod GrpcFrameLemmas
+pub mod HeadLemmas
 pub mod OneAnswerLemmas
 pub mod OneBodyLemmas
 pub mod OneContentLemmas

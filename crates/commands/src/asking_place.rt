@@ -6,15 +6,16 @@ ghost use Rattle.control.specs.Line.{ended};
 
 use crate::show_failure::ShowFailure;
 use crate::tell_failure::{TellFailure, failure_at};
+use crate::timed_control::{AnswerTime, TimedControl};
 use control::{
     AnswerFault, Cause, ControlClient, LINE_ROOM, LineEnd, Place, connect_within, is_one_line,
     is_turned_away, read_line, tell,
 };
 use std::alloc::Global;
 use std::io;
-use std::io::{ErrorKind, Read, Write};
+use std::io::{BufReader, ErrorKind, Read, Write};
 use std::net::{Net, TcpStream};
-use std::time::Duration;
+use std::time::{Clock, Duration};
 
 /// A session that asks: its writer takes lines, and its reader has their answers.
 #[derive(Drop)]
@@ -112,6 +113,30 @@ pub(crate) fn connect_to<'a, R: Net<Stream = TcpStream>>(
             let cause = Cause::from(error);
             Err(ShowFailure::Told(TellFailure::Connect(place, cause)))
         }
+    }
+}
+
+/// A session over a connection, both of whose sides have the same time for an answer.
+pub(crate) type TimedPlace<'a, 'c, C> = AskingPlace<
+    'a,
+    BufReader<TimedControl<'c, C>>,
+    TimedControl<'c, C>,
+>;
+
+/// A session over this connection, with this time for each answer.
+pub(crate) fn asking_over<'a, 'c, C: Clock>(
+    clock: &'c C,
+    alloc: Global,
+    place: Place<'a>,
+    client: &'c ControlClient,
+    time: &'c AnswerTime,
+) -> Result<TimedPlace<'a, 'c, C>, ShowFailure<'a>> {
+    match BufReader::new(alloc, TimedControl::new(clock, client, time)) {
+        Ok(reader) => {
+            let writer = TimedControl::new(clock, client, time);
+            Ok(AskingPlace::new(alloc, place, reader, writer))
+        }
+        Err(_) => Err(ShowFailure::Told(TellFailure::OutOfMemory)),
     }
 }
 

@@ -10,15 +10,19 @@ use std::alloc::Global;
 
 /// The command `body HEX [SERVICE..]`.
 pub fn run(rt: &(impl Print + AllocGlobal), matches: &ArgMatches<'_>) -> Result<(), Fault> {
-    let alloc = rt.alloc();
-    let body = decode(alloc, matches.get_str("HEX").unwrap_or(""))?;
-    let list = parse_services(alloc, matches.get_strs("SERVICE").unwrap_or(&[]))?;
-    let answer = answer_body(alloc, &list, &body)?;
-    let text = hex::encode(alloc, answer.as_slice())?;
+    let text = answer_in(rt.alloc(), matches)?;
     match println!(rt; "{text}") {
         Ok(()) => Ok(()),
         Err(_) => Err(Fault::Write),
     }
+}
+
+/// The digits of the answer to what the command line has.
+fn answer_in(alloc: Global, matches: &ArgMatches<'_>) -> Result<String, Fault> {
+    let body = decode(alloc, matches.get_str("HEX").unwrap_or(""))?;
+    let list = parse_services(alloc, matches.get_strs("SERVICE").unwrap_or(&[]))?;
+    let answer = answer_body(alloc, &list, &body)?;
+    Ok(hex::encode(alloc, answer.as_slice())?)
 }
 
 /// Digits in both cases.

@@ -13,36 +13,44 @@ use thiserror::Error;
 /// What ends a command with status 1. Its text follows `healthd: ` on standard error.
 #[derive(Clone, Copy, PartialEq, Eq, Error)]
 pub enum Fault {
-    #[error("bad hex")]
     BadHex,
-    #[error("bad service")]
     BadService,
-    #[error("{0}")]
     Script(ScriptFault),
-    #[error("read")]
     Read,
-    #[error("write")]
     Write,
     /// The port can't be listened to, say because another program does.
-    #[error("bind")]
     Bind,
-    #[error("crew fault {}", .0.number())]
     Crew(CrewWhy),
     /// Seats of the hall didn't come back.
-    #[error("seats missing")]
     SeatsMissing,
-    #[error("name too long")]
     NameTooLong,
     /// No program listens to the port.
-    #[error("connect")]
     Connect,
     /// The time that a call may take is up.
-    #[error("timed out")]
     TimedOut,
-    #[error("{0}")]
     Ask(AskFault),
-    #[error("out of memory")]
     OutOfMemory,
+}
+
+impl fmt::Display for Fault {
+    fn fmt<W: fmt::Write>(&self, f: &mut fmt::Formatter<W>) -> fmt::Result {
+        let text = match *self {
+            Fault::BadHex => "bad hex",
+            Fault::BadService => "bad service",
+            Fault::Script(fault) => return write!(f, "{fault}"),
+            Fault::Read => "read",
+            Fault::Write => "write",
+            Fault::Bind => "bind",
+            Fault::Crew(why) => return write!(f, "crew fault {}", why.number()),
+            Fault::SeatsMissing => "seats missing",
+            Fault::NameTooLong => "name too long",
+            Fault::Connect => "connect",
+            Fault::TimedOut => "timed out",
+            Fault::Ask(fault) => return write!(f, "{fault}"),
+            Fault::OutOfMemory => "out of memory",
+        };
+        f.write_str(text)
+    }
 }
 
 impl fmt::Debug for Fault {

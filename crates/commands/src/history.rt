@@ -1,14 +1,14 @@
 ghost use Rattle.std.specs.Prelude.{◌≤◌, ◌+◌, IfSome};
 
-use crate::asking_place::{AskingPlace, connect_to, flush, print_line};
+use crate::asking_place::{AskingPlace, asking_over, connect_to, flush, print_line};
 use crate::show_failure::ShowFailure;
 use crate::tell_failure::TellFailure;
-use crate::timed_control::{AnswerTime, TimedControl};
+use crate::timed_control::AnswerTime;
 use clap::ArgMatches;
 use control::Place;
 use desk_core::board_entries;
 use readout::entry_json;
-use std::io::{BufReader, BufWriter, Read, Write};
+use std::io::{BufWriter, Read, Write};
 use std::net::{Net, TcpStream};
 use std::time::{Clock, Duration};
 use std::{io, thread};
@@ -81,13 +81,29 @@ where
     let Ok(mut output) = BufWriter::new(rt.alloc(), io::writer(rt)) else {
         return Err(ShowFailure::Told(TellFailure::OutOfMemory));
     };
+    show_by_sessions(rt, place, timeout, options, &mut output)
+}
+
+/// Prints entries, by one session after the other.
+fn show_by_sessions<'a, R, O: Write>(
+    rt: &R,
+    place: Place<'a>,
+    timeout: Duration,
+    options: HistoryOptions,
+    output: &mut O,
+) -> Result<(), ShowFailure<'a>>
+where
+    R: Clock + AllocGlobal + Net<Stream = TcpStream>,
+{
     let mut next = None;
     for _ in 0..u64::MAX {
-        let shown = show_by_session(rt, place, timeout, options, &mut output, &mut next);
-        let is_followed = options.follows && next.is_some();
+        let shown = show_by_session(rt, place, timeout, options, output, &mut next);
+        if !options.follows || next.is_none() {
+            return shown;
+        }
         match shown {
-            Err(ShowFailure::Ended) if is_followed => pause(rt),
-            Err(ShowFailure::Told(TellFailure::Connect(..))) if is_followed => return Ok(()),
+            Err(ShowFailure::Ended) => pause(rt),
+            Err(ShowFailure::Told(TellFailure::Connect(..))) => return Ok(()),
             shown => return shown,
         }
     }
@@ -110,11 +126,7 @@ where
     let alloc = rt.alloc();
     let client = connect_to(rt, place, timeout)?;
     let time = AnswerTime::new(timeout);
-    let Ok(reader) = BufReader::new(alloc, TimedControl::new(rt, &client, &time)) else {
-        return Err(ShowFailure::Told(TellFailure::OutOfMemory));
-    };
-    let writer = TimedControl::new(rt, &client, &time);
-    let mut asked = AskingPlace::new(alloc, place, reader, writer);
+    let mut asked = asking_over(rt, alloc, place, &client, &time)?;
     show_from(rt, &mut asked, output, options, next)
 }
 
@@ -227,14 +239,21 @@ fn show_entry<'a, R: Read + Drop, W: Write + Drop, O: Write>(
     is_json: bool,
     place: u32,
 ) -> Result<(), ShowFailure<'a>> {
-    let alloc = asked.alloc();
-    let line = format!(in alloc; "entry {place}")?;
-    let answer = asked.ask(&line)?;
+    let answer = ask_entry(asked, place)?;
     if answer.as_str() == "forgotten" {
         return Ok(());
     }
-    match entry_json(alloc, &answer)? {
+    match entry_json(asked.alloc(), &answer)? {
         Some(json) => print_line(output, if is_json { json } else { answer }),
         None => Err(asked.unexpected(answer)),
     }
+}
+
+/// The answer to the question for the entry of this place.
+fn ask_entry<'a, R: Read + Drop, W: Write + Drop>(
+    asked: &mut AskingPlace<'a, R, W>,
+    place: u32,
+) -> Result<String, ShowFailure<'a>> {
+    let line = format!(in asked.alloc(); "entry {place}")?;
+    asked.ask(&line)
 }

@@ -81,7 +81,7 @@ struct Printer<'a, R> {
     is_verbose: bool,
     /// Whether standard output takes no more.
     is_unread: bool,
-    /// Whether standard error was told why something was not.
+    /// Whether standard error has had a note.
     has_noted: bool,
 }
 

@@ -321,14 +321,15 @@ impl CommandOption {
                 .action(ArgAction::Append)
                 .num_args(0..)
                 .allow_hyphen_values(true),
-            takes => takes.given_to(arg.long(self.name)),
+            takes => takes.given_to(arg, self.name),
         }
     }
 }
 
 impl Takes {
-    /// An option that takes this.
-    fn given_to<'a>(self, arg: Arg<'a>) -> Arg<'a> {
+    /// An option of this name that takes this.
+    fn given_to<'a>(self, arg: Arg<'a>, name: &'static str) -> Arg<'a> {
+        let arg = arg.long(name);
         match self {
             Takes::Flag => arg.action(ArgAction::SetTrue),
             Takes::Letter(letter) => arg.short(letter).action(ArgAction::SetTrue),

@@ -1,14 +1,13 @@
-use crate::asking_place::{AskingPlace, connect_to, print_text};
+use crate::asking_place::{AskingPlace, asking_over, connect_to, print_text};
 use crate::show_failure::ShowFailure;
-use crate::tell_failure::TellFailure;
-use crate::timed_control::{AnswerTime, TimedControl};
+use crate::timed_control::AnswerTime;
 use clap::ArgMatches;
 use control::Place;
 use readout::{Row, names_in, read_standing, rows_json, table};
 use std::alloc::{AllocError, Global};
 use std::env::FillError;
 use std::io;
-use std::io::{BufReader, Read, Write};
+use std::io::{Read, Write};
 use std::net::{Net, TcpStream};
 use std::rt::Env;
 use std::time::{Clock, Duration};
@@ -59,11 +58,7 @@ where
     let alloc = rt.alloc();
     let client = connect_to(rt, place, timeout)?;
     let time = AnswerTime::new(timeout);
-    let Ok(reader) = BufReader::new(alloc, TimedControl::new(rt, &client, &time)) else {
-        return Err(ShowFailure::Told(TellFailure::OutOfMemory));
-    };
-    let writer = TimedControl::new(rt, &client, &time);
-    let mut asked = AskingPlace::new(alloc, place, reader, writer);
+    let mut asked = asking_over(rt, alloc, place, &client, &time)?;
     show_status(&mut asked, &mut io::writer(rt), form)
 }
 

@@ -6,6 +6,7 @@ pub mod OneMeeting
 pub mod OneRequest
 pub mod PlaceLemmas
 pub mod ReadingLemmas
+pub mod RefusalLemmas
 pub mod RequestLemmas
 pub mod SendingLemmas
 pub mod TalkLemmas

@@ -1,5 +1,6 @@
 -- Bytes that several calls of a writer took, one behind the other.
-use Rattle.std.proofs.Common.{ℕ, ◌+◌, ◌-◌, ◌≤◌, Option, List, length, take, drop, sym, ap, subst}
+use Rattle.std.proofs.Common.{ℕ, ◌+◌, ◌-◌, ◌≤◌, Option, List, length, take, drop, sym, ap, subst, length-take, length-drop, take_all, arith}
+use Rattle.std.specs.Prelude.{Result, Ok, Err, OnOk, OnErr}
 use Rattle.std.proofs.KnownBytes.{Appends-trans, Appends-kept}
 use Rattle.std.proofs.Math.Seq.{take-add}
 use Rattle.std.proofs.lemmas.List.{take-append-drop, take_rest}
@@ -36,3 +37,20 @@ front_of a c text taken written = record {
   parts = sym (take-append-drop taken text);
   appended = written;
 }
+
+-- a write took no more than was left
+pub within_more : (text : List ℕ) (taken count : ℕ) → taken ≤ length text → count ≤ length (take (length text - taken) (drop taken text)) → taken + count ≤ length text
+within_more text taken count within bound =
+    omega (arith, within, simp (length-take, length-drop) at bound)
+
+-- a call that failed appended nothing to what was sent
+pub failed_front : {V E : Type 0} (r : Result V E) (a b c : Option (List ℕ)) (text : List ℕ) (taken : ℕ) → Appends a b (take taken text) → Keeps b c
+    → OnErr r (AppendsFront a c text)
+failed_front (Ok v) a b c text taken written kept = tt
+failed_front (Err e) a b c text taken written kept = sent_front a b c text taken written kept
+
+-- the whole text was sent
+pub sent_whole : {V E : Type 0} (r : Result V E) (a b c : Option (List ℕ)) (text : List ℕ) (taken : ℕ) → Appends a b (take taken text) → Keeps b c
+    → length text ≤ taken → OnOk r (Appends a c text)
+sent_whole (Ok v) a b c text taken written kept whole = Appends-kept a b c text (subst (Appends a b) (take_all taken text whole) written) kept
+sent_whole (Err e) a b c text taken written kept whole = tt

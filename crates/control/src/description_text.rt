@@ -1,6 +1,6 @@
 //! The text of how a service stands.
 
-ghost use Rattle.std.specs.Prelude.{◌≡◌, ◌++◌, List, OnOk, IfOk, string_bytes};
+ghost use Rattle.std.specs.Prelude.{◌≡◌, ◌++◌, codes, OnOk, IfOk, string_bytes};
 ghost use Rattle.control.specs.Text.{description_text, entries_text, number_text, time_text};
 
 use crate::description::Description;
@@ -20,13 +20,26 @@ pub(crate) fn description_text(
         ≡ description_text catalogue.now description.now) }
 {
     let mut text = String::new(alloc);
-    push_entries(alloc, &mut text, description)?;
+    push_description(alloc, &mut text, catalogue, description)?;
+    Ok(text)
+}
+
+/// Adds how a service stands.
+fn push_description(
+    alloc: Global,
+    text: &mut String,
+    catalogue: &Catalogue,
+    description: &Description,
+) -> Result<(), AllocError>
+    ensures { OnOk result (string_bytes text.new
+        ≡ string_bytes text.old ++ description_text catalogue.now description.now) }
+{
+    push_entries(alloc, text, description)?;
     text.push_str(" expected ")?;
-    push_or_none(alloc, &mut text, description.seconds)?;
+    push_or_none(alloc, text, description.seconds)?;
     text.push_str(" ")?;
     let reason = reason_text(alloc, catalogue, description.standing.reason)?;
-    text.push_str(&reason)?;
-    Ok(text)
+    text.push_str(&reason)
 }
 
 /// Adds since which entry a service has its status, and which is its newest report.
@@ -39,13 +52,29 @@ fn push_entries(
         ≡ string_bytes text.old ++ entries_text description.now) }
 {
     text.push_str("since ")?;
-    push_or_none(alloc, text, description.standing.since)?;
-    text.push_str(" ")?;
-    push_time(text, &description.since)?;
+    push_entry(alloc, text, description.standing.since, &description.since)?;
     text.push_str(" reported ")?;
-    push_or_none(alloc, text, description.standing.reported)?;
+    push_entry(
+        alloc,
+        text,
+        description.standing.reported,
+        &description.reported,
+    )
+}
+
+/// Adds the place of an entry, and when it was made.
+fn push_entry(
+    alloc: Global,
+    text: &mut String,
+    place: Option<u32>,
+    time: &Option<TimeText>,
+) -> Result<(), AllocError>
+    ensures { OnOk result (string_bytes text.new
+        ≡ string_bytes text.old ++ (number_text place ++ codes " " ++ time_text time.now)) }
+{
+    push_or_none(alloc, text, place)?;
     text.push_str(" ")?;
-    push_time(text, &description.reported)
+    push_time(text, time)
 }
 
 /// Adds a number, or `-` where there is none.

@@ -5,7 +5,7 @@ use std::alloc::Global;
 use std::fs::{Files, Permissions, symlink_metadata};
 use std::io::ErrorKind;
 use std::net::Net;
-use std::os::fd::{AsFd, AsRawFd};
+use std::os::fd::{AsFd, AsRawFd, OwnedFd};
 use std::os::unix::fs::{FileTypeExt, MetadataExt, PermissionsExt};
 use std::os::unix::net;
 use std::os::unix::net::SocketAddr;
@@ -64,16 +64,7 @@ impl UnixPlace {
     {
         let addr = SocketAddr::from_pathname(path)?;
         let path = String::from_str(alloc, path)?;
-        let listener = match listen(rt, &path, &addr, access) {
-            Err(error) if error.kind() == ErrorKind::AddrInUse => {
-                if !is_left(rt, &path, &addr) {
-                    return Err(error);
-                }
-                fs::remove_file(rt, path.as_str())?;
-                listen(rt, &path, &addr, access)?
-            }
-            listened => listened?,
-        };
+        let listener = listen_anew(rt, &path, &addr, access)?;
         let identity = identity_of(rt, &path)?;
         Ok(UnixPlace {
             listener,
@@ -108,8 +99,26 @@ impl UnixPlace {
     }
 }
 
-/// A socket that listens at this path and does not wait. Its mode is set before it has a file, so that the file is made with it; what
-/// the process's umask takes from a group is given back before anyone can connect.
+/// Listens as `listen` does. Where the file of a socket at which nobody listens any more is in the way, it is taken away first.
+fn listen_anew<R: Files + Net>(
+    rt: &R,
+    path: &str,
+    addr: &SocketAddr,
+    access: Access,
+) -> io::Result<UnixListener> {
+    match listen(rt, path, addr, access) {
+        Err(error) if error.kind() == ErrorKind::AddrInUse => {
+            if !is_left(rt, path, addr) {
+                return Err(error);
+            }
+            fs::remove_file(rt, path)?;
+            listen(rt, path, addr, access)
+        }
+        listened => listened,
+    }
+}
+
+/// A socket that listens at this path and does not wait.
 fn listen<R: Files + Net>(
     rt: &R,
     path: &str,
@@ -117,15 +126,27 @@ fn listen<R: Files + Net>(
     access: Access,
 ) -> io::Result<UnixListener> {
     let socket = rt.unix_socket()?;
+    listen_at(rt, &socket, path, addr, access)?;
+    let listener = net::UnixListener::from(socket);
+    listener.set_nonblocking(true)?;
+    Ok(UnixListener::from_std(listener))
+}
+
+/// Has a socket listen at this path. Its mode is set before it has a file, so that the file is made with it; what the process's umask
+/// takes from a group is given back before anyone can connect.
+fn listen_at<R: Files>(
+    rt: &R,
+    socket: &OwnedFd,
+    path: &str,
+    addr: &SocketAddr,
+    access: Access,
+) -> io::Result<()> {
     check(libc::fchmod(socket.as_raw_fd(), access.mode()))?;
     rt.bind_unix(socket.as_fd(), addr)?;
     if access == Access::Group {
         fs::set_permissions(rt, path, Permissions::from_mode(access.mode()))?;
     }
-    check(libc::net::listen(socket.as_raw_fd(), BACKLOG))?;
-    let listener = net::UnixListener::from(socket);
-    listener.set_nonblocking(true)?;
-    Ok(UnixListener::from_std(listener))
+    check(libc::net::listen(socket.as_raw_fd(), BACKLOG))
 }
 
 /// The error of a call of the system that answered -1.

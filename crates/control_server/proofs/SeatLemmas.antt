@@ -1,6 +1,6 @@
 -- The seats that sessions use, before and after lines were met by them.
 use Rattle.std.proofs.Common.{◌≡◌, ℕ, zero, suc, ◌<◌, List, [], ◌∷◌, length, get_or, refl, sym, subst, ◌∙◌, arith, ⊎_elim}
-use Rattle.std.specs.Prelude.{Option, slice_set}
+use Rattle.std.specs.Prelude.{IfSome, None, Option, Some, slice_set}
 use Rattle.std.specs.List.{All}
 use Rattle.std.proofs.lemmas.Bool.{cases_eq}
 use Rattle.std.proofs.lemmas.List.{get_or-set_other, get_or-set_same, length-set}
@@ -40,3 +40,8 @@ one_at kept terms names seats key seat seat' within is met place other below =
 pub one_met : (kept : Option ℕ) (terms : Terms) (names : List (List ℕ)) (seats : List SeatState) (key : ℕ) (seat seat' : SeatState) → key < length seats → seat ≡ get_or seats key seat → MetLines kept terms names seat seat'
     → SeatsHaveMet kept terms names seats (slice_set seats key seat')
 one_met kept terms names seats key seat seat' within is met = record { count = length-set seats key seat'; each = one_at kept terms names seats key seat seat' within is met }
+
+-- the second of two things that hold of what there is, if there is anything
+pub second_of : {A : Type 0} (First Second : A → Type 0) (found : Option A) → IfSome found (λ a. First a × Second a) → IfSome found Second
+second_of First Second (Some a) both = both.1
+second_of First Second None both = tt

@@ -1,5 +1,6 @@
 pub mod CopyLemmas
 pub mod GatherLemmas
+pub mod Moved
 pub mod NewSeats
 pub mod NotingLemmas
 pub mod OneGathering
@@ -9,4 +10,5 @@ pub mod Reports
 pub mod Soundness
 pub mod StaffLemmas
 pub mod Story
+pub mod WrittenBack
 pub mod WrongReports

@@ -1,8 +1,9 @@
 -- Why a crew has no report once it has workers and seats.
-use Rattle.std.proofs.Common.{ℕ, ◌≡◌, List, subst, arith}
-use Rattle.std.specs.Prelude.{Option, Some, None, IfNone}
+use Rattle.std.proofs.Common.{ℕ, ◌≡◌, List, subst, sym, ◌∙◌, arith}
+use Rattle.std.specs.Prelude.{Option, Some, None, IfSome, IfNone}
+use Rattle.std.specs.Bool.{⊤}
 use Rattle.crew.specs.declared.crew_why.CrewWhy.{CrewWhy}
-use Rattle.crew.specs.CrewWhy.{IsOtherReason}
+use Rattle.crew.specs.CrewWhy.{IsOtherReason, crew_fault}
 use Rattle.crew.specs.Gather.{Fails}
 use Rattle.crew.specs.Gather.Fails.{HasStranger, HasDouble, HasLoss, HasNoFault}
 
@@ -22,3 +23,15 @@ pub where_none : (fault : Option CrewWhy) (calls jobs : ℕ) (numbers : List ℕ
     → IfNone fault (IsOtherReason jobs why)
 where_none None calls jobs numbers why same fails = subst (λ n. IsOtherReason n why) same (other_reason calls numbers why fails)
 where_none (Some fault) calls jobs numbers why same fails = tt
+
+-- no reason is told where nothing is wrong
+pub not_told : (P : CrewWhy → Type 0) (workers lists seats lists' seats' : ℕ) (found : Option CrewWhy) → found ≡ crew_fault workers lists' seats' → found ≡ None → lists' ≡ lists → seats' ≡ seats
+    → IfSome (crew_fault workers lists seats) P
+not_told P workers lists seats lists' seats' found is none same same' =
+    subst (λ n. IfSome (crew_fault workers n seats) P) same
+    (subst (λ n. IfSome (crew_fault workers lists' n) P) same' (subst (λ fault. IfSome fault P) (sym none ∙ is) tt))
+
+-- and there is nothing to say of another reason where there is none
+pub no_reason : (fault : Option CrewWhy) → IfNone fault ⊤
+no_reason None = tt
+no_reason (Some fault) = tt

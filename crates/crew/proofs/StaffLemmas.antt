@@ -257,3 +257,11 @@ staff_served {P} names staff workers' runs' seats results same same' looked ran 
     ap (map (λ list. list.items)) told ∙ map-map (λ list. list.items) (λ run. run.commands.results) runs' in
     rw (answers, home)
     (has_served names staff.workers.items workers' staff.runs.items runs' (into_iter_items staff.spare) (vec_len staff.workers) (sym staff.workers.ok.0) same same' looked ran)
+
+-- a staff that was made of these seats for these lists has served
+pub made_served : {P : Type 0} (names : List (List ℕ)) (staff : Staff P) (count : ℕ) (lists : List (List Order)) (results : List (List (Result Reply Refusal))) (old new : List SeatState)
+    → IsStaffOf count lists old staff → CrewHasServed names (vec_len staff.workers) (orders_of staff) results (seats_of staff) new → CrewHasServed names count lists results old new
+made_served names staff count lists results old new made served =
+    subst (λ n. CrewHasServed names n lists results old new) made.workers
+    (subst (λ asked. CrewHasServed names (vec_len staff.workers) asked results old new) made.lists
+    (subst (λ seats. CrewHasServed names (vec_len staff.workers) (orders_of staff) results seats new) made.seats served))

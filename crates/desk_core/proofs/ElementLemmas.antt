@@ -23,3 +23,7 @@ next_set {X} f old now n at value within same before behind is = (
     by_place i other false two below =
         let apart : i ≢ n = eqb-false i n two in
         ap (λ k. get_or (set now k value) i other) same ∙ get_or-set_other now n i value other apart ∙ before i other (omega (arith, below, apart))
+
+-- what stands at a place, by another name of the list and of the place
+pub same_place : {A : Type 0} (xs ys : List A) (i j k : ℕ) (other : A) → xs ≡ ys → i ≡ j → j ≡ k → get_or xs i other ≡ get_or ys k other
+same_place xs ys i j k other are is next = ap (λ zs. get_or zs i other) are ∙ ap (λ n. get_or ys n other) (is ∙ next)

@@ -1,5 +1,6 @@
 -- The entries of a journal that a run begins with.
-use Rattle.std.proofs.Common.{◌≡◌, ◌≤◌, ℕ, List, [], ◌∷◌, ◌++◌, refl, sym, ap, subst, ◌∙◌}
+use Rattle.std.proofs.Common.{◌≡◌, ◌<◌, ◌≤◌, ◌+◌, ℕ, List, [], ◌∷◌, ◌++◌, length, take, get_or, refl, sym, ap, subst, ◌∙◌}
+use Rattle.std.proofs.lemmas.List.{map_more}
 use Rattle.std.proofs.lemmas.List.Elements.{All-head, All-tail, All-map}
 use Rattle.desk_core.specs.declared.entry.Entry.{Entry}
 use Rattle.desk_core.specs.Left.{Left, Holds, HasLeft, LeavesJournal}
@@ -17,6 +18,14 @@ use Rattle.durable.specs.Journal.{AreOfFirst, FirstHasSeen, FirstHasSeenIts, IsK
 -- those that an earlier run made are of the first seat
 pub restored_first : (stored : List Stored) (entries : List Entry) → entries ≡ restored_of stored → AreOfFirst entries
 restored_first stored entries are = subst AreOfFirst (sym are) (All-map (λ entry. entry.seat ≡ 0) (λ one. entry_of 0 one.entry.call one.entry.reply) stored (λ k d below. refl))
+
+-- one more of them
+pub restored_more : (stored : List Stored) (index : ℕ) (one : Stored) (entries more : List Entry) → index < length stored → one ≡ get_or stored index one
+    → entries ≡ restored_of (take index stored) → more ≡ entries ++ entry_of 0 one.entry.call one.entry.reply ∷ [] → more ≡ restored_of (take (index + 1) stored)
+restored_more stored index one entries more inside is so_far pushed =
+    let restored : Stored → Entry = λ some. entry_of 0 some.entry.call some.entry.reply in
+    pushed ∙ (ap (λ some. some ++ restored one ∷ []) so_far
+    ∙ (ap (λ some. restored_of (take index stored) ++ restored some ∷ []) is ∙ sym (map_more restored stored index one inside)))
 
 -- a file's entries, when it was opened
 pub opened : (journal : List Entry) (left : Left) (stored : List Stored) (entries : List Entry) → entries ≡ restored_of stored → journal ≡ restored_of stored

@@ -86,19 +86,7 @@ impl<'a, R: Files<File = File> + AllocGlobal, W: Witness> Journal<'a, R, W> {
         let medium = FileMedium::new(rt, String::from_str(alloc, path)?);
         let own = Preface::new(alloc, &catalogue)?;
         let preface = Preface::new(alloc, &catalogue)?;
-        let was_missing = is_missing(rt, path)?;
-        let (log, found) = log_at(rt, alloc, path)?;
-        let (store, stored) = store_over(alloc, medium, witness, log, &found, preface, &own)?;
-        let entries = entries_of(alloc, &stored)?;
-        let was_missing = was_missing && found.is_empty();
-        Ok(Journal {
-            new_file: NewFile::new(rt, named, was_missing),
-            store,
-            catalogue,
-            entries,
-            stored,
-            found,
-        })
+        open_with(rt, named, medium, witness, own, preface, catalogue)
     }
 
     /// Its entries, the oldest first. Those of an earlier run are of the first seat.
@@ -189,6 +177,35 @@ impl<'a, R: Files<File = File> + AllocGlobal, W: Witness> Journal<'a, R, W> {
         let made = stored_in(rt, again, store)?;
         Ok(made)
     }
+}
+
+/// Opens the file of this name, with what was made before it is touched.
+fn open_with<'a, R: Files<File = File> + AllocGlobal, W: Witness>(
+    rt: &'a R,
+    named: String,
+    medium: FileMedium<'a, R>,
+    witness: W,
+    own: Preface,
+    preface: Preface,
+    catalogue: Catalogue,
+) -> Result<Journal<'a, R, W>, OpeningFault>
+    ensures names { IfOk result (λ journal. journal.names ≡ catalogue) }
+    ensures in_file { IfOk result (λ journal. journal.in_file ≡ own.names) }
+{
+    let alloc = rt.alloc();
+    let was_missing = is_missing(rt, named.as_str())?;
+    let (log, found) = log_at(rt, alloc, named.as_str())?;
+    let (store, stored) = store_over(alloc, medium, witness, log, &found, preface, &own)?;
+    let entries = entries_of(alloc, &stored)?;
+    let is_new = was_missing && found.is_empty();
+    Ok(Journal {
+        new_file: NewFile::new(rt, named, is_new),
+        store,
+        catalogue,
+        entries,
+        stored,
+        found,
+    })
 }
 
 /// A hall of this catalogue with so many seats, of which the first has made the entries again that were found in the file. It takes at

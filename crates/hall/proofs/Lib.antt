@@ -8,6 +8,7 @@ pub mod Ends
 pub mod Entering
 pub mod Taken
 pub mod GivenBack
+pub mod Reread
 pub mod Gathered
 pub mod LookingLemmas
 pub mod CarryingOut

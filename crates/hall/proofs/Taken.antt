@@ -14,7 +14,7 @@ use Rattle.desk_core.specs.Past.{past}
 use Rattle.desk_core.specs.Mutation.{IsAnswered, Taken, NotListed as Unlisted, BadRule, Full, NoMemory, NotStored, entry_of}
 use Rattle.desk_core.specs.Seats.{calls_by}
 use Rattle.hall.specs.Views.{seat_view, desk_view}
-use Rattle.hall.specs.Steps.{Seated, IsSeat, HasDesk, Follows, number_in, seen_in}
+use Rattle.hall.specs.Steps.{Seated, IsSeat, HasDesk, Follows, Rests, number_in, seen_in}
 use Rattle.hall.specs.Seats.{SeatState, IsCarriedOut}
 use Rattle.hall.proofs.Views.{older_self, own_call}
 
@@ -173,3 +173,7 @@ seat_kept me waiting rested number made before after call refusal hand answers r
     let own : calls_by (past before.journal) number ≡ calls_by (seen_in me) number =
     subst (λ (n : ℕ). calls_by (past before.journal) n ≡ calls_by (seen_in me) n) (number_is me number made hand.seat) hand.follows.own in
     rw (rests, numbered, same) (record { rests = refl; made_is = hand.seat.made_is ∙ sym (ap length own); legal = hand.follows.legal })
+
+-- a seat at rest may enter
+pub has_rest : (me : Seated) (number made : ℕ) → IsSeat me number made → Rests me
+has_rest me number made seat = seat.rests ∙ ap (λ (n : ℕ). (seat_view n (seen_in me) me.0.most, [])) (sym (number_is me number made seat))

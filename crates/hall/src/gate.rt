@@ -3,7 +3,7 @@ ghost use Rattle.desk_core.specs.Legal.{IsLegal};
 ghost use Rattle.desk_core.specs.Past.{past};
 ghost use Rattle.hall.specs.declared.view.GateStage.TheVariants.{Queued};
 ghost use Rattle.hall.specs.Views.{at_stage, seat_view};
-ghost use Rattle.hall.specs.Steps.{IsHall, Rests, HasDesk, Follows, number_in, seen_in};
+ghost use Rattle.hall.specs.Steps.{IsHall, Rests, HasDesk, Follows, Looked, number_in, seen_in};
 
 use crate::steps::{Commit, Draw, GateSeat, Look, Making, Pass, Shared, Turn};
 use desk_core::{Desk, Entry, Keep};
@@ -13,7 +13,7 @@ use std::sync::Wait;
 use std::thread::yield_now;
 
 /// The word of the board.
-pub(crate) const BOARD: usize = 0;
+const BOARD: usize = 0;
 
 /// The word that counts the tickets drawn, modulo 2^64.
 const DRAWN: usize = 1;
@@ -48,7 +48,7 @@ pub(crate) fn enter<P: Probe, K: Keep, R: Wait>(
     for _ in rt.forever() {
         if shared.load::<Turn>(place, SERVED) == ticket {
             let slot = shared.exchange(place, DESK, None);
-            shared.load::<Look>(place, BOARD);
+            look(shared, place);
             return slot.unwrap();
         }
         if looks < SPINS {
@@ -58,6 +58,15 @@ pub(crate) fn enter<P: Probe, K: Keep, R: Wait>(
         }
     }
     unreachable!()
+}
+
+/// Reads the board.
+pub(crate) fn look<P: Probe, K: Keep>(shared: &Shared<P, K>, place: &mut GateSeat<P, K>) -> u64
+    requires table { IsHall shared.now.table_id × (place.old.table_id ≡ shared.now.table_id) }
+    ensures place { place.new.table_id ≡ place.old.table_id }
+    ensures looked { Looked place.old.me result place.new.me }
+{
+    shared.load::<Look>(place, BOARD)
 }
 
 fn draw<P: Probe, K: Keep>(shared: &Shared<P, K>, place: &mut GateSeat<P, K>) -> u64

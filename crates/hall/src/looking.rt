@@ -4,11 +4,11 @@ ghost use Rattle.desk_core.specs.Board.{board_of};
 ghost use Rattle.desk_core.specs.Status.{checked};
 
 use crate::answer::Answer;
-use crate::gate::{BOARD, enter, leave};
+use crate::gate::{enter, leave, look};
 use crate::hall::Hall;
 use crate::note::Note;
 use crate::seat::Seat;
-use crate::steps::{Look, Meet, Tell};
+use crate::steps::{Meet, Tell};
 use desk_core::{
     Behind, Change, Extent, Keep, KeepAll, Recall, Slot, Standing, Transcript, Watch,
     board_entries, board_status,
@@ -43,7 +43,7 @@ impl<P: Probe, K: Keep> Hall<P, K> {
         ensures at { result.at ≡ length seat.new.seen }
         ensures status { result.status ≡ status_map self.now.names seat.new.seen name.now }
     {
-        let board = self.table.shared.load::<Look>(&mut seat.place, BOARD);
+        let board = look(&self.table.shared, &mut seat.place);
         Answer {
             at: board_entries(board),
             status: status_on(board, self.catalogue.slot(name)),
@@ -58,7 +58,7 @@ impl<P: Probe, K: Keep> Hall<P, K> {
         ensures kept { own_calls seat.new ≡ own_calls seat.old }
         ensures board { result ≡ board_of seat.new.seen }
     {
-        self.table.shared.load::<Look>(&mut seat.place, BOARD)
+        look(&self.table.shared, &mut seat.place)
     }
 
     /// How many entries the journal has, and how many of them are in memory. It waits for the seat's turn.
@@ -213,7 +213,7 @@ impl<P: Probe, K: Keep> Hall<P, K> {
     {
         let Note { place } = note;
         self.table.shared.join_seat::<Meet>(&mut seat.place, place);
-        self.table.shared.load::<Look>(&mut seat.place, BOARD);
+        look(&self.table.shared, &mut seat.place);
     }
 }
 

@@ -1,6 +1,6 @@
 -- How a store's file goes on standing for its journal.
-use Rattle.std.proofs.Common.{◌≡◌, inl, inr, ⊎_elim, ℕ, ◌-◌, ◌≤◌, Option, Bool, true, false, List, [], ◌∷◌, ◌++◌, length, take, Some, None, refl, sym, ◌∙◌, ap, subst, arith, length-append}
-use Rattle.std.specs.Prelude.{Contains}
+use Rattle.std.proofs.Common.{◌≡◌, inl, inr, ⊎_elim, ℕ, ◌-◌, ◌≤◌, Option, Bool, true, false, true≢false, List, [], ◌∷◌, ◌++◌, length, take, Some, None, refl, sym, ◌∙◌, ap, subst, arith, length-append}
+use Rattle.std.specs.Prelude.{Contains, Result, Ok, Err, OnOk, is_err}
 use Rattle.std.proofs.lemmas.List.{take_at, append-nil}
 use Rattle.record_log.specs.Device.{LeavesOnly}
 use Rattle.record_log.specs.Log.{IsReady, IsBeforeOrAfter, StandsFor, blocks}
@@ -13,7 +13,7 @@ use Rattle.journal_store.specs.Kept.{Kept, possible, asked, begun_at, opened_at,
 use Rattle.journal_store.specs.Preface.{Front, IsFront}
 use Rattle.journal_store.specs.Read.{AreFound}
 use Rattle.journal_store.specs.Record.{HasJournal, HoldJournal, IsTextOf, restored_of}
-use Rattle.journal_store.specs.Faithful.{IsFaithful, IsOpen, IsOther, LeavesOneOf, HasLeftSince, LogHasLeft}
+use Rattle.journal_store.specs.Faithful.{IsFaithful, IsOpen, IsOther, LeavesOneOf, HasLeftSince, LogHasLeft, LogLeaves}
 use Rattle.journal_store.specs.Turned.{AreTurned}
 use Rattle.journal_store.proofs.HoldLemmas.{hold_found}
 use Rattle.journal_store.proofs.KeptLemmas.{still_left, left_behind}
@@ -26,6 +26,15 @@ written_on records batch old text new was is grown =
   where
     front : take (length text - 1) text ≡ blocks batch
     front = ap (λ l. take (length text - 1) l) is ∙ take_at (blocks batch) (0 ∷ []) (length text - 1) (omega (arith, ap length is, length-append (blocks batch) (0 ∷ [])))
+
+-- what was put behind a text is cut off again
+pub cut_back : (old more grown now : List ℕ) (before len : ℕ) → before ≡ len → len ≡ length old → grown ≡ old ++ more → now ≡ take before grown → now ≡ old
+cut_back old more grown now before len is all whole cut = cut ∙ ap (λ (l : List ℕ). take before l) whole ∙ take_at old more before (sym (is ∙ all))
+
+-- what holds of a call that did not fail
+pub did_not_fail : {V E : Type 0} (r : Result V E) {P : Type 0} → OnOk r P → is_err r ≡ false → P
+did_not_fail (Ok v) holds tells = holds
+did_not_fail (Err e) holds tells = absurd (true≢false tells)
 
 module _ {D : Type 0} (contents : D → List ℕ) (may_leave : D → List ℕ → Type 0) where
   -- of a log that is ready a crash leaves the journal that its records hold
@@ -44,7 +53,20 @@ module _ {D : Type 0} (contents : D → List ℕ) (may_leave : D → List ℕ �
   pub the_log : (found : Option (RecordLog D)) (log : RecordLog D) (records : List (List ℕ)) → found ≡ Some log → IsOpen contents may_leave found records → IsReady contents may_leave log records
   the_log found log records is ready = subst (λ o. IsOpen contents may_leave o records) is ready
 
+  -- where there is none it is not open
+  pub not_open : {P : Type 0} (found : Option (RecordLog D)) (records : List (List ℕ)) → found ≡ None → IsOpen contents may_leave found records → P
+  not_open found records is ready = absurd (subst (λ o. IsOpen contents may_leave o records) is ready)
+
+  -- what a crash leaves of it now
+  pub log_leaves : (start : Front) (journals : List (List Entry)) (found : Option (RecordLog D)) (log : RecordLog D) → found ≡ Some log → LogLeaves start may_leave found journals
+      → LeavesOneOf start (may_leave log.device) journals
+  log_leaves start journals found log is crash = subst (λ o. LogLeaves start may_leave o journals) is crash
+
   module _ (moment : D → ℕ) (left_since : D → ℕ → List ℕ → Type 0) where
+    -- and left of it since it was opened
+    pub log_has_left : (kept : Kept) (found : Option (RecordLog D)) (log : RecordLog D) → found ≡ Some log → LogHasLeft moment left_since found kept → HasLeftSince moment left_since log.device kept
+    log_has_left kept found log is since = subst (λ o. LogHasLeft moment left_since o kept) is since
+
     abbrev pub Faithful : Option (RecordLog D) → Bool → Text → Option Text → Kept → Type 0
     Faithful = IsFaithful contents may_leave moment left_since
 
@@ -112,6 +134,12 @@ module _ {D : Type 0} (contents : D → List ℕ) (may_leave : D → List ℕ �
           since = tt;
           others = both.1;
         })
+
+    pub closed_at : (log : Option (RecordLog D)) (is_open : Bool) (kept now : Kept) (text new : Text) (other new_other : Option Text) → log ≡ None → is_open ≡ false
+        → IsTextOf kept.start text.preface text.written.items kept.journal → IsOther kept other → AreTurned text other new new_other → now ≡ asked kept [] → Faithful log is_open new new_other now
+    closed_at log is_open kept now text new other new_other none shut is others turn at =
+        subst (λ (b : Bool). Faithful log b new new_other now) (sym shut)
+        (subst (λ (o : Option (RecordLog D)). Faithful o false new new_other now) (sym none) (closed kept now text new other new_other is others turn at))
 
     -- and was
     pub reopened : OnlyNow → (log : RecordLog D) (old now : Kept) (text new : Text) (other new_other : Option Text) → IsTextOf old.start text.preface text.written.items old.journal → IsOther old other → AreTurned text other new new_other

@@ -1,10 +1,13 @@
 -- What is said of records that stand behind a preface.
-use Rattle.std.proofs.Common.{◌≡◌, ℕ, ◌+◌, ◌<◌, List, [], ◌∷◌, ◌++◌, length, take, drop, Vec, sym, ◌∙◌, ap, subst, arith}
+use Rattle.std.proofs.Common.{◌≡◌, ℕ, ◌+◌, ◌<◌, ◌≤◌, ◌==◌, false, true, true≢false, refl, List, [], ◌∷◌, ◌++◌, length, length-append, get_or, take, drop, Vec, sym, ◌∙◌, ap, subst, arith}
 use Rattle.std.specs.Prelude.{All}
 use Rattle.std.specs.declared.alloc.Global.{Global}
-use Rattle.std.proofs.lemmas.List.{drop_at, drop-drop, drop-map, length-drop, get_or-drop}
-use Rattle.std.proofs.lemmas.List.Elements.{All-append, All-cons, All-drop, All-take}
+use Rattle.std.proofs.lemmas.Bool.{eqb-true}
+use Rattle.std.proofs.lemmas.List.{drop_at, drop-drop, drop-map, length-drop, length-map, get_or-drop, get_or-map}
+use Rattle.std.proofs.lemmas.List.Elements.{All-append, All-cons, All-drop, All-nil, All-take}
 use Rattle.record_log.specs.Log.{texts}
+use Rattle.entry_record.specs.Format.{bytes_of}
+use Rattle.entry_record.specs.Range.{IsStored}
 use Rattle.entry_record.specs.declared.stored.Stored.{Stored}
 use Rattle.journal_store.specs.Preface.{Front, BeginsWith, preface_of, title_of}
 use Rattle.journal_store.specs.Read.{AreFound, AreRead, HasTooFew, IsNoEntry}
@@ -53,3 +56,31 @@ pub too_few : (front : Front) (found : List (Vec ℕ Global)) (taken : ℕ) (sto
     → HasTooFew (texts found)
 too_few front found taken stored begins read missing =
     record { front = front; behind = begins.behind; stored = stored; whole = begins.whole; read = subst (λ (l : List (List ℕ)). AreRead l stored) (behind_is front found taken begins) read; missing = missing }
+
+-- the record that is no entry's
+pub no_entry_at : (found : List (Vec ℕ Global)) (i n : ℕ) (at : Vec ℕ Global) (bytes : List ℕ) → i < length found → at ≡ get_or found i at → bytes ≡ at.items → i ≡ n
+    → ((stored : Stored) → IsStored stored → bytes ≡ bytes_of stored → ⊥) → IsNoEntry (texts found) n
+no_entry_at found i n at bytes inside is whole same none = subst (IsNoEntry (texts found)) same (record {
+  inside = omega (arith, inside, length-map found (λ (e : Vec ℕ Global). e.items));
+  none = λ stored ranged says. none stored ranged (whole ∙ ap (λ (e : Vec ℕ Global). e.items) is ∙ sym (get_or-map (λ (e : Vec ℕ Global). e.items) found i at [] inside) ∙ says);
+})
+
+-- a preface takes no more records than were found
+pub within_found : (front : Front) (found : List (Vec ℕ Global)) (taken : ℕ) → BeginsWith front (texts found) taken → taken ≤ length found
+within_found front found taken begins =
+    omega (arith, begins.count, ap length begins.whole, length-append (preface_of front) begins.behind, length-map found (λ (e : Vec ℕ Global). e.items))
+
+-- there is nothing in a list
+pub is_nothing : {X : Type 0} (found : List X) → true ≡ (length found == 0) → found ≡ []
+is_nothing [] tells = refl
+is_nothing (f ∷ found) tells = absurd (omega (arith, eqb-true (length (f ∷ found)) 0 (sym tells)))
+
+module _ (found : List (Vec ℕ Global)) where
+  pub is_something : false ≡ (length found == 0) → found ≡ [] → ⊥
+  is_something tells none = true≢false (sym (tells ∙ ap (λ (f : List (Vec ℕ Global)). length f == 0) none))
+
+  pub nothing_read : (front : Front) (stored : List Stored) → true ≡ (length found == 0) → stored ≡ [] → AreFound front (texts found) stored
+  nothing_read front stored tells none = subst (λ (f : List (Vec ℕ Global)). AreFound front (texts f) stored) (sym (is_nothing found tells)) none
+
+  pub nothing_short : true ≡ (length found == 0) → All (λ bytes. length bytes.items < 256) found
+  nothing_short tells = subst (All (λ (bytes : Vec ℕ Global). length bytes.items < 256)) (sym (is_nothing found tells)) (All-nil (λ (bytes : Vec ℕ Global). length bytes.items < 256))

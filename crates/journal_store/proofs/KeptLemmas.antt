@@ -1,11 +1,14 @@
 -- What a crash leaves of a store that is asked to keep entries.
-use Rattle.std.proofs.Common.{◌≡◌, ◌⊎◌, inl, inr, ℕ, List, [], ◌∷◌, ◌++◌, refl, sym, ◌∙◌, ap, subst, append_assoc}
-use Rattle.std.specs.Prelude.{All, Contains}
+use Rattle.std.proofs.Common.{◌≡◌, ◌⊎◌, inl, inr, ℕ, List, [], ◌∷◌, ◌++◌, length, refl, sym, ◌∙◌, ap, subst, append_assoc}
+use Rattle.std.specs.Prelude.{All, Contains, Result, Ok, Err, OnErr}
 use Rattle.std.proofs.lemmas.List.{append-nil}
 use Rattle.std.proofs.lemmas.List.Elements.{All-nil, All-cons, All-weaker, All-append, All-map, All-contains, All-contains_itself, Contains-append_left, Contains-append_right}
 use Rattle.desk_core.specs.declared.entry.Entry.{Entry}
-use Rattle.desk_core.specs.Left.{Left, Moment, IsOneOf, IsBetween, HasLeft}
-use Rattle.journal_store.specs.Kept.{Kept, possible, moments, asked, opened_at, settled, lefts, IsLeftOf}
+use Rattle.desk_core.specs.Left.{Left, Moment, Begins, Holds, IsKept, IsOneOf, IsBetween, HasLeft, LeavesJournal}
+use Rattle.journal_store.specs.Bound.{IsNextLimit}
+use Rattle.journal_store.specs.Held.{Held}
+use Rattle.journal_store.specs.Preface.{Front}
+use Rattle.journal_store.specs.Kept.{Kept, possible, moments, asked, begun_at, opened_at, settled, lefts, IsLeftOf}
 
 -- nothing was done
 pub untouched : (left : Left) (before after : List Entry) → HasLeft left left before after
@@ -117,3 +120,63 @@ still_left kept entries j (inr has) = inr (subst (λ l. Contains l j) (sym (left
 pub left_behind : (kept : Kept) (entries j : List Entry) → IsLeftOf (asked kept entries).left j → IsLeftOf (settled (asked kept entries) entries).left j
 left_behind kept entries j (inl has) = inr (subst (λ l. Contains l j) (sym (lefts_of_moments kept.journal (possible kept entries) kept.left.ever)) (Contains-append_left (possible kept entries) (lefts kept.left.ever) j has))
 left_behind kept entries j (inr has) = inr has
+
+-- what holds whether a call failed or not
+pub on_err : {V E P : Type 0} (r : Result V E) → P → OnErr r P
+on_err (Ok v) holds = tt
+on_err (Err e) holds = holds
+
+-- the journal and the moment stay where entries were asked for, and may not have been
+pub journal_asked : (old new : Kept) (entries : List Entry) → (new ≡ old) ⊎ (new ≡ asked old entries) → new.journal ≡ old.journal
+journal_asked old new entries (inl is) = ap (λ k. k.journal) is
+journal_asked old new entries (inr is) = ap (λ k. k.journal) is
+
+pub opened_asked : (old new : Kept) (entries : List Entry) → (new ≡ old) ⊎ (new ≡ asked old entries) → new.opened ≡ old.opened
+opened_asked old new entries (inl is) = ap (λ k. k.opened) is
+opened_asked old new entries (inr is) = ap (λ k. k.opened) is
+
+-- a crash leaves the journal alone
+pub leaves_alone : (new : Kept) (journal : List Entry) → new.left.now ≡ new.journal ∷ [] → new.journal ≡ journal → LeavesJournal new.left journal
+leaves_alone new journal now is = record {
+  each = subst (All (λ j. j ≡ journal)) (sym now) (All-cons (λ j. j ≡ journal) new.journal [] is (All-nil (λ j. j ≡ journal)));
+}
+
+-- a file that was written anew, or was not
+abbrev pub IsWrittenAnew : Kept → Kept → Type 0
+IsWrittenAnew old new = (new ≡ old) ⊎ ((moment : ℕ) × (new ≡ opened_at old moment))
+
+written_journal : (old new : Kept) → IsWrittenAnew old new → new.journal ≡ old.journal
+written_journal old new (inl is) = ap (λ k. k.journal) is
+written_journal old new (inr (moment, is)) = ap (λ k. k.journal) is
+
+-- a store that was open, or was opened anew
+module _ (start old mid : Kept) (journal entries : List Entry) (same : old ≡ start) (is : start.journal ≡ journal) (first : IsReopened old mid) where
+  pub stays : mid.journal ≡ journal
+  stays = same_journal old mid first ∙ ap (λ k. k.journal) same ∙ is
+
+  -- no entries stand behind it
+  pub nothing_behind : entries ≡ [] → mid.journal ≡ journal ++ entries
+  nothing_behind none = stays ∙ sym (append-nil journal) ∙ ap (λ e. journal ++ e) (sym none)
+
+  module _ (appended new : Kept) (stored : appended ≡ settled (asked mid entries) entries) (anew : IsWrittenAnew appended new) where
+    -- entries that were stored do
+    pub stands_behind : new.journal ≡ journal ++ entries
+    stands_behind = written_journal appended new anew ∙ ap (λ k. k.journal) stored ∙ ap (λ j. j ++ entries) stays
+
+    pub leaves_both : LeavesJournal new.left (journal ++ entries)
+    leaves_both = leaves_alone new (journal ++ entries)
+        (ap (λ l. l.now) (same_left appended new anew) ∙ ap (λ k. k.left.now) stored ∙ sym (ap (λ j. j ∷ []) (written_journal appended new anew ∙ ap (λ k. k.journal) stored))) stands_behind
+
+-- how long a file may be that was open
+pub next_limit : (start mid appended new : Held) → mid ≡ start → appended.limit ≡ mid.limit → appended.least ≡ mid.least → IsNextLimit appended.limit appended.least (length new.written) new.limit
+    → IsNextLimit start.limit start.least (length new.written) new.limit
+next_limit start mid appended new same limit least is =
+    subst (λ (n : ℕ). IsNextLimit n start.least (length new.written) new.limit) (limit ∙ ap (λ (h : Held). h.limit) same)
+    (subst (λ (n : ℕ). IsNextLimit appended.limit n (length new.written) new.limit) (least ∙ ap (λ (h : Held). h.least) same) is)
+
+-- a store that begins takes nothing of its journal back
+pub holds_at : (moment : ℕ) (front : Front) (journal : List Entry) (kept : Kept) → kept ≡ begun_at moment front journal → Holds kept.left journal
+holds_at moment front journal kept is = subst (λ (k : Kept). Holds k.left journal) (sym is) (record {
+  now = All-cons (Begins journal) journal [] ([], sym (append-nil journal)) (All-nil (Begins journal));
+  ever = All-nil (IsKept journal);
+})

@@ -3,11 +3,13 @@ mod AlikeLemmas
 mod DigestLemmas
 mod DigestedLemmas
 mod FaithfulLemmas
+mod FaultLemmas
 mod FewestLemmas
 mod FinishLemmas
 mod FoundLemmas
 mod HoldLemmas
 mod KeptLemmas
+mod LimitLemmas
 mod MemoryLemmas
 mod PrefaceLemmas
 mod ProbeLemmas

@@ -1,7 +1,11 @@
 -- What is said of the records of entries.
-use Rattle.std.proofs.Common.{◌≡◌, ℕ, ◌+◌, ◌<◌, List, [], ◌∷◌, ◌++◌, length, get_or, take, inl, inr, refl, sym, ◌∙◌, ap, subst, arith, append_assoc}
-use Rattle.std.proofs.lemmas.List.{take_more}
-use Rattle.record_log.specs.Log.{StandsFor, blocks}
+use Rattle.std.proofs.Common.{◌≡◌, ℕ, ◌+◌, ◌<◌, ◌≤◌, ◌==◌, true, false, true≢false, List, [], ◌∷◌, ◌++◌, Vec, length, length-append, get_or, take, inl, inr, refl, sym, ◌∙◌, ap, subst, arith, append_assoc}
+use Rattle.std.specs.Prelude.{All}
+use Rattle.std.specs.declared.alloc.Global.{Global}
+use Rattle.std.proofs.lemmas.Bool.{eqb-true}
+use Rattle.std.proofs.lemmas.List.{map-append, take_more}
+use Rattle.std.proofs.lemmas.List.Elements.{All-append}
+use Rattle.record_log.specs.Log.{StandsFor, blocks, texts}
 use Rattle.record_log.proofs.LawLemmas.{one}
 use Rattle.desk_core.specs.declared.entry.Entry.{Entry}
 use Rattle.entry_record.specs.declared.stored.Stored.{Stored}
@@ -46,3 +50,22 @@ are_added front [] batch journal entries (inr (behind, is, are)) added = let no 
 are_added front (r ∷ records) batch journal entries (inl (none, new)) added = let no : r ∷ records ≡ [] = none in absurd cc
 are_added front (r ∷ records) batch journal entries (inr (behind, is, are)) added =
     inr (behind ++ batch, ap (λ (l : List (List ℕ)). l ++ batch) is ∙ append_assoc (preface_of front) behind batch, all_records behind batch journal entries are added)
+
+-- records behind blocks
+pub added_behind : (front : Front) (written : List ℕ) (batch : List (List ℕ)) (entries : List Entry) → false ≡ (length written == 0) → AreRecords batch entries → AreAdded front written batch entries
+added_behind front [] batch entries some are = absurd (true≢false (sym some))
+added_behind front (byte ∷ written) batch entries some are = are
+
+-- the records of a preface, and others behind them
+module _ (first more all : List (Vec ℕ Global)) (whole : all ≡ first ++ more) where
+  pub added_first : (front : Front) (written : List ℕ) (entries : List Entry) → true ≡ (length written == 0) → texts first ≡ preface_of front → AreRecords (texts more) entries → AreAdded front written (texts all) entries
+  added_first front [] entries none is are = (texts more, ap texts whole ∙ map-append (λ (e : Vec ℕ Global). e.items) first more ∙ ap (λ l. l ++ texts more) is, are)
+  added_first front (byte ∷ written) entries none is are = absurd (omega (arith, eqb-true (length (byte ∷ written)) 0 (sym none)))
+
+  pub short_first : All (λ bytes. length bytes.items < 256) first → All (λ bytes. length bytes.items < 256) more → All (λ bytes. length bytes.items < 256) all
+  short_first short later =
+      let P : Vec ℕ Global → Type 0 = λ bytes. length bytes.items < 256 in
+      subst (All P) (sym whole) (All-append P first more short later)
+
+  pub as_many_first : (entries : List Entry) → length more ≡ length entries → length entries ≤ length all
+  as_many_first entries as_many = omega (arith, as_many, ap length whole, length-append first more)

@@ -9,14 +9,13 @@ use Rattle.desk_core.specs.Mutation.{Ends, Then}
 use Rattle.desk_core.specs.Watch.{IsOlder}
 use Rattle.hall.specs.Looking.{HasLooked}
 use Rattle.hall.specs.Seats.{HallState, SeatState, IsCarriedOut, IsOf}
-use Rattle.hall.proofs.CarryingOut.{has_met, looked_ours}
+use Rattle.hall.proofs.CarryingOut.{has_met, looked_ours, met_ours}
 use Rattle.hall.proofs.LookingLemmas.{older_on}
 use Rattle.live_run.specs.Watched.{IsWatchedBy, guards_at, guards_in}
 use Rattle.live_run.specs.declared.watchdog_loop.WatchdogLoop.{WatchdogLoop}
 use Rattle.watchdog.specs.Falling.{HaveFailed, NoFail, OneMore, HasFallen, Down, WasRefused}
 use Rattle.watchdog.specs.Guard.{GuardState}
 use Rattle.watchdog.specs.Watching.{HasWatched, NoWish, NoRound, OneRound, Misses, HaveStepped, NoStep, OneStep, IsStep, Stays, Follows, PassesBy, Skips, Waits, Expires, IsRefused}
-use Rattle.watchdog.proofs.FallLemmas.{carried_of}
 
 -- rounds behind rounds
 pub watched_then : (kept : Option ℕ) (first second third : List GuardState) (a b c : SeatState) → HasWatched kept first a second b
@@ -82,7 +81,7 @@ pub watched_ours : (kept : Option ℕ) (watching watching_now : Option WatchdogL
     → IsWatchedBy kept watching watching_now old new → IsOf hall old → IsOf hall new
 watched_ours kept watching watching_now hall old new watched =
     watched_does (λ a b. IsOf hall a → IsOf hall b) (λ a ours. ours) (λ a b c p q ours. q (p ours)) (λ a b looked ours. looked_ours hall a b ours looked)
-    (λ a b call result carried ours. carried_of hall a b call result ours carried) kept watching watching_now old new watched
+    (λ a b call result carried ours. met_ours hall a b call result ours carried) kept watching watching_now old new watched
 
 -- and goes on from what it had seen
 pub watched_begins : (kept : Option ℕ) (watching watching_now : Option WatchdogLoop) (old new : SeatState)

@@ -1,4 +1,4 @@
-ghost use Rattle.std.specs.Prelude.{◌≡◌, vec_len, IfOk};
+ghost use Rattle.std.specs.Prelude.{◌≡◌, map, vec_len, IfOk};
 ghost use Rattle.std.specs.List.{All};
 ghost use Rattle.hall.specs.Seats.{IsOf};
 ghost use Rattle.live_run.specs.Loops.{AllLookedAndEnded};
@@ -118,7 +118,7 @@ impl<P: Probe, K: Keep> Seating<P, K> {
             back,
             ..
         } = Seating::undivided(alloc, servers, seats, counters)?;
-        let (control, report) = divided(alloc, report)?;
+        let (control, report) = divided(report)?;
         Ok(Seating {
             loops,
             control,
@@ -127,47 +127,34 @@ impl<P: Probe, K: Keep> Seating<P, K> {
         })
     }
 
-    /// The same, where the report place has all seats behind the loops'.
+    /// The same, where the report place has all seats behind the loops'. The first seat stays where all were, so that there is room for
+    /// them to come back.
     fn undivided(
         alloc: Global,
         servers: Vec<EventServer>,
-        seats: Vec<Seat<P, K>>,
+        mut seats: Vec<Seat<P, K>>,
         counters: &Arc<Counters>,
     ) -> Result<Seating<P, K>, AllocError>
         requires enough { vec_len servers < vec_len seats }
         ensures { IfOk result (IsUndivided servers.items seats.items) }
     {
-        let mut loops = Vec::with_capacity(alloc, servers.len())?;
-        let mut back = Back {
-            servers: Vec::with_capacity(alloc, servers.len())?,
-            seats: Vec::with_capacity(alloc, seats.len())?,
-            places: SessionPlaces {
-                control: None,
-                report: None,
-                watchdog: None,
-            },
-        };
-        let mut report = Vec::with_capacity(alloc, seats.len())?;
-        let mut rest = seats.into_iter();
-        back.seats.push(rest.next().unwrap()).unwrap();
-        for server in servers {
-            let seat = rest.next().unwrap();
-            let counters = counters.clone()?;
-            let seated = SeatedLoop {
-                server,
-                seat,
-                counters,
-            };
-            loops.push(seated).unwrap();
-        }
-        for seat in rest {
-            report.push(seat).unwrap();
-        }
+        let room = Vec::with_capacity(alloc, servers.len())?;
+        let mut behind = seats.split_off(1)?;
+        let report = behind.split_off(servers.len())?;
+        let loops = seated(alloc, servers, behind, counters)?;
         Ok(Seating {
             loops,
             control: Vec::new(alloc),
             report,
-            back,
+            back: Back {
+                servers: room,
+                seats,
+                places: SessionPlaces {
+                    control: None,
+                    report: None,
+                    watchdog: None,
+                },
+            },
         })
     }
 
@@ -180,8 +167,8 @@ impl<P: Probe, K: Keep> Seating<P, K> {
     {
         let Seating {
             loops,
-            control,
-            report,
+            mut control,
+            mut report,
             back,
         } = self;
         let Back {
@@ -193,12 +180,8 @@ impl<P: Probe, K: Keep> Seating<P, K> {
             servers.push(server).unwrap();
             seats.push(seat).unwrap();
         }
-        for seat in control {
-            seats.push(seat).unwrap();
-        }
-        for spare in report {
-            seats.push(spare).unwrap();
-        }
+        seats.append(&mut control).unwrap();
+        seats.append(&mut report).unwrap();
         Back {
             servers,
             seats,
@@ -207,24 +190,42 @@ impl<P: Probe, K: Keep> Seating<P, K> {
     }
 }
 
+/// Each of the servers on its seat, of which there are as many.
+fn seated<P: Probe, K: Keep>(
+    alloc: Global,
+    servers: Vec<EventServer>,
+    seats: Vec<Seat<P, K>>,
+    counters: &Arc<Counters>,
+) -> Result<Vec<SeatedLoop<P, K>>, AllocError>
+    requires each { vec_len servers ≡ vec_len seats }
+    ensures servers { IfOk result (λ loops. map (λ seated. seated.server) loops.items ≡ servers.items) }
+    ensures seats { IfOk result (λ loops. map (λ seated. seated.seat) loops.items ≡ seats.items) }
+{
+    let mut loops = Vec::with_capacity(alloc, servers.len())?;
+    let mut rest = seats.into_iter();
+    for server in servers {
+        let counters = counters.clone()?;
+        let seat = rest.next().unwrap();
+        loops
+            .push(SeatedLoop {
+                server,
+                seat,
+                counters,
+            })
+            .unwrap();
+    }
+    Ok(loops)
+}
+
 /// The seats of the control place, and those behind them, for the report place.
 fn divided<P: Probe, K: Keep>(
-    alloc: Global,
-    seats: Vec<Seat<P, K>>,
+    mut seats: Vec<Seat<P, K>>,
 ) -> Result<(Vec<Seat<P, K>>, Vec<Seat<P, K>>), AllocError>
     ensures { IfOk result (AreDivided seats.items) }
 {
     let first = usize::from(SESSION_SEATS).min(seats.len());
-    let mut control = Vec::with_capacity(alloc, first)?;
-    let mut report = Vec::with_capacity(alloc, seats.len())?;
-    let mut rest = seats.into_iter();
-    while control.len() < first {
-        control.push(rest.next().unwrap()).unwrap();
-    }
-    for seat in rest {
-        report.push(seat).unwrap();
-    }
-    Ok((control, report))
+    let report = seats.split_off(first)?;
+    Ok((seats, report))
 }
 
 impl<P: Probe + Send, K: Keep + Send> Seating<P, K> {

@@ -4,7 +4,6 @@ use Rattle.std.proofs.lemmas.List.{append-nil}
 use Rattle.std.specs.Prelude.{Some, Ok, Err}
 use Rattle.client.specs.Ask.{IsReadFor}
 use Rattle.client.specs.Reply.{IsOpen}
-use Rattle.client.specs.Request.{IsRequestText, WritesRequest}
 use Rattle.client.specs.declared.ask_fault.AskFault.TheVariants.{Read, BadResponse, Http}
 use Rattle.client.specs.declared.told.Told.{Told as Heard}
 use Rattle.web_call.specs.declared.method.Method.TheVariants.{Check}

@@ -3,14 +3,14 @@ use Rattle.std.proofs.Common.{ℕ, ◌≡◌, ◌≢◌, ◌≤◌, List, [], �
 use Rattle.std.proofs.Math.Seq.{take-nil}
 use Rattle.std.proofs.lemmas.List.{append-nil, drop_all}
 use Rattle.std.specs.Prelude.{Result, Ok, Err}
-use Rattle.httparse.specs.Grammar.{Field, ReadsResponse, print_response, status_code}
+use Rattle.httparse.specs.Grammar.{Field, ReadsResponse, print_response}
 use Rattle.httparse.specs.Spans.{FindsResponse, IsResponseAt, IsResponseOf, header_bytes, name_and_value}
 use Rattle.httparse.specs.declared.Error.{Error}
 use Rattle.httparse.specs.declared.Status.{Status}
 use Rattle.httparse.specs.declared.Status.TheVariants.{Complete, Partial}
 use Rattle.httparse.specs.declared.spans.HeaderSpan.{HeaderSpan}
 use Rattle.httparse.specs.declared.spans.ResponseSpans.{ResponseSpans}
-use Rattle.observing.specs.HttpAnswer.{IsStatusLine, LineTells, verdict_on}
+use Rattle.observing.specs.HttpAnswer.{IsStatusLine}
 
 -- where no header was written there is no field
 no_fields : (fields : List Field) → [] ≡ map name_and_value fields → fields ≡ []

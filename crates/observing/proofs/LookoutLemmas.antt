@@ -1,8 +1,8 @@
 -- How many looks begin and end.
 use Rattle.std.proofs.Common.{ℕ, ◌≡◌, ◌+◌, refl, arith, ap}
-use Rattle.std.specs.Prelude.{true, if◌then◌else◌}
+use Rattle.std.specs.Prelude.{if◌then◌else◌}
 use Rattle.observing.specs.Look.{looks_in}
-use Rattle.observing.specs.Lookout.{HasBegun, IsIdle, Runs, look_of}
+use Rattle.observing.specs.Lookout.{Runs, look_of}
 use Rattle.observing.specs.Lookout.Runs.{Rests, Begins, Hears}
 use Rattle.observing.specs.Stage.{is_over}
 use Rattle.observing.specs.declared.lookout.Lookout.{Lookout}

@@ -1,5 +1,5 @@
 -- What a look is, and what comes of what it is told.
-use Rattle.std.specs.Prelude.{ℕ, ◌≡◌, ◌≤◌, ◌++◌, nat_le, Bool, MatchBool, if◌then◌else◌, ⊤, List, Option, Some, None}
+use Rattle.std.specs.Prelude.{ℕ, ◌≡◌, ◌++◌, nat_le, MatchBool, if◌then◌else◌, ⊤, List, Option, Some, None}
 use Rattle.observing.specs.Answer.{Tells}
 use Rattle.observing.specs.Stage.{OnRefused, OnResolved, OnWaited, is_over, on_closed, on_connected}
 use Rattle.observing.specs.declared.answer.Answer.{Answer}

@@ -1,5 +1,5 @@
 -- How far a look is, and what comes of an event that is in time.
-use Rattle.std.specs.Prelude.{ℕ, ◌≡◌, ◌+◌, ◌-◌, ◌/◌, ◌<◌, ◌≤◌, nat_le, Bool, true, false, MatchBool, if◌then◌else◌}
+use Rattle.std.specs.Prelude.{ℕ, ◌≡◌, ◌+◌, ◌-◌, ◌/◌, ◌<◌, ◌≤◌, nat_le, Bool, true, false, MatchBool}
 use Rattle.observing.specs.declared.kind.Kind.{Kind}
 use Rattle.observing.specs.declared.kind.Kind.TheVariants.{Tcp, Http, GrpcWeb}
 use Rattle.observing.specs.declared.stage.Stage.{Stage}

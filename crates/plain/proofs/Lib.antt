@@ -4,3 +4,4 @@ pub mod MetricLemmas
 pub mod NameLemmas
 pub mod SlotLemmas
 pub mod InquiryLemmas
+pub mod TargetLemmas

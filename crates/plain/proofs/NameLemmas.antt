@@ -1,5 +1,5 @@
 -- The place of a name that is looked for from the first on.
-use Rattle.std.proofs.Common.{ℕ, ◌≡◌, ◌+◌, ◌<◌, ◌≤◌, ◌⊎◌, inl, inr, false, true, List, [], length, sym, ap, ◌∙◌, arith, get_or, eq-eqb, refl}
+use Rattle.std.proofs.Common.{ℕ, ◌≡◌, ◌+◌, ◌<◌, ◌≤◌, ◌⊎◌, inl, inr, false, true, List, [], length, ap, ◌∙◌, arith, get_or}
 use Rattle.std.specs.Prelude.{Some, None, slice_get}
 use Rattle.std.specs.Str.{bytes_eq}
 use Rattle.std.proofs.lemmas.Bool.{cases_lt}

@@ -1,8 +1,9 @@
 -- Texts of names, one after another.
-use Rattle.std.proofs.Common.{ℕ, suc, ◌≡◌, ◌+◌, ◌≤◌, List, [], ◌∷◌, ◌++◌, length, drop, sym, ap, ◌∙◌, arith}
-use Rattle.std.specs.Prelude.{Some, slice_get}
+use Rattle.std.proofs.Common.{ℕ, suc, ◌≡◌, ◌+◌, ◌<◌, ◌≤◌, List, [], ◌∷◌, ◌++◌, length, drop, refl, sym, ap, ◌∙◌, arith}
+use Rattle.std.specs.Prelude.{Option, Some, None, IsSome, option_copied, slice_get}
+use Rattle.std.specs.Borrow.{Bor}
 use Rattle.std.proofs.lemmas.List.{append-nil, append_assoc, drop_all}
-use Rattle.std.proofs.lemmas.Option.{slice_get_within, get_or_from_slice_get}
+use Rattle.std.proofs.lemmas.Option.{slice_get_within, slice_get-get_or, get_or_from_slice_get}
 use Rattle.std.proofs.Math.Seq.{drop-cons}
 use Rattle.plain.specs.Slots.{texts_from}
 
@@ -29,3 +30,12 @@ pub all_pushed : (text : ℕ → List ℕ → List ℕ) (slot : ℕ) (names : Li
     → whole ≡ items ++ texts_from text slot (drop slot names) → length names ≤ slot → items ≡ whole
 all_pushed text slot names whole items so_far all =
     sym (so_far ∙ ap (λ rest. items ++ texts_from text slot rest) (drop_all slot names all) ∙ append-nil items)
+
+-- there is a name in each slot below their number
+pub is_named : (names : List (List ℕ)) (count number slot : ℕ) (found : Option (Bor (List ℕ))) → option_copied found ≡ slice_get names slot
+    → slot ≡ number → number < count → count ≡ length names → IsSome found
+is_named names count number slot (Some name) is same below all = refl
+is_named names count number slot None is same below all =
+    let there : slice_get names slot ≡ Some _ = slice_get-get_or names slot [] (omega (arith, same, below, all)) in
+    let none : None ≡ slice_get names slot = is in
+    let never : None ≡ Some _ = none ∙ there in cc

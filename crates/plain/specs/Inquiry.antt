@@ -1,7 +1,6 @@
 -- What a request asks for that is no call, by its method (RFC 9110, section 9.1) and its target.
 use Rattle.std.specs.Prelude.{ℕ, if◌then◌else◌, List, Option, None, Some, codes}
 use Rattle.std.specs.Str.{bytes_eq}
-use Rattle.httparse.specs.Grammar.{RequestHead}
 use Rattle.plain.specs.declared.inquiry.Inquiry.{Inquiry}
 use Rattle.plain.specs.declared.verb.Verb.{Verb}
 use Rattle.plain.specs.declared.verb.Verb.TheVariants.{Get, Head, Post, Other}

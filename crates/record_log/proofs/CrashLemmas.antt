@@ -1,5 +1,5 @@
 -- What a device that keeps its states owes to the rule of devices.
-use Rattle.std.proofs.Common.{◌≡◌, inl, inr, ⊎_elim, ℕ, ◌+◌, ◌-◌, ◌≤◌, List, [], ◌∷◌, ◌++◌, length, take, drop, Some, refl, sym, ◌∙◌, ap, subst, arith, append_assoc, length-append}
+use Rattle.std.proofs.Common.{◌≡◌, inl, inr, ⊎_elim, ℕ, ◌+◌, ◌-◌, ◌<◌, ◌≤◌, List, [], ◌∷◌, ◌++◌, length, take, drop, None, Some, refl, sym, ◌∙◌, ap, subst, arith, append_assoc, length-append}
 use Rattle.std.proofs.lemmas.List.{take_at, length-take-le, length-drop}
 use Rattle.std.proofs.lemmas.Slice.{drop-append-drop}
 use Rattle.record_log.specs.Device.{IsWritten, IsTorn, Follows, Elapses}
@@ -68,3 +68,19 @@ noted past state = record {
   nothing_else = λ t c le left. ⊎_elim inr (λ was. inl was.1) left;
   keeps = λ t c le left. inr (le, left);
 }
+
+-- so also where the state is noted of a file
+pub noted_after : (past states : List State) (place bytes : List ℕ) → states ≡ after place bytes past → Elapses (length past) (length states) (LeftSince past) (LeftSince states) (MayLeave states)
+noted_after past states [] bytes is =
+    subst (λ l. Elapses (length past) (length l) (LeftSince past) (LeftSince l) (MayLeave l)) (sym is) (noted past (record { bytes = contents_of past; write = None }))
+noted_after past states (at ∷ more) bytes is =
+    subst (λ l. Elapses (length past) (length l) (LeftSince past) (LeftSince l) (MayLeave l)) (sym is)
+    (noted past (record { bytes = take at (contents_of past) ++ bytes ++ drop (at + length bytes) (contents_of past); write = Some (at, length bytes) }))
+
+-- and its bytes are fewer than a limit, as those before it and the end of the write are
+pub bounded_after : (past states : List State) (at limit : ℕ) (bytes : List ℕ) → states ≡ after (at ∷ []) bytes past → at ≤ length (contents_of past) → length (contents_of past) < limit → at + length bytes < limit
+    → length (contents_of states) < limit
+bounded_after past states at limit bytes is place before end =
+    let long : length (contents_of states) ≡ at + length bytes + (length (contents_of past) - (at + length bytes)) =
+    whole at (length bytes) (contents_of past) bytes (contents_of states) place (omega arith) (ap contents_of is) in
+    omega (arith, long, before, end)

@@ -1,7 +1,16 @@
 -- How a run of device calls goes on.
-use Rattle.std.proofs.Common.{inl, inr, ⊎_elim, ℕ, ◌≤◌, List, Result, arith}
+use Rattle.std.proofs.Common.{◌≡◌, inl, inr, ⊎_elim, ℕ, ◌<◌, ◌≤◌, List, Result, Ok, Err, arith}
 use Rattle.record_log.specs.declared.device.DeviceError.{DeviceError}
+use Rattle.record_log.specs.declared.device.DeviceError.TheVariants.{Failed}
 use Rattle.record_log.specs.Device.{Elapses, LeavesOnly, IsCounted}
+
+-- what is `Ok` is no error
+pub no_error : {T E P : Type 0} (value : T) (error : E) → Ok value ≡ Err error → P
+no_error value error is = cc is
+
+-- an error whose failure was counted
+pub counted_error : {T : Type 0} (before now : ℕ) (error : DeviceError) → before ≤ now → (error ≡ Failed → before < now) → IsCounted {T = T} before now (Err error)
+counted_error before now error later counted = record { later = later; failed = λ is. counted (cc is) }
 
 -- failures are counted from an earlier number on too
 pub counted_since : {T : Type 0} (before mid now : ℕ) (result : Result T DeviceError) → before ≤ mid → IsCounted mid now result → IsCounted before now result

@@ -35,13 +35,13 @@ use std::time::Clock;
 use watchdog::Expectations;
 
 /// What a server is told that runs over a hall that is set up.
-#[derive(Drop)]
+#[derive(Clone, Copy)]
 pub struct Setting<'a, 'b> {
     pub options: RunOptions<'a>,
     pub loops: u16,
     /// What the script expects.
     pub expected: &'b [Expected],
-    pub expectations: Arc<Expectations>,
+    pub expectations: &'b Arc<Expectations>,
 }
 
 /// What listens, and has told where.
@@ -121,7 +121,7 @@ where
         notifier,
         outlet,
     } = supervisor;
-    let (loops, address, lines) = listen(rt, alloc, made, &setting, sockets)?;
+    let (loops, address, lines) = listen(rt, alloc, made, setting, sockets)?;
     let outlet = outlet_for(setting.options, outlet);
     let begun = watched(rt, alloc, made, setting, loops, address, outlet)?;
     print_lines(rt, &lines)?;
@@ -134,19 +134,19 @@ fn listen<'a, R, P: Probe, K: Keep>(
     rt: &R,
     alloc: Global,
     made: &SetUpHall<P, K>,
-    setting: &Setting<'a, '_>,
+    setting: Setting<'a, '_>,
     mut sockets: HandedOver,
 ) -> Result<(Loops, SocketAddr, ListeningLines), RunFailure<'a>>
 where
     R: Files + Clock + Net<Listener = TcpListener, Stream = TcpStream>,
     requires set_up { (calls : List (Option Call)) × IsWhollySetUp calls made.now }
-    ensures each { IfOk result (λ begun. vec_len begun.0.servers ≡ setting.now.loops) }
-    ensures limits { IfOk result (λ begun. AreLoopsOf (limits_in setting.now.options.bounds)
+    ensures each { IfOk result (λ begun. vec_len begun.0.servers ≡ setting.entry.loops) }
+    ensures limits { IfOk result (λ begun. AreLoopsOf (limits_in setting.entry.options.bounds)
         begun.0.servers.items) }
     ensures controlled { IfOk result (λ begun. IsSome begun.0.control ↔ IsSome
-        setting.now.options.control) }
+        setting.entry.options.control) }
     ensures reported { IfOk result (λ begun. IsSome begun.0.report ↔ IsSome
-        setting.now.options.report) }
+        setting.entry.options.report) }
     ensures all { IfOk result (λ begun. IfSome begun.0.control
         (λ server. terms_of server ≡ terms_by Rights.All made.now.hall.most)) }
     ensures reports { IfOk result (λ begun. IfSome begun.0.report
@@ -163,7 +163,7 @@ where
         options.bounds.limits(),
         setting.loops,
         made.most(),
-        &setting.expectations,
+        setting.expectations,
     )?;
     Ok((loops, address, lines))
 }
@@ -199,7 +199,7 @@ where
         report,
     } = loops;
     let gauges = gauges_of(alloc, &servers, &control, &report)?;
-    let counters = counters_of(alloc, made.most(), &gauges, &setting.expectations)?;
+    let counters = counters_of(alloc, made.most(), &gauges, setting.expectations)?;
     let setup = setup_of(made, address, setting.options.bounds);
     let (watchdog, news) = watchdog_of(rt, alloc, made, setting, news, outlet, setup, gauges)?;
     Ok(Begun {

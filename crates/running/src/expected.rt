@@ -130,7 +130,7 @@ pub fn watch_over<'a, R: Net + Clock, P: Probe, K: Keep>(
     alloc: Global,
     made: &SetUpHall<P, K>,
     expected: &[Expected],
-    expectations: Arc<Expectations>,
+    expectations: &Arc<Expectations>,
 ) -> Result<Watching, RunFailure<'a>> {
     let behind = entries_of(made);
     for Expected { slot, seconds } in expected {
@@ -141,6 +141,7 @@ pub fn watch_over<'a, R: Net + Clock, P: Probe, K: Keep>(
         expectations.expect(*slot, wish);
     }
     let watchdog = Watchdog::new(alloc, expectations.clone()?)?;
+    let expectations = expectations.clone()?;
     match WatchdogLoop::new(rt, alloc, watchdog) {
         Ok(watchdog) => Ok(Watching {
             watchdog,

@@ -110,7 +110,7 @@ where
         options,
         loops,
         expected: &expected,
-        expectations,
+        expectations: &expectations,
     };
     run_set_up(rt, alloc, maker, made, setting, supervisor)
 }
@@ -149,7 +149,7 @@ where
         options,
         loops,
         expected: &expected,
-        expectations,
+        expectations: &expectations,
     };
     run_set_up(rt, alloc, maker, made, setting, supervisor)
 }

@@ -1,11 +1,17 @@
 -- The changes that lines ask for.
-use Rattle.std.proofs.Common.{◌≡◌, ◌≢◌, ℕ, List, ◌∷◌, map, Option, Some, refl, sym, ap, ◌∙◌}
+use Rattle.std.proofs.Common.{◌≡◌, ◌≢◌, ℕ, List, ◌∷◌, map, Option, Some, Result, false, refl, sym, ap, subst, ◌∙◌}
 use Rattle.desk_core.specs.declared.call.Call.{Call}
+use Rattle.desk_core.specs.declared.refusal.Refusal.{Refusal}
+use Rattle.desk_core.specs.declared.reply.Reply.{Reply}
+use Rattle.desk_core.specs.Desk.{State, HasAnswered}
+use Rattle.desk_core.specs.Past.{past}
+use Rattle.desk_core.specs.Watch.{WatchState}
 use Rattle.script.specs.declared.line.Line.{Line}
 use Rattle.script.specs.declared.line.Line.TheVariants.{Register, Retire, Order, Check, Open, Step, Board}
 use Rattle.script.specs.declared.script.Mode.{Mode}
 use Rattle.script.specs.declared.script.Mode.TheVariants.{Replay, Serve, Run}
 use Rattle.script.specs.Change.{line_change, line_changes}
+use Rattle.script.specs.Run.{RunState, IsChanged}
 use Rattle.script.specs.Script.{ScriptParts, watches_after, IsChange, IsAllowed, TakesLines, IsScript}
 use Rattle.script.specs.Script.TakesLines.{AtEnd, AtGo, NextLine}
 
@@ -46,3 +52,20 @@ in_place mode names watches body lines rest other (NextLine w number text line o
 
 pub changes_in_place : (mode : Mode) (bytes : List ℕ) (script : ScriptParts) → mode ≢ Replay → IsScript mode bytes script → StandInPlace script.names script.lines
 changes_in_place mode bytes script other is = in_place mode script.names 0 is.body.lines script.lines is.behind_go other is.lines
+
+-- a run whose desk answered is changed
+pub run_changed : (old : RunState) (desk after : State) (names : List (List ℕ)) (watches : List WatchState) (call : Option Call) (asked : Call) (result given : Result Reply Refusal)
+    → record { names = names; max_entries = desk.max_entries; entries = past desk.journal; watches = watches } ≡ old → call ≡ Some asked
+    → HasAnswered desk after 0 asked given → result ≡ given → desk.is_stored ≡ false
+    → IsChanged old (record { names = names; max_entries = after.max_entries; entries = past after.journal; watches = watches }) call result
+run_changed old desk after names watches call asked result given view called answered is unstored =
+    let new : RunState = record { names = names; max_entries = after.max_entries; entries = past after.journal; watches = watches } in
+    let before : RunState = record { names = names; max_entries = desk.max_entries; entries = past desk.journal; watches = watches } in
+    let changed : IsChanged before new (Some asked) given = record {
+      names = refl;
+      most = answered.most;
+      watches = refl;
+      answer = answered.answer;
+      unstored = answered.stored.unstored unstored;
+    } in
+    rw (called, is) (subst (λ run. IsChanged run new (Some asked) given) view changed)

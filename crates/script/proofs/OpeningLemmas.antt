@@ -1,5 +1,5 @@
 -- The opening of a script, line by line.
-use Rattle.std.proofs.Common.{ℕ, ◌≡◌, ◌≢◌, List, [], ◌∷◌, codes, Option, None, Some, Result, Ok, Err, IfOk, IfErr, Bor, refl, sym, ap, ◌∙◌, subst, unwrap_or}
+use Rattle.std.proofs.Common.{ℕ, ◌≡◌, ◌≢◌, ◌==◌, Bool, false, List, [], ◌∷◌, length, map, codes, Option, None, Some, Result, Ok, Err, IfOk, IfErr, Bor, refl, sym, ap, ◌∙◌, subst, unwrap_or}
 use Rattle.std.specs.Option.{option_map}
 use Rattle.desk_core.specs.declared.catalogue.CatalogueFault.{CatalogueFault}
 use Rattle.desk_core.specs.Fault.{fault_in}
@@ -13,7 +13,7 @@ use Rattle.script.specs.Opening.TakesMax.{SaysMax, LeavesMaxOut}
 use Rattle.script.specs.Opening.IsCatalogueFault.{NoLine, OtherLine, BadNames}
 use Rattle.script.specs.Opening.IsMaxFault.{NoMaxLine, OtherMaxLine}
 use Rattle.script.specs.Reading.{IsReading}
-use Rattle.script.specs.Word.{IsNumber}
+use Rattle.script.specs.Word.{name_of, IsNumber}
 
 -- a line without words lists no names, and says no number
 pub no_names : (line : List ℕ) → ((words : List (List ℕ)) → ¬ AreWords line words) → (names : List (List ℕ)) → ¬ IsCatalogueLine line names
@@ -33,6 +33,14 @@ max_line line items words word None are view cut none = λ max is.
 max_line line items words word (Some max) are view cut is =
     let whole : texts items ≡ codes "max" ∷ word ∷ [] = rw (← view) cut in
     record { word = word; are = subst (λ (all : List (List ℕ)). AreWords line all) whole are; number = is }
+
+-- the names behind `catalogue` are what the line lists, where there is one
+pub lists_names : (line : List ℕ) (items words behind : List (Bor (List ℕ))) (names : List (List ℕ)) (empty : Bool) → AreWords line (texts items) → words ≡ items
+    → texts words ≡ codes "catalogue" ∷ texts behind → empty ≡ (length behind == 0) → empty ≡ false → names ≡ map name_of (texts behind) → IsCatalogueLine line names
+lists_names line items words [] names empty are view cut is some same = cc
+lists_names line items words (first ∷ others) names empty are view cut is some same =
+    let whole : texts items ≡ codes "catalogue" ∷ texts (first ∷ others) = rw (← view) cut in
+    record { words = texts (first ∷ others); are = subst (λ (all : List (List ℕ)). AreWords line all) whole are; some = λ none. cc; names_are = same }
 
 -- no line is left
 pub no_line : (left : Left) (end : ℕ) → left.lines ≡ [] → end ≡ left.end → IsCatalogueFault left (BadLine end)

@@ -9,13 +9,13 @@ use Rattle.script.specs.declared.line.Line.{Line}
 use Rattle.script.specs.declared.line.Line.TheVariants as lines
 use Rattle.script.specs.declared.outcome.Outcome.{Outcome}
 use Rattle.script.specs.Change.{line_change}
-use Rattle.script.specs.Run.{RunState, IsLineRun, ScriptRun}
+use Rattle.script.specs.Run.{RunState, IsLineRun, IsScriptRun, ScriptRun, opening}
 use Rattle.script.specs.Rules.{rule_in, rules_in}
 use Rattle.script.proofs.RuleLemmas.{left_is, rules_behind}
 use Rattle.script.specs.Run.IsLineRun.{Changes, Checks, Opens, Steps, Packs}
 use Rattle.script.specs.Run.ScriptRun.{Ends, Runs}
 use Rattle.script.specs.RunText.{outcome_text}
-use Rattle.script.specs.Script.{StepsFollow, watches_after}
+use Rattle.script.specs.Script.{ScriptParts, StepsFollow, watches_after}
 
 -- a run under way: what was printed so far and what the lines that are left print are together what all lines print; and the
 -- lines that are left find the watches and the rules that they need
@@ -69,3 +69,10 @@ running-end start run whole items lines i rules printed output same past is runn
     let none : drop i lines ≡ [] = ap (drop i) (sym same) ∙ drop_of_length-le items past in
     let ended = subst (λ left. IsRunning start whole run left rules printed) none running in
     subst (λ text. ScriptRun start whole text) (append-nil printed ∙ sym is) (ended.on [] (Ends run))
+
+-- what a run prints of all lines of a script is what the script comes to
+pub script_run : (script : ScriptParts) (run : RunState) (names : List (List ℕ)) (max : ℕ) (items lines : List Line) → run ≡ opening names max → names ≡ script.names
+    → max ≡ script.max → items ≡ lines → lines ≡ script.lines → (output : List ℕ) → ScriptRun run items output → IsScriptRun script output
+script_run script run names max items lines run_is names_are max_is same lines_are output printed =
+    let start : run ≡ opening script.names script.max = run_is ∙ ap (λ n. opening n max) names_are ∙ ap (opening script.names) max_is in
+    subst (λ r. ScriptRun r script.lines output) start (subst (λ l. ScriptRun run l output) (same ∙ lines_are) printed)

@@ -45,40 +45,34 @@ impl fmt::Display for Complaint<'_> {
     ghost output = { λ complaint. Some (complaint_text complaint) };
 
     fn fmt<W: fmt::Write>(&self, f: &mut fmt::Formatter<W>) -> fmt::Result {
-        match *self {
-            Complaint::NeedsCatalogue => f.write_str("expected catalogue and the names"),
-            Complaint::EmptyWord => f.write_str("an empty word, expected one space between words"),
-            Complaint::UnknownLine => f.write_str(
-                "no such line, expected register, retire, pass, fail, up, down, shutdown, \
-                    resume or expect",
-            ),
-            Complaint::OfOtherScripts => f.write_str("not in a script to run"),
-            Complaint::NeedsRule => {
-                f.write_str("expected register NAME and then threshold, manual or depends")
-            }
-            Complaint::UnknownRule => {
-                f.write_str("no such rule, expected threshold, manual or depends")
-            }
-            Complaint::NeedsCounts => {
-                f.write_str("expected threshold F, threshold F R or threshold F R unknown")
-            }
-            Complaint::NeedsNames => f.write_str("expected depends and names of the catalogue"),
+        let text = match *self {
             Complaint::NotListed(word) => {
                 let word = Quoted(word);
-                write!(f, "{word} is not in the catalogue")
+                return write!(f, "{word} is not in the catalogue");
             }
             Complaint::NoNumber(word) => {
                 let word = Quoted(word);
-                write!(f, "{word} is no number from 0 to 4294967295")
+                return write!(f, "{word} is no number from 0 to 4294967295");
             }
-            Complaint::NeedsName(word) => write!(f, "expected {word} NAME"),
-            Complaint::StandsAlone(word) => write!(f, "expected {word} alone"),
-            Complaint::NeedsMax => f.write_str("expected max N"),
-            Complaint::MaxTooLate => f.write_str("expected max right after the catalogue"),
-            Complaint::NeedsSeconds => {
-                f.write_str("expected expect NAME SECONDS, 86400 seconds at most")
+            Complaint::NeedsName(word) => return write!(f, "expected {word} NAME"),
+            Complaint::StandsAlone(word) => return write!(f, "expected {word} alone"),
+            Complaint::NeedsCatalogue => "expected catalogue and the names",
+            Complaint::EmptyWord => "an empty word, expected one space between words",
+            Complaint::UnknownLine => {
+                "no such line, expected register, retire, pass, fail, up, down, shutdown, \
+                    resume or expect"
             }
-        }
+            Complaint::OfOtherScripts => "not in a script to run",
+            Complaint::NeedsRule => "expected register NAME and then threshold, manual or depends",
+            Complaint::UnknownRule => "no such rule, expected threshold, manual or depends",
+            Complaint::NeedsCounts =>
+                "expected threshold F, threshold F R or threshold F R unknown",
+            Complaint::NeedsNames => "expected depends and names of the catalogue",
+            Complaint::NeedsMax => "expected max N",
+            Complaint::MaxTooLate => "expected max right after the catalogue",
+            Complaint::NeedsSeconds => "expected expect NAME SECONDS, 86400 seconds at most",
+        };
+        f.write_str(text)
     }
 }
 

@@ -1,7 +1,8 @@
-ghost use Rattle.std.specs.Prelude.{IfOk};
+ghost use Rattle.std.specs.Prelude.{◌≡◌, ℕ, List, [], ◌∷◌, codes, Some, IfOk};
 ghost use Rattle.script.specs.Line.{IsLine, IsLineText};
 ghost use Rattle.script.specs.TextLines.{texts};
 ghost use Rattle.script.specs.Reading.{IsReading};
+ghost use Rattle.script.specs.Word.{name_of};
 
 use crate::name::read_name;
 use crate::number::number_of;
@@ -106,23 +107,62 @@ fn line_of(alloc: Global, catalogue: &Catalogue, words: &[&str]) -> Result<Optio
     ensures { IfOk result (λ line. IsReading (IsLine catalogue.now) (texts words.now) line) }
 {
     if let ["register", name, rule @ ..] = words {
-        return match rule_of(catalogue, rule) {
-            Some(rule) => Ok(Some(Line::Register(read_name(alloc, name)?, rule))),
-            None => Ok(None),
-        };
+        return register_line(alloc, catalogue, name, rule);
     }
     match words {
-        ["retire", name] => Ok(Some(Line::Retire(read_name(alloc, name)?))),
-        ["check", name] => Ok(Some(Line::Check(read_name(alloc, name)?))),
-        ["open", name] => Ok(Some(Line::Open(read_name(alloc, name)?))),
-        ["step", word] => match number_of(word) {
-            Some(watch) => Ok(Some(Line::Step(watch))),
-            None => Ok(None),
-        },
+        ["retire", name] => retire_line(alloc, name),
+        ["check", name] => check_line(alloc, name),
+        ["open", name] => open_line(alloc, name),
+        ["step", word] => Ok(step_line(word)),
         ["board"] => Ok(Some(Line::Board)),
         _ => match order_of(alloc, words)? {
             Some(order) => Ok(Some(Line::Order(order))),
             None => Ok(None),
         },
     }
+}
+
+/// The line `register` of this name and rule, if the rule reads.
+fn register_line(
+    alloc: Global,
+    catalogue: &Catalogue,
+    name: &str,
+    rule: &[&str],
+) -> Result<Option<Line>, AllocError>
+    ensures { IfOk result (λ line. IsReading (IsLine catalogue.now)
+        (codes "register" ∷ name.now ∷ texts rule.now) line) }
+{
+    match rule_of(catalogue, rule) {
+        Some(rule) => Ok(Some(Line::Register(read_name(alloc, name)?, rule))),
+        None => Ok(None),
+    }
+}
+
+/// The line `retire` of this name.
+fn retire_line(alloc: Global, name: &str) -> Result<Option<Line>, AllocError>
+    ensures { IfOk result (λ line. line ≡ Some (Line.Retire (name_of name.now))) }
+{
+    Ok(Some(Line::Retire(read_name(alloc, name)?)))
+}
+
+/// The line `check` of this name.
+fn check_line(alloc: Global, name: &str) -> Result<Option<Line>, AllocError>
+    ensures { IfOk result (λ line. line ≡ Some (Line.Check (name_of name.now))) }
+{
+    Ok(Some(Line::Check(read_name(alloc, name)?)))
+}
+
+/// The line `open` of this name.
+fn open_line(alloc: Global, name: &str) -> Result<Option<Line>, AllocError>
+    ensures { IfOk result (λ line. line ≡ Some (Line.Open (name_of name.now))) }
+{
+    Ok(Some(Line::Open(read_name(alloc, name)?)))
+}
+
+/// The line `step` of this number, if it is one.
+fn step_line(word: &str) -> Option<Line>
+    ensures { (names : List (List ℕ))
+        → IsReading (IsLine names) (codes "step" ∷ word.now ∷ []) result }
+{
+    Some(Line::Step(number_of(word)?))
 }

@@ -1,7 +1,8 @@
-ghost use Rattle.std.specs.Prelude.{IfOk};
+ghost use Rattle.std.specs.Prelude.{◌≡◌, [], ◌∷◌, codes, Some, IfOk};
 ghost use Rattle.script.specs.Question.{IsQuestion, IsQuestionText};
 ghost use Rattle.script.specs.Reading.{IsReading};
 ghost use Rattle.script.specs.TextLines.{texts};
+ghost use Rattle.script.specs.Word.{name_of};
 
 use crate::name::read_name;
 use crate::number::number_of;
@@ -35,12 +36,30 @@ fn question_of(alloc: Global, words: &[&str]) -> Result<Option<Question>, AllocE
     ensures { IfOk result (λ question. IsReading IsQuestion (texts words.now) question) }
 {
     match words {
-        ["why", name] => Ok(Some(Question::Why(read_name(alloc, name)?))),
-        ["status", name] => Ok(Some(Question::Status(read_name(alloc, name)?))),
-        ["entry", word] => match number_of(word) {
-            Some(place) => Ok(Some(Question::Entry(place))),
-            None => Ok(None),
-        },
+        ["why", name] => why_question(alloc, name),
+        ["status", name] => status_question(alloc, name),
+        ["entry", word] => Ok(entry_question(word)),
         _ => Ok(None),
     }
+}
+
+/// The question why the service of this name has its status.
+fn why_question(alloc: Global, name: &str) -> Result<Option<Question>, AllocError>
+    ensures { IfOk result (λ question. question ≡ Some (Question.Why (name_of name.now))) }
+{
+    Ok(Some(Question::Why(read_name(alloc, name)?)))
+}
+
+/// The question how the service of this name stands.
+fn status_question(alloc: Global, name: &str) -> Result<Option<Question>, AllocError>
+    ensures { IfOk result (λ question. question ≡ Some (Question.Status (name_of name.now))) }
+{
+    Ok(Some(Question::Status(read_name(alloc, name)?)))
+}
+
+/// The question for the entry of this place, if it is a number.
+fn entry_question(word: &str) -> Option<Question>
+    ensures { IsReading IsQuestion (codes "entry" ∷ word.now ∷ []) result }
+{
+    Some(Question::Entry(number_of(word)?))
 }

@@ -28,12 +28,12 @@ fn threshold_of(words: &[&str]) -> Option<Rule>
     ensures { IsReading IsThreshold (texts words.now) result }
 {
     let (fall, rise, start) = match words {
-        [fall] => (number_of(fall)?, 1, Start::Up),
-        [fall, rise] => (number_of(fall)?, number_of(rise)?, Start::Up),
-        [fall, rise, "unknown"] => (number_of(fall)?, number_of(rise)?, Start::Unknown),
+        [fall] => (number_of(fall), Some(1), Start::Up),
+        [fall, rise] => (number_of(fall), number_of(rise), Start::Up),
+        [fall, rise, "unknown"] => (number_of(fall), number_of(rise), Start::Unknown),
         _ => return None,
     };
-    Some(Rule::Threshold(fall, rise, start))
+    Some(Rule::Threshold(fall?, rise?, start))
 }
 
 /// The slots of the words' names, if all are listed: bit i is slot i.

@@ -1,6 +1,8 @@
 -- Entries whose changes are made again, the oldest first.
-use Rattle.std.proofs.Common.{◌≡◌, ℕ, ◌+◌, ◌<◌, ◌≤◌, List, [], ◌∷◌, ◌++◌, length, take, get_or, refl, sym, ap, subst, ◌∙◌, arith}
-use Rattle.std.specs.Prelude.{Option, Some, Result, Ok}
+use Rattle.std.proofs.Common.{◌≡◌, ℕ, ◌+◌, ◌<◌, ◌≤◌, List, [], ◌∷◌, ◌++◌, length, take, get_or, Bool, true, false, sym, ap, subst, ◌∙◌, rules}
+use denote.Enum.Bare.{sameb, same_true}
+use Rattle.desk_core.specs.contracts.reply.Reply.{the_type}
+use Rattle.std.specs.Prelude.{Option, Some, Result, Ok, Err}
 use Rattle.std.proofs.lemmas.List.{map_more}
 use Rattle.std.proofs.Math.Seq.{take_all}
 use Rattle.desk_core.specs.declared.call.Call.{Call}
@@ -12,6 +14,7 @@ use Rattle.desk_core.specs.Mutation.AreAnswered.{Ends}
 use Rattle.hall.specs.Seats.{SeatState, IsCarriedOut}
 use Rattle.hall.specs.CarriedOut.{HasCarriedOut}
 use Rattle.hall.proofs.CarryingOut.{has_met, meets_more}
+use Rattle.server.specs.declared.again_fault.AgainFault.{AgainFault}
 use Rattle.server.specs.Again.{changes_of, replies_of}
 
 -- so many of them were made
@@ -42,3 +45,22 @@ pub all_made : (old new : SeatState) (all : List Entry) (i : ℕ) (results : Lis
     → HasCarriedOut old new (changes_of all) results
 all_made old new all i results past made =
     has_met old new (changes_of all) results (subst (λ some. AreAnswered IsCarriedOut old new (changes_of some) results) (take_all i all past) made.met)
+
+-- each has its reply
+pub all_replied : (old new : SeatState) (all : List Entry) (i : ℕ) (results : List (Result Reply Refusal)) → length all ≤ i → AreMade old new (take i all) results
+    → results ≡ replies_of all
+all_replied old new all i results past made = made.replies ∙ ap replies_of (take_all i all past)
+
+-- a change whose reply is the one that was asked for
+pub made_as : (old new : SeatState) (call : Option Call) (made asked : Reply) (is_same : Bool) → is_same ≡ sameb the_type made asked
+    → ◌≡◌ {A = Result Bool AgainFault} (Ok is_same) (Ok true) → IsCarriedOut old new call (Ok made) → IsCarriedOut old new call (Ok asked)
+made_as old new call made asked is_same is told carried =
+    let same : is_same ≡ true = cc in
+    subst (λ reply. IsCarriedOut old new call (Ok reply)) (same_true the_type (search rules) made asked (sym is ∙ same)) carried
+
+-- neither a reply that differs nor a fault is a change that was made
+pub not_made : {Claim : Type 0} → ◌≡◌ {A = Result Bool AgainFault} (Ok false) (Ok true) → Claim
+not_made is = cc
+
+pub not_faulty : {Claim : Type 0} (fault : AgainFault) → ◌≡◌ {A = Result Bool AgainFault} (Err fault) (Ok true) → Claim
+not_faulty fault is = cc

@@ -1,5 +1,5 @@
 -- What seats have made of their own, where the first of them alone has made changes.
-use Rattle.std.proofs.Common.{◌≡◌, ℕ, zero, suc, ◌+◌, ◌-◌, ◌<◌, ◌≤◌, List, [], ◌∷◌, ◌++◌, map, length, get_or, sym, refl, ap, subst, ◌∙◌, arith, length-append}
+use Rattle.std.proofs.Common.{◌≡◌, ℕ, zero, suc, ◌+◌, ◌<◌, ◌≤◌, List, [], ◌∷◌, ◌++◌, map, length, sym, refl, ap, subst, ◌∙◌, arith, length-append}
 use Rattle.std.specs.Prelude.{Bool, true, false, cond, ◌==◌, filter, reverse, Option, Result, slice_set}
 use Rattle.std.specs.List.{All, sum_by, range_with_len, slice_index_or}
 use Rattle.std.proofs.lemmas.List.{append-nil, length-reverse, length-set, reverse-reverse}

@@ -1,14 +1,12 @@
 -- A store for a hall whose first seat alone has made changes, all of which it has seen.
-use Rattle.std.proofs.Common.{◌≡◌, ℕ, ◌<◌, ◌≤◌, List, length, OnOk, Ok, Err, Option, Result, sym, ap, subst, ◌∙◌, arith}
+use Rattle.std.proofs.Common.{◌≡◌, ◌<◌, ◌≤◌, List, length, OnOk, Ok, Err, Option, Result, sym, ap, subst, ◌∙◌, arith}
 use Rattle.std.specs.Prelude.{slice_set}
 use Rattle.std.specs.List.{slice_index_or}
 use Rattle.desk_core.specs.declared.call.Call.{Call}
 use Rattle.desk_core.specs.declared.entry.Entry.{Entry}
-use Rattle.desk_core.specs.declared.refusal.Refusal.{Refusal}
-use Rattle.desk_core.specs.declared.reply.Reply.{Reply}
 use Rattle.desk_core.specs.Left.{Left}
 use Rattle.desk_core.specs.Past.{past}
-use Rattle.hall.specs.Seats.{HallState, SeatState, GoesOn, own_calls, new_seats}
+use Rattle.hall.specs.Seats.{SeatState, GoesOn, own_calls, new_seats}
 use Rattle.hall.specs.CarriedOut.{replied}
 use Rattle.server.specs.Setup.{AreSetUp, SetUpState}
 use Rattle.server.specs.Storing.{HasItsEntries}

@@ -1,7 +1,6 @@
 -- Fails of a seat, one more at a time.
 use Rattle.std.proofs.Common.{◌≡◌, ℕ, Bool, true, false, Some, ap, ◌∙◌}
 use Rattle.std.specs.Prelude.{Option, Result, Ok, Err, is_err}
-use Rattle.desk_core.specs.declared.call.Call.{Call}
 use Rattle.desk_core.specs.declared.call.Call.TheVariants.{Observe}
 use Rattle.desk_core.specs.declared.call.Finding.TheVariants.{Fail}
 use Rattle.desk_core.specs.declared.refusal.Refusal.{Refusal}
@@ -16,17 +15,11 @@ use Rattle.watchdog.specs.Falling.{HaveFailed, OneMore, HasFallen, WasRefused}
 pub looked_of : (old new : SeatState) → GoesOn old new → own_calls new ≡ own_calls old → HasLooked old new
 looked_of old new goes kept = record { same = goes.same; begins = goes.begins; own = kept }
 
--- a seat that goes on, or that a change was asked of, is still the hall's
+-- a seat that goes on is still the hall's
 pub gone_of : (hall : HallState) (old new : SeatState) → IsOf hall old → GoesOn old new → IsOf hall new
 gone_of hall old new ours goes = record {
   table = ap (λ (seat : SeatState). seat.table) goes.same ∙ ours.table;
   most = ap (λ (seat : SeatState). seat.most) goes.same ∙ ours.most;
-}
-
-pub carried_of : (hall : HallState) (old new : SeatState) (call : Option Call) (result : Result Reply Refusal) → IsOf hall old → IsCarriedOut old new call result → IsOf hall new
-carried_of hall old new call result ours carried = record {
-  table = ap (λ (seat : SeatState). seat.table) carried.same ∙ ours.table;
-  most = ap (λ (seat : SeatState). seat.most) carried.same ∙ ours.most;
 }
 
 -- a fail was refused

@@ -1,5 +1,6 @@
 pub mod FailLemmas
 pub mod FallLemmas
+pub mod FoundLemmas
 pub mod LawLemmas
 pub mod MetLemmas
 pub mod StepLemmas

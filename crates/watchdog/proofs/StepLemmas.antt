@@ -1,18 +1,22 @@
 -- Steps of guards, one more at a time.
-use Rattle.std.proofs.Common.{◌≡◌, ℕ, zero, suc, ◌+◌, ◌-◌, ◌<◌, ◌≤◌, Bool, true, false, List, [], ◌∷◌, length, take, drop, get_or, set, refl, ap, sym, subst, ◌∙◌, inl, inr, arith}
+use Rattle.std.proofs.Common.{◌≡◌, ℕ, ◌+◌, ◌-◌, ◌<◌, ◌≤◌, Bool, true, false, List, [], ◌∷◌, ◌++◌, length, take, drop, get_or, set, refl, ap, sym, subst, ◌∙◌, ◌⊎◌, inl, inr, arith}
 use Rattle.std.specs.Prelude.{Option}
 use Rattle.std.specs.Time.{instant_nanos}
 use Rattle.std.specs.declared.time.Instant.{Instant}
 use Rattle.std.specs.List.{All}
-use Rattle.std.proofs.lemmas.List.{drop-drop, drop-take, length-drop, take_more_set}
+use Rattle.std.proofs.lemmas.Bool.{cases_lt}
+use Rattle.std.proofs.Math.Seq.{get_or-append_seam}
+use Rattle.std.proofs.lemmas.List.{drop-drop, drop-take, get_or_append_left, length-drop, take_more_set}
 use Rattle.std.proofs.lemmas.List.Elements.{All-append, All-cons}
 use Rattle.desk_core.specs.declared.entry.Entry.{Entry}
 use Rattle.desk_core.specs.Past.{past}
 use Rattle.hall.specs.Seats.{SeatState}
 use Rattle.watchdog.specs.Timer.{is_overdue}
+use Rattle.watchdog.specs.declared.met.Met.{Met}
+use Rattle.watchdog.specs.declared.met.Met.TheVariants.{Looked, Refused}
 use Rattle.watchdog.specs.declared.wish.Wish.{Wish}
 use Rattle.watchdog.specs.Falling.{HasFallen}
-use Rattle.watchdog.specs.Guard.{GuardState, followed, looked, refused, wishing}
+use Rattle.watchdog.specs.Guard.{GuardState, followed, fresh, looked, refused, wishing}
 use Rattle.watchdog.specs.Watching.{HaveStepped, NoStep, OneStep, HaveWished, OneWish, IsStep, Expires, Follows, IsRefused, WasLooked}
 
 -- of the next entries of a list, those behind some are the next there
@@ -75,3 +79,35 @@ pub looked_more : (now : Instant) (guards : List GuardState) (index : ℕ) (guar
     → All (WasLooked now) (take (index + 1) (set guards index guard))
 looked_more now guards index guard below before is =
     subst (All (WasLooked now)) (sym (take_more_set guards index guard below)) (All-append (WasLooked now) (take index guards) (guard ∷ []) before (All-cons (WasLooked now) guard [] is (λ k d below. absurd (omega (arith, below)))))
+
+-- a guard of these parts
+abbrev of_parts : ℕ → Option Wish → ℕ → List Met → GuardState
+of_parts slot wish place met = record { slot = slot; met = met; wish = wish; place = place }
+
+-- a guard of which all but the timer stayed has looked
+pub looked_view : (now : Instant) (slot : ℕ) (wish : Option Wish) (place : ℕ) (before after : List Met) (guard : GuardState)
+    → record { slot = slot; met = before; wish = wish; place = place } ≡ guard → after ≡ Looked now ∷ before
+    → record { slot = slot; met = after; wish = wish; place = place } ≡ looked now guard
+looked_view now slot wish place before after guard is more = ap (of_parts slot wish place) more ∙ ap (looked now) is
+
+-- and was refused then
+pub refused_view : (now : Instant) (slot : ℕ) (wish : Option Wish) (place : ℕ) (before between after : List Met) (guard : GuardState)
+    → record { slot = slot; met = before; wish = wish; place = place } ≡ guard → between ≡ Looked now ∷ before → after ≡ Refused now ∷ between
+    → record { slot = slot; met = after; wish = wish; place = place } ≡ refused now (looked now guard)
+refused_view now slot wish place before between after guard is more last =
+    ap (of_parts slot wish place) (last ∙ ap (λ met. Refused now ∷ met) more) ∙ ap (λ g. refused now (looked now g)) is
+
+last_place : (i number : ℕ) → i < number + 1 → number ≤ i → i ≡ number
+last_place i number below late = omega arith
+
+-- one fresh guard more
+pub fresh_more : (guards more : List GuardState) (guard : GuardState) (number slot : ℕ) → length guards ≡ number → more ≡ guards ++ guard ∷ [] → guard ≡ fresh slot
+    → slot ≡ number → ((i : ℕ) (other : GuardState) → i < number → get_or guards i other ≡ fresh i)
+    → (i : ℕ) (other : GuardState) → i < number + 1 → get_or more i other ≡ fresh i
+fresh_more guards more guard number slot count is new same before i other below = ap (λ g. get_or g i other) is ∙ by_place (cases_lt i number)
+  where
+    by_place : (i < number) ⊎ (number ≤ i) → get_or (guards ++ guard ∷ []) i other ≡ fresh i
+    by_place (inl early) = get_or_append_left guards (guard ∷ []) other i (subst (λ n. i < n) (sym count) early) ∙ before i other early
+    by_place (inr late) =
+        let here = last_place i number below late in
+        ap (λ n. get_or (guards ++ guard ∷ []) n other) (here ∙ sym count) ∙ (get_or-append_seam guards guard [] other ∙ (new ∙ ap fresh (same ∙ sym here)))

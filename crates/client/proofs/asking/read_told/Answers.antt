@@ -1,11 +1,16 @@
-use Rattle.std.proofs.Common.{◌<◌, ℕ, [], ◌++◌, Err, ◌∙◌, refl, subst, inl, inr, arith}
+use Rattle.std.proofs.Common.{◌≢◌, ◌<◌, ℕ, [], ◌++◌, Err, ◌∙◌, refl, sym, subst, inl, inr, arith}
 use Rattle.std.proofs.KnownBytes.{Consumes-nil, Consumes-trans}
+use Rattle.std.specs.Prelude.{IfErr, Result}
 use Rattle.web_call.specs.declared.method.Method.{Method}
 use Rattle.client.specs.declared.ask_fault.AskFault.{AskFault}
-use Rattle.client.specs.Ask.{IsFaultAt, Says}
+use Rattle.client.specs.declared.ask_fault.AskFault.TheVariants.{Write}
+use Rattle.client.specs.declared.reply.Reply.{Reply}
+use Rattle.client.specs.declared.told.Told.{Told}
+use Rattle.client.specs.Ask.{HasReadCause, IsFaultAt, Says}
+use Rattle.client.specs.Lent.{lent_failed}
 use Rattle.client.specs.Reply.{IsOpen, IsTold, WasOpen}
 use Rattle.client.specs.Stages.{method_of, most_of, wanted_of}
-use Rattle.client.proofs.AskingLemmas.{open_at, asked_for, fault_says, told_earliest}
+use Rattle.client.proofs.AskingLemmas.{asked_for, cause_of, fault_says, is_no_memory, open_at, told_earliest}
 use Rattle.client.proofs.asking.read_told.Goals as goal
 
 pub loop-piece-init : goal.loop-piece-init
@@ -69,3 +74,21 @@ returns-in-Err-clause-no_write g c = λ is.
     let read = c.in-Err.ensures.err in
     let reply = c.loop-piece.reply in
     subst (λ (fault : AskFault). IsFaultAt fault (method_of reply) (most_of reply) before.received.0 read.0) is (read.2 before.received.0 before.received.2)
+
+pub returns-in_err-reply-clause-response : goal.returns-in_err-reply-clause-response
+returns-in_err-reply-clause-response g c =
+    let is = is_no_memory c.from_residual.result c.from_residual.ensures.1 in
+    ([], Consumes-nil _, subst (λ (result : Result Told AskFault). Says result c.args.method c.args.most []) (sym is) (inl refl))
+
+pub returns-in_err-reply-clause-read : goal.returns-in_err-reply-clause-read
+returns-in_err-reply-clause-read g c =
+    let is = is_no_memory c.from_residual.result c.from_residual.ensures.1 in
+    subst (λ (result : Result Told AskFault). HasReadCause result (lent_failed c.args.reader.now) (lent_failed c.args.reader.now)) (sym is) refl
+
+pub returns-in_err-reply-clause-no_write : goal.returns-in_err-reply-clause-no_write
+returns-in_err-reply-clause-no_write g c =
+    let is = is_no_memory c.from_residual.result c.from_residual.ensures.1 in
+    subst (λ (result : Result Told AskFault). IfErr result (λ fault. fault ≢ Write)) (sym is) (λ never. cc)
+
+pub returns-in-Err-clause-read : goal.returns-in-Err-clause-read
+returns-in-Err-clause-read g c = cause_of Reply Told c.in-Err.fault _ _ _ c.loop-piece.invariant.kept c.in-Err.ensures.read

@@ -1,14 +1,20 @@
-use Rattle.std.proofs.Common.{◌≡◌, ◌<◌, ◌≤◌, ℕ, List, false, true, [], ◌++◌, Err, ◌∙◌, ap, sym, refl, subst, inl, inr, arith, rules, length}
+use Rattle.std.proofs.Common.{◌≢◌, ◌<◌, ◌≤◌, ℕ, List, [], ◌++◌, Err, ◌∙◌, ap, sym, refl, subst, inl, inr, arith, length}
 use Rattle.std.proofs.KnownBytes.{Appends-nil, Consumes-nil, Consumes-trans}
 use Rattle.std.specs.Io.KnownBytes.{Appends}
+use Rattle.std.specs.Prelude.{IfErr, IfOk, Result}
 use Rattle.web_call.specs.declared.method.Method.{Method}
 use Rattle.web_call.specs.declared.method.Method.TheVariants.{Watch}
 use Rattle.client.specs.declared.ask_fault.AskFault.{AskFault}
-use Rattle.client.specs.Ask.{IsFaultAt, Says}
+use Rattle.client.specs.declared.ask_fault.AskFault.TheVariants.{Write}
+use Rattle.client.specs.declared.reply.Reply.{Reply}
+use Rattle.client.specs.declared.told.Told.{Told}
+use Rattle.client.specs.Ask.{HasReadCause, IsAnswerTo, IsFaultAt, Says}
+use Rattle.client.specs.Heard.{IsHeardFor, wanted_by_end}
+use Rattle.client.specs.Lent.{lent_failed, lent_inner}
 use Rattle.client.specs.Reply.{IsOpen, IsTold, WasOpen}
 use Rattle.client.specs.Stages.{StandsAt, method_of, most_of, statuses_of, wanted_of}
-use Rattle.client.proofs.AskingLemmas.{open_at, asked_for, fault_says, told_earliest}
-use Rattle.client.proofs.WatchingLemmas.{all_told, fault_heard, few_so_far, heard_on, left_says, newly_enough, told_so_far, wanted_enough, wanted_most, watch_answer, watch_open}
+use Rattle.client.proofs.AskingLemmas.{answer_of_told, asked_for, cause_of, fault_says, is_no_memory, open_at, told_earliest}
+use Rattle.client.proofs.WatchingLemmas.{all_told, fault_heard, few_so_far, heard_on, left_says, newly_enough, no_memory_heard, told_so_far, wanted_enough, wanted_most, watch_answer, watch_open}
 use Rattle.client.proofs.watching.read_aloud.Goals as goal
 
 pub loop-piece-init : goal.loop-piece-init
@@ -141,3 +147,46 @@ returns-clause-response g c =
       wanted_most told before.received.0 c.args.most (g.L.Listener.has_enough c.loop-piece.listener) before.wants
           (says, told_earliest Watch c.args.most before.received.0 told.statuses.items told.end before.received.3 says),
     )
+
+pub returns-in_err-reply-clause-response : goal.returns-in_err-reply-clause-response
+returns-in_err-reply-clause-response g c =
+    let is = is_no_memory c.from_residual.result c.from_residual.ensures.1 in
+    ([], Consumes-nil _, subst (λ (result : Result Told AskFault). Says result Watch (wanted_by_end result c.args.most (g.L.Listener.has_enough c.args.listener.now)) []) (sym is) (inl refl))
+
+pub returns-in_err-reply-clause-read : goal.returns-in_err-reply-clause-read
+returns-in_err-reply-clause-read g c =
+    let is = is_no_memory c.from_residual.result c.from_residual.ensures.1 in
+    subst (λ (result : Result Told AskFault). HasReadCause result (lent_failed c.args.reader.now) (lent_failed c.args.reader.now)) (sym is) refl
+
+pub returns-in_err-reply-clause-no_write : goal.returns-in_err-reply-clause-no_write
+returns-in_err-reply-clause-no_write g c =
+    let is = is_no_memory c.from_residual.result c.from_residual.ensures.1 in
+    subst (λ (result : Result Told AskFault). IfErr result (λ fault. fault ≢ Write)) (sym is) (λ never. cc)
+
+pub returns-in-Err-clause-read : goal.returns-in-Err-clause-read
+returns-in-Err-clause-read g c = cause_of Reply Told c.in-Err.fault _ _ _ c.loop-piece.invariant.kept c.in-Err.ensures.read
+
+pub returns-in_err-reply-clause-answer : goal.returns-in_err-reply-clause-answer
+returns-in_err-reply-clause-answer g c =
+    let is = is_no_memory c.from_residual.result c.from_residual.ensures.1 in
+    subst (λ (result : Result Told AskFault). IfOk result (IsAnswerTo Watch c.args.most)) (sym is) tt
+
+pub returns-in_err-reply-clause-heard : goal.returns-in_err-reply-clause-heard
+returns-in_err-reply-clause-heard g c =
+    let is = is_no_memory c.from_residual.result c.from_residual.ensures.1 in
+    let remaining = g.R.Read.remaining (lent_inner c.args.reader.now) in
+    let heard = g.L.Listener.heard c.args.listener.now in
+    subst (λ (result : Result Told AskFault). IsHeardFor result remaining remaining heard heard) (sym is) (no_memory_heard remaining heard)
+
+pub returns-clause-answer : goal.returns-clause-answer
+returns-clause-answer g c =
+    let before = c.loop-piece.invariant in
+    let told = c.into_told.result in
+    let says = asked_for (λ (method : Method) (most : ℕ). IsTold method most before.received.0 told.statuses.items told.end) _ Watch _ c.args.most before.method before.most
+    (c.into_told.ensures.told before.received.0 before.received.2) in
+    answer_of_told told Watch c.args.most before.received.0 says c.requires.most
+
+pub returns-clause-heard : goal.returns-clause-heard
+returns-clause-heard g c =
+    let before = c.loop-piece.invariant in
+    (before.received.0, statuses_of c.loop-piece.reply, before.received.1, before.heard, sym c.into_told.ensures.statuses)

@@ -1,7 +1,6 @@
 use Rattle.std.proofs.Common.{refl, sym, ap, ◌∙◌}
 use Rattle.control.specs.Known.Known.{Stands, Recalls}
-use Rattle.control.specs.Known.IsToldOf.{TellsWhy, TellsStatus, TellsEntry}
-use Rattle.control.proofs.BesideLemmas.{same_beside}
+use Rattle.control.specs.Known.IsToldOf.{TellsWhy, TellsStatus}
 use Rattle.control.proofs.MeetingLemmas.{asked, asked_none, entry_told}
 use Rattle.control.proofs.meeting.ask.Goals as goal
 

@@ -1,4 +1,4 @@
-use Rattle.std.proofs.Common.{rules, ◌≡◌, ◌∙◌, ◌<◌, ◌∷◌, [], ◌++◌, ap, sym, length, subst, take, arith}
+use Rattle.std.proofs.Common.{rules, ◌≡◌, ◌∙◌, ◌<◌, ◌∷◌, [], ◌++◌, ap, sym, length, take, arith}
 use Rattle.std.proofs.lemmas.List.{map_more}
 use Rattle.record_log.specs.Log.{texts}
 use Rattle.durable.proofs.journal.are_same.Goals as goal

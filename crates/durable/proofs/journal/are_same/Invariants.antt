@@ -1,4 +1,4 @@
-use Rattle.std.proofs.Common.{◌≡◌, length, take}
+use Rattle.std.proofs.Common.{◌≡◌, take}
 use Rattle.record_log.specs.Log.{texts}
 use Rattle.durable.proofs.journal.are_same.Given as goal
 

@@ -8,6 +8,7 @@ use Rattle.hall.specs.Steps.{Seated, seen_in}
 use Rattle.hall.specs.Views.{note_view, with_seats}
 use Rattle.hall.proofs.Seats.{gathers}
 use Rattle.hall.proofs.Gathered.{Came, came, grown}
+use Rattle.std.proofs.lemmas.List.{append-nil, nil_from_length}
 use Rattle.hall.proofs.closed.gather.Goals as goal
 
 pub loop-seat-init : goal.loop-seat-init
@@ -70,3 +71,9 @@ loop-seat-preserved g c =
       grown place.me.0.seats c.join_seat.new.seat.me.0.seats c.in-Some-seat.seat others c.loop-seat.seat-iterator.rest.items
           (map held_of c.args.seats.items) seats c.in-Some-seat.ensures.steps.0 kept.7,
     )
+
+pub returns-clause-seats : goal.returns-clause-seats
+returns-clause-seats g c =
+    let kept = c.loop-seat.invariant in
+    let none : c.loop-seat.seat-iterator.rest.items ≡ [] = nil_from_length _ (sym c.loop-seat.seat-iterator.rest.ok.0 ∙ c.in-None.ensures.steps.0) in
+    sym (append-nil c.loop-seat.place.me.0.seats) ∙ (ap (λ (cs : List SeatState). c.loop-seat.place.me.0.seats ++ map held_of cs) (sym none) ∙ kept.7)

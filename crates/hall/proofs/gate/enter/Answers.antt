@@ -4,7 +4,7 @@ use Rattle.atomic_table.specs.Table.{rest}
 use Rattle.hall.specs.declared.view.GateStage.TheVariants.{Queued}
 use Rattle.hall.specs.Views.{at_stage}
 use Rattle.hall.specs.Steps.{Seated, number_in, seen_in}
-use Rattle.hall.proofs.Turns.{turns, looks}
+use Rattle.hall.proofs.Turns.{turns}
 use Rattle.hall.proofs.Entering.{Entered, entered}
 use Rattle.hall.proofs.gate.enter.Goals as goal
 
@@ -29,25 +29,16 @@ exchange-slot-requires g c =
       (Some turn.1, holds ∙ ap (λ slots. (0, Some turn.1) ∷ rest slots) (sym holds)),
     )
 
-pub load-requires-then-load-ticket : goal.load-requires-then-load-ticket
-load-requires-then-load-ticket g c =
-    let shared = c.args.shared.now in
-    let place = c.exchange-slot.new.seat in (
-      c.exchange-slot.ensures.0 ∙ (c.load.ensures.0 ∙ (c.loop.invariant.0 ∙ (c.draw-ticket.ensures.place ∙ c.requires.table.1))),
-      omega (arith, c.requires.table.0),
-      looks shared.key shared.table_id.slots place.id place.me,
-    )
-
 -- what the seat has when its turn has come
 at_turn : (g : _) (c : goal.After-drop-iterator g)
-    → Entered (number_in c.args.place.now.me) c.args.place.now.me.0.most (seen_in c.args.place.now.me) c.unwrap.result c.load-then-load-ticket.new.seat.me
+    → Entered (number_in c.args.place.now.me) c.args.place.now.me.0.most (seen_in c.args.place.now.me) c.unwrap.result c.look.new.place.me
 at_turn g c =
     let me = c.args.place.now.me in
     let drawn = c.draw-ticket.ensures.ticket in
     let now = c.loop.invariant.1 ∙ drawn.2 in
     let turn = (c.load.ensures.2 drawn.0 (ap (λ (me : Seated). me.0.stage) now)).0 (c.if-load-ticket.true ∙ drawn.1) in
-    let looked = c.load-then-load-ticket.ensures.2 in
-    entered (number_in me) me.0.most drawn.0 _ (seen_in me) looked.0 c.loop.place.me c.load.new.seat.me c.exchange-slot.new.seat.me c.load-then-load-ticket.new.seat.me
+    let looked = c.look.ensures.looked in
+    entered (number_in me) me.0.most drawn.0 _ (seen_in me) looked.0 c.loop.place.me c.load.new.seat.me c.exchange-slot.new.seat.me c.look.new.place.me
     c.exchange-slot.result c.unwrap.result (now ∙ ap (λ (me : Seated). (at_stage me.0 (Queued drawn.0), [])) c.requires.rests) turn
     c.exchange-slot.ensures.2 c.exchange-slot.ensures.3 c.unwrap.ensures looked.1
 

@@ -1,7 +1,6 @@
-use Rattle.std.proofs.Common.{rules, ◌≡◌, ℕ, List, [], length, refl, arith}
+use Rattle.std.proofs.Common.{rules, ◌≡◌, length}
 use Rattle.std.proofs.lemmas.Bool.Decides.{nat_tests}
 use Rattle.std.proofs.lemmas.List.{nil_from_length}
-use Rattle.observing.specs.HttpAnswer.{LineTells}
 use Rattle.observing.specs.HttpAnswer.LineTells.{ByStatus}
 use Rattle.observing.proofs.HttpLemmas.{found}
 use Rattle.observing.proofs.http.verdict_of.Goals as goal

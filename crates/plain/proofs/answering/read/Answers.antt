@@ -1,8 +1,6 @@
-use Rattle.std.proofs.Common.{◌≡◌, ◌∙◌, List, ℕ, IfOk, subst, sym, ap, rules}
+use Rattle.std.proofs.Common.{◌≡◌, ◌∙◌, IfOk, subst}
 use Rattle.plain.specs.declared.response.Kind.TheVariants as kinds
-use Rattle.plain.specs.Answer.{reading}
 use Rattle.plain.specs.Response.{response}
-use Rattle.plain.specs.Target.{resource_of}
 use Rattle.plain.proofs.BoardLemmas.{metrics_whole, services_whole}
 use Rattle.plain.proofs.answering.read.Goals as goal
 

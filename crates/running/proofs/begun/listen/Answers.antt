@@ -9,7 +9,7 @@ use Rattle.running.proofs.begun.listen.Goals as goal
 
 pub returns-clause-limits : goal.returns-clause-limits
 returns-clause-limits g c =
-    subst (λ limits. AreLoopsOf limits c.in_ok-loops.loops.servers.items) (limits_are c.limits.result c.args.setting.now.options.bounds c.limits.ensures.connections c.limits.ensures.watches)
+    subst (λ limits. AreLoopsOf limits c.in_ok-loops.loops.servers.items) (limits_are c.limits.result c.args.setting.options.bounds c.limits.ensures.connections c.limits.ensures.watches)
     c.in_ok-loops.ensures.limits
 
 pub returns-clause-controlled : goal.returns-clause-controlled

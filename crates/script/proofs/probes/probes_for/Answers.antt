@@ -1,3 +1,4 @@
+use Rattle.std.proofs.lemmas.Result.{IfOk-from_err}
 use Rattle.std.proofs.Common.{Global, Vec, ◌+◌, take, ap, subst, sym, ◌∙◌, arith}
 use Rattle.script.proofs.RuleLemmas.{AreMade, made_one, made_none}
 use Rattle.script.proofs.probes.probes_for.Goals as goal
@@ -13,3 +14,15 @@ loop-line-preserved g c = elim c.match-rule.branch [
       subst Made (sym w.probes-is) (made_none g.P.Probe.rule g.P.Probe.memory c.args.lines.now c.loop-line.line-index c.line-item.result _ _
       (omega arith) c.line-item.is c.rule.ensures w.in_default.is c.loop-line.invariant)
 ]
+
+pub returns-in_err-make-clause-rules : goal.returns-in_err-make-clause-rules
+returns-in_err-make-clause-rules g c = IfOk-from_err _ _ c.from_residual.ensures.0
+
+pub returns-in_err-make-clause-memories : goal.returns-in_err-make-clause-memories
+returns-in_err-make-clause-memories g c = IfOk-from_err _ _ c.from_residual.ensures.0
+
+pub returns-in_err-push-clause-rules : goal.returns-in_err-push-clause-rules
+returns-in_err-push-clause-rules g c = IfOk-from_err _ _ c.from_residual-in_err-push.ensures.0
+
+pub returns-in_err-push-clause-memories : goal.returns-in_err-push-clause-memories
+returns-in_err-push-clause-memories g c = IfOk-from_err _ _ c.from_residual-in_err-push.ensures.0

@@ -1,4 +1,5 @@
-use Rattle.std.proofs.Common.{◌∙◌}
+use Rattle.std.proofs.Common.{◌∙◌, refl}
+use Rattle.std.proofs.lemmas.Result.{IfOk-from_err, err_from_is_err_and}
 use Rattle.script.proofs.ScriptLemmas.{next, next_expectation, ends, goes, stuck, fails}
 use Rattle.script.proofs.reading.read_lines.Goals as goal
 
@@ -21,3 +22,58 @@ returns-in_default-3-clause-fault c = λ other.
 
 pub returns-clause-ok : goal.returns-clause-ok
 returns-clause-ok c = ends _ _ _ _ _ _ _ _ _ c.loop-number.invariant c.in_default.ensures.none.0 c.in_default.ensures.none.1
+
+pub returns-in_err-expectation-clause-ok : goal.returns-in_err-expectation-clause-ok
+returns-in_err-expectation-clause-ok c = IfOk-from_err _ _ c.from_residual.ensures.0
+
+pub returns-in_err-expectation-clause-each : goal.returns-in_err-expectation-clause-each
+returns-in_err-expectation-clause-each c = IfOk-from_err _ _ c.from_residual.ensures.0
+
+pub returns-in_err-expectation-clause-fault : goal.returns-in_err-expectation-clause-fault
+returns-in_err-expectation-clause-fault c =
+    let p = err_from_is_err_and c.from_residual.result c.from_residual.ensures.1 in
+    rw (p.1, p.2) (λ other. absurd (other refl))
+
+pub returns-in_err-push-clause-ok : goal.returns-in_err-push-clause-ok
+returns-in_err-push-clause-ok c = IfOk-from_err _ _ c.from_residual-in_err-push.ensures.0
+
+pub returns-in_err-push-clause-each : goal.returns-in_err-push-clause-each
+returns-in_err-push-clause-each c = IfOk-from_err _ _ c.from_residual-in_err-push.ensures.0
+
+pub returns-in_err-push-clause-fault : goal.returns-in_err-push-clause-fault
+returns-in_err-push-clause-fault c =
+    let p = err_from_is_err_and c.from_residual-in_err-push.result c.from_residual-in_err-push.ensures.1 in
+    rw (p.1, p.2) (λ other. absurd (other refl))
+
+pub returns-in_err-line-clause-ok : goal.returns-in_err-line-clause-ok
+returns-in_err-line-clause-ok c = IfOk-from_err _ _ c.from_residual-in_err-line.ensures.0
+
+pub returns-in_err-line-clause-each : goal.returns-in_err-line-clause-each
+returns-in_err-line-clause-each c = IfOk-from_err _ _ c.from_residual-in_err-line.ensures.0
+
+pub returns-in_err-line-clause-fault : goal.returns-in_err-line-clause-fault
+returns-in_err-line-clause-fault c =
+    let p = err_from_is_err_and c.from_residual-in_err-line.result c.from_residual-in_err-line.ensures.1 in
+    rw (p.1, p.2) (λ other. absurd (other refl))
+
+pub returns-in_err-push-2-clause-ok : goal.returns-in_err-push-2-clause-ok
+returns-in_err-push-2-clause-ok c = IfOk-from_err _ _ c.from_residual-in_err-push-2.ensures.0
+
+pub returns-in_err-push-2-clause-each : goal.returns-in_err-push-2-clause-each
+returns-in_err-push-2-clause-each c = IfOk-from_err _ _ c.from_residual-in_err-push-2.ensures.0
+
+pub returns-in_err-push-2-clause-fault : goal.returns-in_err-push-2-clause-fault
+returns-in_err-push-2-clause-fault c =
+    let p = err_from_is_err_and c.from_residual-in_err-push-2.result c.from_residual-in_err-push-2.ensures.1 in
+    rw (p.1, p.2) (λ other. absurd (other refl))
+
+pub returns-in_err-push-3-clause-ok : goal.returns-in_err-push-3-clause-ok
+returns-in_err-push-3-clause-ok c = IfOk-from_err _ _ c.from_residual-in_err-push-3.ensures.0
+
+pub returns-in_err-push-3-clause-each : goal.returns-in_err-push-3-clause-each
+returns-in_err-push-3-clause-each c = IfOk-from_err _ _ c.from_residual-in_err-push-3.ensures.0
+
+pub returns-in_err-push-3-clause-fault : goal.returns-in_err-push-3-clause-fault
+returns-in_err-push-3-clause-fault c =
+    let p = err_from_is_err_and c.from_residual-in_err-push-3.result c.from_residual-in_err-push-3.ensures.1 in
+    rw (p.1, p.2) (λ other. absurd (other refl))

@@ -1,20 +1,18 @@
-use Rattle.std.proofs.Common.{◌+◌, ◌∙◌, ap, drop}
-use Rattle.script.proofs.RuleLemmas.{rules_first}
-use Rattle.script.proofs.ReplayLemmas.{running-turn, running-next, running-end}
+use Rattle.std.proofs.Common.{◌∙◌, ap, map, sym}
+use Rattle.script.specs.Rules.{rules_in}
+use Rattle.script.proofs.ExplanationLemmas.{each_ok}
+use Rattle.script.proofs.ReplayLemmas.{script_run}
 use Rattle.script.proofs.replay.run_script.Goals as goal
 
-pub probe_of-probe-requires : goal.probe_of-probe-requires
-probe_of-probe-requires g c =
-    let turn = running-turn _ _ _ _ _ _ c.line-item.result _ _ (c.deref-line-items.ensures.value ∙ c.into_parts-catalogue.ensures.lines) c.loop-line-test.true c.line-item.is c.loop-line.invariant in
-    record { handed_in = (_, rules_first c.line-item.result (drop (c.loop-line.line-index + 1) c.args.script.lines) _ turn.rules_are) }
+pub meet_all-requires-clause-steps : goal.meet_all-requires-clause-steps
+meet_all-requires-clause-steps g c = rw (c.new-run.ensures, c.deref-2.ensures.value, c.into_parts-catalogue.ensures.lines) c.into_parts-catalogue.ensures.steps
 
-pub loop-line-preserved : goal.loop-line-preserved
-loop-line-preserved g c =
-    running-next _ _ _ _ _ c.line-item.result _ _ _ _ _
-    (running-turn _ _ _ _ _ _ c.line-item.result _ _ (c.deref-line-items.ensures.value ∙ c.into_parts-catalogue.ensures.lines) c.loop-line-test.true c.line-item.is c.loop-line.invariant)
-    c.probe_of-probe.ensures.left c.in_ok-outcome.ensures c.in_ok-writeln.ensures.bytes
+pub meet_all-requires-clause-ruled : goal.meet_all-requires-clause-ruled
+meet_all-requires-clause-ruled g c =
+    ap (λ probes. map g.P.Probe.rule probes) c.into_iter-probes.ensures.rest ∙ c.in_ok-probes_for.ensures.rules ∙ ap rules_in (c.deref.ensures.value ∙ sym c.deref-2.ensures.value)
 
 pub returns : goal.returns
 returns g c =
-    running-end _ _ _ _ _ _ _ _ _ (c.deref-line-items.ensures.value ∙ c.into_parts-catalogue.ensures.lines) c.loop-line-test.false
-    (ap (λ bytes. bytes.items) c.into_bytes.ensures.value) c.loop-line.invariant
+    let parts = c.into_parts-catalogue.ensures in
+    each_ok c.meet_all.result
+    (λ output printed. script_run c.args.script _ _ _ _ _ c.new-run.ensures parts.catalogue parts.max c.deref-2.ensures.value parts.lines _ printed) c.meet_all.ensures

@@ -1,5 +1,4 @@
 use Rattle.std.proofs.Common.{refl, sym, arith}
-use Rattle.server.specs.Again.{changes_of}
 use Rattle.server.proofs.SeatLemmas.{new_len, first_ours, set_up_ours, set_up_by_first}
 use Rattle.server.proofs.again.hall_again.Goals as goal
 

@@ -1,4 +1,4 @@
-use Rattle.std.proofs.Common.{◌≤◌, length, take}
+use Rattle.std.proofs.Common.{take}
 use Rattle.hall.specs.Seats.{IsOf}
 use Rattle.server.proofs.AgainLemmas.{AreMade}
 use Rattle.server.proofs.again.make_all_again.Given as goal

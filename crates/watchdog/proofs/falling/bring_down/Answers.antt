@@ -1,6 +1,7 @@
 use Rattle.std.proofs.Common.{sym, subst, refl, ◌∙◌}
 use Rattle.watchdog.specs.Falling.{NoFail, Down, HasFallen}
-use Rattle.watchdog.proofs.FallLemmas.{carried_of, failed_more, looked_of, refused_of}
+use Rattle.hall.proofs.CarryingOut.{met_ours}
+use Rattle.watchdog.proofs.FallLemmas.{failed_more, looked_of, refused_of}
 use Rattle.watchdog.proofs.falling.bring_down.Goals as goal
 
 pub loop-init : goal.loop-init
@@ -20,7 +21,7 @@ pub loop-preserved : goal.loop-preserved
 loop-preserved g c = (
   tt,
   tt,
-  carried_of c.args.hall.now c.loop.seat c.fail_unheard.new.seat _ c.in-Some-fail_unheard.effect.result c.loop.invariant.2 c.in-Some-fail_unheard.ensures.made,
+  met_ours c.args.hall.now c.loop.seat c.fail_unheard.new.seat _ c.in-Some-fail_unheard.effect.result c.loop.invariant.2 c.in-Some-fail_unheard.ensures.made,
   failed_more g.K.Keep.kept c.args.slot c.args.from c.args.seat.now c.loop.seat c.fail_unheard.new.seat c.loop.fall.made c.in-Some-fail_unheard.effect.result
       c.loop.invariant.3 c.in-Some-fail_unheard.ensures.made (sym c.is_err.ensures.value ∙ c.if-is_err.false) c.in-Some-fail_unheard.ensures.due,
   c.loop.invariant.4,

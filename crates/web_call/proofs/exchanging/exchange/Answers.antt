@@ -1,7 +1,9 @@
-use Rattle.std.proofs.Common.{◌≡◌, refl, ap, subst, ◌∙◌, [], None, inl, inr, true, false, rules, arith}
+use Rattle.std.proofs.Common.{◌≡◌, refl, sym, ap, subst, ◌∙◌, Bool, true≢false, [], None, inl, inr, true, false, rules, arith}
 use Rattle.std.proofs.KnownBytes.{Consumes-nil}
 use Rattle.std.specs.Io.KnownBytes.{Appends, Consumes}
 use Rattle.web_call.specs.Answer.{Source}
+use Rattle.web_call.specs.declared.exchanging.Why.{Why}
+use Rattle.web_call.specs.declared.exchanging.Why.TheVariants as whys
 use Rattle.web_call.specs.Exchange.{Meets, ReadsCut, Starves}
 use Rattle.web_call.specs.Past.{CarriesFor, begun, with_asked, with_received}
 use Rattle.web_call.specs.Pieces.{text_of}
@@ -15,6 +17,25 @@ use Rattle.web_call.proofs.exchanging.exchange.Goals as goal
 -- a source of nothing
 nowhere : Source
 nowhere = record { names = []; kept = None; is_plain = false }
+
+-- a fault has one cause
+abbrev is_read : Why → Bool
+is_read whys.Read = true
+is_read whys.Write = false
+is_read whys.NoMemory = false
+
+abbrev is_write : Why → Bool
+is_write whys.Read = false
+is_write whys.Write = true
+is_write whys.NoMemory = false
+
+abbrev is_no_memory : Why → Bool
+is_no_memory whys.Read = false
+is_no_memory whys.Write = false
+is_no_memory whys.NoMemory = true
+
+other_why : (says : Why → Bool) (why made asked : Why) → why ≡ made → why ≡ asked → says made ≡ false → says asked ≡ true → ⊥
+other_why says why made asked of is differs so = true≢false (sym so ∙ ap says (sym is ∙ of) ∙ differs)
 
 pub returns-then-not-receive-clause-read : goal.returns-then-not-receive-clause-read
 returns-then-not-receive-clause-read g c = λ _.
@@ -130,3 +151,30 @@ returns-in_default-clause-no_memory g c = λ _. (
   refl,
   refl,
 )
+
+pub returns-clause-read : goal.returns-clause-read
+returns-clause-read g c = λ is. absurd (other_why is_read _ whys.Write whys.Read (ap (λ fault. fault.why) c.write.ensures) is refl refl)
+
+pub returns-clause-no_memory : goal.returns-clause-no_memory
+returns-clause-no_memory g c = λ is. absurd (other_why is_no_memory _ whys.Write whys.NoMemory (ap (λ fault. fault.why) c.write.ensures) is refl refl)
+
+pub returns-then-is_starved-clause-read : goal.returns-then-is_starved-clause-read
+returns-then-is_starved-clause-read g c = λ is. absurd (other_why is_read _ whys.NoMemory whys.Read (ap (λ fault. fault.why) c.no_memory-then-is_starved.ensures) is refl refl)
+
+pub returns-then-is_starved-clause-write : goal.returns-then-is_starved-clause-write
+returns-then-is_starved-clause-write g c = λ is. absurd (other_why is_write _ whys.NoMemory whys.Write (ap (λ fault. fault.why) c.no_memory-then-is_starved.ensures) is refl refl)
+
+pub returns-then-not-receive-clause-no_memory : goal.returns-then-not-receive-clause-no_memory
+returns-then-not-receive-clause-no_memory g c = λ is. absurd (other_why is_no_memory _ whys.Read whys.NoMemory (ap (λ fault. fault.why) c.read.ensures) is refl refl)
+
+pub returns-then-not-receive-clause-write : goal.returns-then-not-receive-clause-write
+returns-then-not-receive-clause-write g c = λ is. absurd (other_why is_write _ whys.Read whys.Write (ap (λ fault. fault.why) c.read.ensures) is refl refl)
+
+pub returns-in_default-clause-read : goal.returns-in_default-clause-read
+returns-in_default-clause-read g c = λ is. absurd (other_why is_read _ whys.NoMemory whys.Read (ap (λ fault. fault.why) c.no_memory.ensures) is refl refl)
+
+pub returns-in_default-clause-write : goal.returns-in_default-clause-write
+returns-in_default-clause-write g c = λ is. absurd (other_why is_write _ whys.NoMemory whys.Write (ap (λ fault. fault.why) c.no_memory.ensures) is refl refl)
+
+pub returns-then-not-receive-clause-stays : goal.returns-then-not-receive-clause-stays
+returns-then-not-receive-clause-stays g c = g.D.Door.stays_self _

@@ -1,7 +1,8 @@
-use Rattle.std.proofs.Common.{subst, ◌∙◌, ◌++◌, take, drop, rules}
-use Rattle.std.proofs.KnownBytes.{Consumes-trans}
+use Rattle.std.proofs.Common.{subst, ◌∙◌, ◌≡◌, ◌||◌, ◌++◌, Bool, true, false, refl, inl, inr, append-nil, [], take, drop, rules}
+use Rattle.std.proofs.KnownBytes.{Consumes-trans, Consumes-kept}
+use Rattle.std.specs.Io.KnownBytes.{Consumes}
 use Rattle.web_call.specs.Past.{Carries, with_received}
-use Rattle.web_call.specs.Tap.{tap_idle}
+use Rattle.web_call.specs.Tap.{tap_idle, tap_inner}
 use Rattle.web_call.proofs.ExchangeLemmas.{given_all, received_more, still_idle}
 use Rattle.web_call.proofs.exchanging.receive.Goals as goal
 
@@ -21,3 +22,29 @@ loop-alloc-preserved g c =
       unanswered = search rules;
       len = search rules;
     }
+
+pub returns-in_default-clause-received : goal.returns-in_default-clause-received
+returns-in_default-clause-received g c =
+    let before = c.loop-alloc.invariant.received in
+    (before.0, Consumes-kept _ _ _ before.0 before.1 c.in_default.ensures.bytes, before.2)
+
+or_true : (failed : Bool) → (failed || true) ≡ true
+or_true true = refl
+or_true false = refl
+
+pub returns-in_default-clause-cause : goal.returns-in_default-clause-cause
+returns-in_default-clause-cause g c = inl (c.in_default.ensures.failed ∙ or_true _)
+
+pub returns-then-count-eq0-clause-received : goal.returns-then-count-eq0-clause-received
+returns-then-count-eq0-clause-received g c =
+    let before = c.loop-alloc.invariant.received in
+    let none = subst (λ n. Consumes (g.R.Read.remaining (tap_inner c.loop-alloc.reader)) (g.R.Read.remaining (tap_inner c.read.new.self)) (take n c.read.new.buf))
+    c.if-count-eq0.true c.in-Ok.ensures.bytes.0 in (
+      before.0,
+      subst (λ l. Consumes (g.R.Read.remaining (tap_inner c.args.reader.now)) (g.R.Read.remaining (tap_inner c.read.new.self)) l) (append-nil before.0)
+          (Consumes-trans _ _ _ before.0 [] before.1 none),
+      before.2,
+    )
+
+pub returns-then-count-eq0-clause-cause : goal.returns-then-count-eq0-clause-cause
+returns-then-count-eq0-clause-cause g c = inr (c.in-Ok.ensures.bytes.1 c.if-count-eq0.true (search rules))

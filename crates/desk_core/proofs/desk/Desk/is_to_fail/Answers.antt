@@ -1,5 +1,6 @@
-use Rattle.std.proofs.Common.{rules, ◌<◌, ◌∙◌, ap, sym, not, ◌&&◌, true≢false}
+use Rattle.std.proofs.Common.{arith, rules, ◌<◌, ◌∙◌, ap, sym, not, ◌&&◌, true≢false}
 use Rattle.std.specs.List.{list_any}
+use Rattle.std.proofs.lemmas.Grind.{common_steps}
 use Rattle.desk_core.specs.Past.{past}
 use Rattle.desk_core.specs.Silence.{is_to_fail, retimes}
 use Rattle.desk_core.proofs.SilenceLemmas.{fails_so}
@@ -18,3 +19,6 @@ returns-clause-value g c =
     ∙ whole
     ∙ ap (λ kept. is_to_fail kept c.args.seat c.args.slot c.args.from (past c.self.inside.history.journal.items)) c.self.invariant.1
     ∙ ap (λ state. is_to_fail g.K.Keep.kept c.args.seat c.args.slot c.args.from (past state.journal)) c.self.view_is
+
+pub returns-in_default-clause-value : goal.returns-in_default-clause-value
+returns-in_default-clause-value g c = grind (arith, common_steps)

@@ -1,4 +1,5 @@
 use Rattle.std.proofs.Common.{◌≡◌, ◌+◌, ◌++◌, length, take, drop, ap, sym, ◌∙◌, subst, arith}
+use Rattle.std.proofs.lemmas.Grind.{common_steps}
 use Rattle.desk_core.specs.Transcript.{TranscriptState, IsCopy, IsCopyWithin}
 use Rattle.tail.specs.Tail.{forgotten}
 use Rattle.desk_core.proofs.TranscriptLemmas.{copied_on}
@@ -23,3 +24,12 @@ returns-clause-copy g c =
       rest = on.0 ∙ ap (λ (view : TranscriptState). drop view.gone changes) (sym c.self.view_is);
       last = omega (arith, on.1, ap (λ (view : TranscriptState). view.gone) c.self.view_is, ap (λ (view : TranscriptState). forgotten view.kept (length changes)) c.self.view_is);
     }
+
+pub make_room-requires : goal.make_room-requires
+make_room-requires g c = grind (arith, common_steps)
+
+pub put_all-requires : goal.put_all-requires
+put_all-requires g c = grind (arith, common_steps)
+
+pub returns-in_err-make_room-clause-left : goal.returns-in_err-make_room-clause-left
+returns-in_err-make_room-clause-left g c = grind (arith, common_steps)

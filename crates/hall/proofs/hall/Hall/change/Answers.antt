@@ -5,7 +5,8 @@ use Rattle.desk_core.specs.Legal.{IsLegal}
 use Rattle.desk_core.specs.Mutation.{entry_of}
 use Rattle.hall.specs.Seats.{SeatState}
 use Rattle.hall.specs.Steps.{HasDesk, seen_in}
-use Rattle.hall.proofs.Taken.{may_commit, may_count, may_leave, carried_out, not_carried_out, newest, unchanged, before_newest, seat_taken, seat_kept, shows_seen, own_entry}
+use Rattle.hall.proofs.Taken.{may_commit, may_count, may_leave, carried_out, not_carried_out, newest, unchanged, before_newest, seat_taken, seat_kept, shows_seen, own_entry, has_rest}
+use Rattle.hall.proofs.Reread.{as_long}
 use Rattle.hall.proofs.hall.Hall.change.Goals as goal
 
 pub returns-in_default-clause-answered : goal.returns-in_default-clause-answered
@@ -74,3 +75,9 @@ returns-in-Err-clause-answered g c =
 
 pub returns-in-Ok-clause-shows : goal.returns-in-Ok-clause-shows
 returns-in-Ok-clause-shows g c = shows_seen _ _ _ c.change.new.self c.in-Ok.ensures.shows c.finish.ensures.rests
+
+pub returns-in-Ok-clause-placed : goal.returns-in-Ok-clause-placed
+returns-in-Ok-clause-placed g c = as_long c.finish.new.place.me _ _ c.change.new.self.journal c.finish.ensures.rests ∙ c.in-Ok.ensures.placed.1
+
+pub enter-desk-requires-clause-rests : goal.enter-desk-requires-clause-rests
+enter-desk-requires-clause-rests g c = has_rest c.seat.inside.place.me c.seat.inside.number c.seat.inside.made c.seat.invariant

@@ -1,6 +1,6 @@
-use Rattle.std.proofs.Common.{◌≡◌, length, map, ap, refl, sym, subst, arith, ◌∙◌}
+use Rattle.std.proofs.Common.{◌≡◌, ◌<◌, ℕ, Bool, false, List, get_or, set, length, map, ap, refl, sym, subst, arith, ◌∙◌}
 use Rattle.std.specs.Prelude.{Option, IsSome, unwrap_or}
-use Rattle.std.proofs.lemmas.List.{length-map, length-reverse}
+use Rattle.std.proofs.lemmas.List.{get_or-set_same, length-map, length-reverse}
 use Rattle.desk_core.specs.Desk.{State}
 use Rattle.desk_core.specs.Legal.{IsLegal}
 use Rattle.desk_core.specs.Past.{past}
@@ -10,6 +10,8 @@ use Rattle.hall.specs.Views.{made_by}
 use Rattle.hall.proofs.Ends.{IsWhole, found_desk}
 use Rattle.hall.proofs.Gathered.{end_in, made_in}
 use Rattle.hall.proofs.StoreLemmas.{nothing_taken}
+use Rattle.std.specs.Slots.{slots_len, slots_filled, slots_counts}
+use Rattle.atomic_table.specs.Seated.{TableId}
 use Rattle.hall.proofs.hall.Hall.close.Goals as goal
 
 pub unwrap-desk-requires : goal.unwrap-desk-requires
@@ -67,3 +69,31 @@ returns-clause-counted g c =
 
 pub returns-clause-taken_back : goal.returns-clause-taken_back
 returns-clause-taken_back g c = nothing_taken c.unwrap-desk.result c.args.seats.items c.is_stored-is_stored.ensures.kept (returns-clause-seats g c)
+
+-- a hall has one slot
+one_slot : (many : ℕ) (table parted inside : TableId) → many ≡ parted.slots → parted ≡ table → inside ≡ table → inside.slots ≡ 1 → many ≡ 1
+one_slot many table parted inside counted parts view one = counted ∙ (ap (λ t. t.slots) parts ∙ (sym (ap (λ t. t.slots) view) ∙ one))
+
+-- one that was emptied holds nothing
+all_empty : (before after : List Bool) (many many' : ℕ) → many ≡ length before → many ≡ 1 → after ≡ set before 0 false → many' ≡ many → (k : ℕ) → k < many' → get_or after k false ≡ false
+all_empty before after many many' long one emptied same k below =
+    let first : k ≡ 0 = omega arith in
+    ap (λ f. get_or f k false) emptied ∙ (ap (λ n. get_or (set before 0 false) n false) first ∙ get_or-set_same before 0 false false (omega arith))
+
+pub take-slot-requires : goal.take-slot-requires
+take-slot-requires g c =
+    let values = c.close_with-closed.ensures.values in
+    let one =
+    one_slot _ c.args.self.table c.into_parts-table.result.0.shared.table_id _ c.close_with-closed.ensures.counts.1 c.into_parts-table.ensures.table (ap (λ (h : HallState). h.table) c.self.view_is) c.self.invariant.0.1 in
+    (subst (λ n. 0 < n) (sym one) (omega arith), values.1 0 (omega arith) (omega (arith, one)))
+
+pub free-requires : goal.free-requires
+free-requires g c =
+    let others = c.take-slot.ensures.others in
+    let slots = c.close_with-closed.result.slots in
+    all_empty (slots_filled slots) (slots_filled c.take-slot.new.self.slots) (slots_len slots) (slots_len c.take-slot.new.self.slots) (slots_counts slots).1
+    (one_slot _ c.args.self.table c.into_parts-table.result.0.shared.table_id _ c.close_with-closed.ensures.counts.1 c.into_parts-table.ensures.table (ap (λ (h : HallState). h.table) c.self.view_is) c.self.invariant.0.1) others.1 others.2
+
+pub returns-clause-closed : goal.returns-clause-closed
+returns-clause-closed g c =
+    sym c.args.seats.ok.0 ∙ (sym c.len.ensures ∙ (c.if-len-self.false ∙ ap (λ (h : HallState). h.seats) c.self.view_is))

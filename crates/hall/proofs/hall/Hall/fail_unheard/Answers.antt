@@ -1,5 +1,5 @@
-use Rattle.std.proofs.Common.{List, ◌∷◌, refl, ap, sym, subst, arith, ◌∙◌}
-use Rattle.std.specs.Prelude.{Some}
+use Rattle.std.proofs.Common.{◌≡◌, ◌-◌, ◌↔◌, List, ◌∷◌, length, refl, ap, sym, subst, arith, ◌∙◌}
+use Rattle.std.specs.Prelude.{Some, IsTrue}
 use Rattle.desk_core.specs.declared.call.Call.TheVariants.{Observe}
 use Rattle.desk_core.specs.declared.call.Finding.TheVariants.{Fail}
 use Rattle.desk_core.specs.declared.entry.Entry.{Entry}
@@ -8,8 +8,10 @@ use Rattle.desk_core.specs.Silence.{is_to_fail}
 use Rattle.hall.specs.Seats.{SeatState, IsCarriedOut}
 use Rattle.hall.specs.Silence.{seen_before}
 use Rattle.hall.specs.Steps.{HasDesk, seen_in}
-use Rattle.hall.proofs.Taken.{may_commit, may_count, may_leave, newest, unchanged, before_newest, seat_taken, seat_kept, own_entry, carried_out, seat_of}
+use Rattle.hall.proofs.Taken.{may_commit, may_count, may_leave, newest, unchanged, before_newest, seat_taken, seat_kept, own_entry, carried_out, seat_of, shows_seen, has_rest}
 use Rattle.hall.proofs.GivenBack.{seat_left, gone_on, own_kept}
+use Rattle.desk_core.specs.Changes.{Shows}
+use Rattle.hall.proofs.Reread.{as_long, effect_is, none_is}
 use Rattle.hall.proofs.hall.Hall.fail_unheard.Goals as goal
 
 pub finish-requires-clause-desk : goal.finish-requires-clause-desk
@@ -108,3 +110,19 @@ returns-clause-made g c =
     (carried_out c.args.seat.now c.seat.inside.place.table_id c.leave-in-Err.new.place.table_id c.seat.inside.place.me c.enter-desk.new.place.me c.leave-in-Err.new.place.me c.seat.inside.number
     c.seat.inside.made _ c.enter-desk.result c.change.new.self (Observe c.args.slot Fail) _ c.seat.view_is
     (record { seat = c.seat.invariant; limit = c.enter-desk.ensures.limit; has = c.enter-desk.ensures.desk; follows = c.enter-desk.ensures.follows }) (c.leave-in-Err.ensures.place ∙ c.enter-desk.ensures.place) c.in-Err.ensures.answered c.leave-in-Err.ensures.rests)
+
+pub returns-in-Ok-clause-placed : goal.returns-in-Ok-clause-placed
+returns-in-Ok-clause-placed g c =
+    effect_is (λ effect reply. effect.at ≡ Some (length (seen_in c.finish.new.place.me) - 1)) c.effect.result _ c.in-Ok.made.reply c.effect.ensures refl
+    (ap Some (omega (arith, c.in-Ok.ensures.placed.1, as_long c.finish.new.place.me _ _ c.change.new.self.journal c.finish.ensures.rests)))
+
+pub returns-in-Ok-clause-shows : goal.returns-in-Ok-clause-shows
+returns-in-Ok-clause-shows g c =
+    effect_is (λ effect reply. IsTrue effect.shows ↔ Shows (seen_in c.finish.new.place.me)) c.effect.result _ c.in-Ok.made.reply c.effect.ensures refl
+    (shows_seen _ _ _ c.change.new.self c.in-Ok.ensures.shows c.finish.ensures.rests)
+
+pub returns-clause-shows : goal.returns-clause-shows
+returns-clause-shows g c = none_is _ c.of_refusal.result c.in-Err.refusal (ap (λ effect. effect.result) c.of_refusal.ensures)
+
+pub enter-desk-requires-clause-rests : goal.enter-desk-requires-clause-rests
+enter-desk-requires-clause-rests g c = has_rest c.seat.inside.place.me c.seat.inside.number c.seat.inside.made c.seat.invariant

@@ -6,7 +6,6 @@ use Rattle.hall.specs.declared.view.View.{View}
 use Rattle.hall.specs.Gates.{IsGated}
 use Rattle.hall.specs.Views.{after_note, note_view}
 use Rattle.hall.proofs.Seats.{meets}
-use Rattle.hall.proofs.Turns.{looks}
 use Rattle.hall.proofs.hall.Hall.meet.Goals as goal
 
 pub join_seat-requires : goal.join_seat-requires
@@ -21,13 +20,4 @@ join_seat-requires g c =
       omega (arith, c.self.invariant.0),
       subst (λ (w : View). Joins (IsGated shared.key) c.seat.inside.place.id c.seat.inside.place.me.0 c.note.inside.place.id w (after_note c.seat.inside.place.me.0 w) (note_view [])) (sym told)
           (meets shared.key c.seat.inside.place.id c.seat.inside.place.me.0 c.note.inside.place.id c.note.inside.place.me.0.told),
-    )
-
-pub load-requires : goal.load-requires
-load-requires g c =
-    let shared = c.self.inside.table.shared in
-    let table = ap (λ (h : HallState). h.table) c.self.view_is in (
-      c.join_seat.ensures.0 ∙ (ap (λ (s : SeatState). s.table) c.seat.view_is ∙ (c.requires.seat.table ∙ sym table)),
-      omega (arith, c.self.invariant.0),
-      looks shared.key shared.table_id.slots c.join_seat.new.seat.id c.join_seat.new.seat.me,
     )

@@ -1,8 +1,31 @@
-use Rattle.std.proofs.Common.{refl}
-use Rattle.hall.proofs.Taken.{may_leave}
+use Rattle.std.proofs.Common.{List, refl, sym, ap, ◌∙◌}
+use Rattle.hall.proofs.Taken.{may_leave, has_rest}
+use Rattle.desk_core.specs.declared.entry.Entry.{Entry}
+use Rattle.desk_core.specs.Recall.{recalled}
+use Rattle.hall.proofs.Reread.{reread}
+use Rattle.hall.proofs.GivenBack.{gone_on, seat_left}
 use Rattle.hall.proofs.hall.Hall.recall.Goals as goal
 
 pub leave-requires-clause-desk : goal.leave-requires-clause-desk
 leave-requires-clause-desk g c =
     may_leave c.seat.inside.place.me c.enter-desk.new.place.me c.seat.inside.number c.seat.inside.made c.enter-desk.result c.enter-desk.result
     (record { seat = c.seat.invariant; limit = c.enter-desk.ensures.limit; has = c.enter-desk.ensures.desk; follows = c.enter-desk.ensures.follows }) (record { limit = refl; history = refl })
+
+pub returns-clause-recalled : goal.returns-clause-recalled
+returns-clause-recalled g c =
+    c.recall-recall.ensures.recalled
+    ∙ ap (λ (journal : List Entry). recalled g.K.Keep.kept journal c.args.place) (sym (reread c.leave.new.place.me _ _ c.enter-desk.result.journal c.leave.ensures.rests))
+
+pub returns-clause-goes_on : goal.returns-clause-goes_on
+returns-clause-goes_on g c =
+    gone_on _ c.seat.inside.place.table_id _ c.seat.inside.place.me c.enter-desk.new.place.me c.leave.new.place.me c.seat.inside.number c.seat.inside.made c.enter-desk.result c.enter-desk.result c.seat.view_is
+    (record { seat = c.seat.invariant; limit = c.enter-desk.ensures.limit; has = c.enter-desk.ensures.desk; follows = c.enter-desk.ensures.follows }) (c.leave.ensures.place ∙ c.enter-desk.ensures.place)
+    (record { limit = refl; history = refl }) c.leave.ensures.rests
+
+pub enter-desk-requires-clause-rests : goal.enter-desk-requires-clause-rests
+enter-desk-requires-clause-rests g c = has_rest c.seat.inside.place.me c.seat.inside.number c.seat.inside.made c.seat.invariant
+
+pub invariant_of-seat : goal.invariant_of-seat
+invariant_of-seat g c =
+    seat_left c.seat.inside.place.me c.enter-desk.new.place.me c.leave.new.place.me c.seat.inside.number c.seat.inside.made c.enter-desk.result c.enter-desk.result
+    (record { seat = c.seat.invariant; limit = c.enter-desk.ensures.limit; has = c.enter-desk.ensures.desk; follows = c.enter-desk.ensures.follows }) (record { limit = refl; history = refl }) c.leave.ensures.rests

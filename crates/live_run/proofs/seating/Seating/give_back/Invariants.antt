@@ -8,12 +8,3 @@ invariant-loop-server g l =
     (seats_of l.fn.self ≡ l.seats.items ++ (map (λ seated. seated.seat) (into_iter_items l.server-iterator) ++ (l.fn.self.control.items ++ l.fn.self.report.items)))
     × (vec_len l.seats + (into_iter_len l.server-iterator + (vec_len l.fn.self.control + vec_len l.fn.self.report)) ≤ vec_capacity l.seats)
     × (servers_of l.fn.self ≡ l.servers.items ++ map (λ seated. seated.server) (into_iter_items l.server-iterator)) × (vec_len l.servers + into_iter_len l.server-iterator ≤ vec_capacity l.servers)
-
-abbrev pub invariant-loop-seat : goal.invariant-loop-seat
-invariant-loop-seat g l =
-    (servers_of l.fn.self ≡ l.servers.items) × (seats_of l.fn.self ≡ l.seats.items ++ (into_iter_items l.seat-iterator ++ l.fn.self.report.items))
-    × (vec_len l.seats + (into_iter_len l.seat-iterator + vec_len l.fn.self.report) ≤ vec_capacity l.seats)
-
-abbrev pub invariant-loop-spare : goal.invariant-loop-spare
-invariant-loop-spare g l =
-    (servers_of l.fn.self ≡ l.servers.items) × (seats_of l.fn.self ≡ l.seats.items ++ into_iter_items l.spare-iterator) × (vec_len l.seats + into_iter_len l.spare-iterator ≤ vec_capacity l.seats)

@@ -3,6 +3,7 @@ use Rattle.std.proofs.lemmas.Result.{IfOk-from_err}
 use Rattle.record_log.specs.Device.{Elapses}
 use Rattle.record_log.specs.Crashes.{MayLeave, LeftSince, contents_of}
 use Rattle.record_log.specs.Memory.{states_of}
+use Rattle.record_log.proofs.DeviceLemmas.{no_error}
 use Rattle.record_log.proofs.CrashLemmas.{unnoted, noted}
 use Rattle.record_log.proofs.memory.MemoryDevice.sync.Goals as goal
 
@@ -51,4 +52,4 @@ returns-clause-time c =
     (noted past (record { bytes = c.in_ok-to_vec.field-0.items; write = None }))
 
 pub returns-clause-counted : goal.returns-clause-counted
-returns-clause-counted c = record { later = c.count.ensures.later; failed = λ is. (cc) }
+returns-clause-counted c = record { later = c.count.ensures.later; failed = λ is. no_error _ _ is }

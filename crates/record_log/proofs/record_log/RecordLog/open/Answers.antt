@@ -1,8 +1,8 @@
 use Rattle.std.proofs.Common.{inl, inr, length, sym, subst, ◌∙◌, ap, arith}
 use Rattle.std.proofs.lemmas.Result.{IfOk-from_err}
-use Rattle.record_log.specs.Device.{IsTorn}
+use Rattle.record_log.specs.Device.{IsTorn, LeavesOnly}
 use Rattle.record_log.specs.Log.{IsReady, IsAsBefore, StandsFor, texts}
-use Rattle.record_log.proofs.DeviceLemmas.{started, goes_on, two_calls, then}
+use Rattle.record_log.proofs.DeviceLemmas.{started, goes_on, two_calls, then, no_error}
 use Rattle.record_log.proofs.OpeningLemmas.{closed, first_gate, not_begun}
 use Rattle.record_log.proofs.record_log.RecordLog.open.Goals.{then-len-lt2+in_ok-write_synced, else-len-lt2}
 use Rattle.record_log.proofs.record_log.RecordLog.open.Goals as goal
@@ -109,10 +109,28 @@ returns-clause-ready g c =
     ]
 
 pub returns-clause-damaged : goal.returns-clause-damaged
-returns-clause-damaged g c = λ at is. (cc)
+returns-clause-damaged g c = λ at is. no_error _ _ is
 
 pub returns-clause-kept : goal.returns-clause-kept
-returns-clause-kept g c = λ at is. (cc)
+returns-clause-kept g c = λ at is. no_error _ _ is
 
 pub returns-clause-failed : goal.returns-clause-failed
-returns-clause-failed g c = λ is. (cc)
+returns-clause-failed g c = λ is. no_error _ _ is
+
+pub returns-clause-any_moment : goal.returns-clause-any_moment
+returns-clause-any_moment g c =
+    let D = g.D.Device in
+    let device = c.args.self.now.device in
+    let P = IsAsBefore (D.may_leave device) (D.contents device) in
+    let was_read =
+    two_calls D.moment D.left_since device c.sync.new.self c.read.new.self P (D.may_leave c.sync.new.self) (D.may_leave c.read.new.self)
+    (λ f left. inl (g.met.D.Device.only_now device f left)) c.sync.ensures.time (λ f left. inl (c.sync.ensures.crash f left)) c.read.ensures.time c.read.ensures.crash in
+    let len = ap length (c.in_ok-bytes.ensures.bytes ∙ sym c.read.ensures.contents) in
+    elim c.if-len-lt2.branch [
+      | then-len-lt2+in_ok-write_synced w ↦
+          subst (λ s. LeavesOnly D.moment D.left_since device s.device P) (sym w.self-is)
+          (then D.moment D.left_since device c.read.new.self w.write_synced.new.device P (IsTorn 0 1 (D.contents c.read.new.self)) P was_read w.in_ok-write_synced.ensures.any_moment
+          (λ f p. p)
+          (λ f torn. inr (not_begun (D.contents device) _ f (c.read.ensures.contents ∙ c.sync.ensures.contents) (omega (arith, len, c.len.ensures, w.if-len-lt2.true)) torn)))
+      | else-len-lt2 w ↦ subst (λ s. LeavesOnly D.moment D.left_since device s.device P) (sym w.self-is) was_read
+    ]

@@ -4,7 +4,7 @@ use Rattle.desk_core.specs.declared.call.Call.{Call}
 use Rattle.desk_core.specs.Left.{Holds}
 use Rattle.desk_core.specs.Past.{past}
 use Rattle.hall.specs.CarriedOut.{replied}
-use Rattle.hall.specs.Seats.{SeatState, IsOf, new_seats, own_calls}
+use Rattle.hall.specs.Seats.{SeatState, IsOf, new_seats}
 use Rattle.server.specs.Setup.{AreSetUp, SetUpState}
 use Rattle.server.proofs.OwnLemmas.{stands_for_seen}
 use Rattle.server.proofs.StoringLemmas.{always, first_has_seen, on_ok, same_seats, seen, some_seats, still}

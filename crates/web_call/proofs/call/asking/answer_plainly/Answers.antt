@@ -1,4 +1,4 @@
-use Rattle.std.proofs.Common.{[], ◌∷◌, refl, inl, rules}
+use Rattle.std.proofs.Common.{[], ◌∷◌, refl, inl}
 use Rattle.web_call.specs.declared.outcome.Outcome.TheVariants as outcomes
 use Rattle.web_call.specs.Answer.IsStarvedAt.{Plain as StarvedPlain}
 use Rattle.web_call.specs.Answer.Sends.{ToldPlainly}

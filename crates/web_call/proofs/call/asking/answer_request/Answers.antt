@@ -1,8 +1,10 @@
-use Rattle.std.proofs.Common.{refl, sym, ap, subst, ◌∙◌, arith, rules, [], length}
+use Rattle.std.proofs.Common.{refl, sym, ap, subst, ◌∙◌, ◌∷◌, false, ◌≡◌, arith, rules, [], length}
+use Rattle.plain.specs.Answer.{IsInquiryOf}
+use Rattle.plain.specs.Inquiry.{asked_of}
 use Rattle.web_call.specs.Answer.{IsOfCall}
 use Rattle.web_call.specs.Answer.IsStarvedAt.{Head}
 use Rattle.web_call.specs.Answer.Sends.{RefusedByHttp, EndedByHead}
-use Rattle.web_call.specs.Head.{IsHeaded}
+use Rattle.web_call.specs.Head.{IsHeaded, is_too_large}
 use Rattle.web_call.specs.HeadAnswer.{Refused, Ended, Asked}
 use Rattle.web_call.specs.Request.{IsRequested}
 use Rattle.web_call.specs.ResponseTexts.{refusal_pieces, status_pieces}
@@ -59,3 +61,16 @@ returns-in-Http-clause-stays g c = g.D.Door.stays_self _
 
 pub returns-in-Status-clause-stays : goal.returns-in-Status-clause-stays
 returns-in-Status-clause-stays g c = g.D.Door.stays_self _
+
+pub returns-in-Some-clause-asked : goal.returns-in-Some-clause-asked
+returns-in-Some-clause-asked g c =
+    let seen = g.D.Door.seen c.answer_plainly.new.door in
+    let inquiry = subst (λ head. IsInquiryOf head (asked_of c.in-Some.inquiry)) c.head-head.ensures c.in-Some.ensures.asked in
+    let within = subst (λ head. is_too_large head ≡ false) c.head-head.ensures (c.plain_of.ensures.within (search rules)) in (
+      seen ∷ [],
+      omega arith,
+      c.answer_plainly.ensures.asks,
+      λ past outgoing reads.
+          answers_first _ past c.args.intake.now outgoing (seen ∷ []) c.answer_plainly.result reads
+          (c.answer_plainly.ensures.stands c.args.intake.now.head.items _ past.received inquiry within (requested past c.args.intake.now outgoing c.requires reads)),
+    )

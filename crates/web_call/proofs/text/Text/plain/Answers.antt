@@ -1,4 +1,4 @@
-use Rattle.std.proofs.Common.{[], ◌∷◌, refl, sym, append-nil, arith}
+use Rattle.std.proofs.Common.{[], ◌∷◌, sym, append-nil, arith}
 use Rattle.web_call.specs.Pieces.{plain}
 use Rattle.web_call.proofs.PieceLemmas.{frames_none}
 use Rattle.web_call.proofs.text.Text.plain.Goals as goal
