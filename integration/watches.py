@@ -164,6 +164,7 @@ def counted():
 
 
 change(FULL)
+until("it is open while the registry has what it was not told", counted, [FULL + 1, 2, 2, 0, 0, 0])
 taken = time.monotonic()
 for _ in range(8):
     if time.monotonic() - taken > 10:
@@ -173,7 +174,7 @@ for _ in range(8):
 change(FULL)
 told += idle.to_end()
 holds("it is told the first statuses, which its socket held, in their order, and then the end",
-      100 < len(told) < FULL and told == [1 + number % 2 for number in range(len(told))], f"{len(told)}: {told[:3]}, {told[-3:]}")
+      1 < len(told) < FULL and told == [1 + number % 2 for number in range(len(told))], f"{len(told)}: {told[:3]}, {told[-3:]}")
 until("it is counted as behind", counted, [KEPT, 1, 1, 1, 0, 1])
 with connect(server.plain) as asking:
     asking.sendall(b"GET /metrics HTTP/1.1\r\nhost: localhost\r\n\r\n")
