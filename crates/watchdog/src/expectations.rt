@@ -74,10 +74,17 @@ impl Expectations {
         }
     }
 
-    /// What was said newest of the service since this was asked last.
+    /// What was said newest of the service since this was asked last, unless something newer is said just then. Whoever asks meanwhile how
+    /// often the service has to be heard is told that, and not what was expected before.
     pub(crate) fn take(&self, slot: Slot) -> Option<Wish> {
         let word = self.wishes.get(usize::from(slot.number()))?;
-        Wish::of_word(word.swap(0, Ordering::SeqCst))
+        let said = word.load(Ordering::SeqCst);
+        let wish = Wish::of_word(said)?;
+        self.follow(slot, Some(wish.seconds));
+        match word.compare_exchange(said, 0, Ordering::SeqCst, Ordering::SeqCst) {
+            Ok(_) => Some(wish),
+            Err(_) => None,
+        }
     }
 
     /// A service was brought down since nothing was heard of it.

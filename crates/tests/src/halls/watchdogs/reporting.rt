@@ -1,15 +1,15 @@
-//! A report that comes while the watchdog reads the clock.
+//! What comes while the watchdog reads the clock: a report, and a question how often a service is expected to be heard.
 
 ghost use Rattle.hall.specs.Seats.{IsOf};
 
 use crate::halls::watchdogs::reading::At;
 use crate::names::catalogue;
 use crate::same::same;
-use desk_core::{Finding, KeepMany};
+use desk_core::{Finding, KeepMany, Slot};
 use hall::{Hall, Seat};
 use probe_core::{Start, Threshold};
 use std::alloc::Global;
-use std::cell::RefCell;
+use std::cell::{Cell, RefCell};
 use std::io;
 use std::process::Abort;
 use std::sync::{Arc, Wait};
@@ -46,6 +46,25 @@ impl<R: Wait> Clock for Reporting<'_, R> {
             reporter.report();
         }
         Ok(Duration::from_millis(self.millis))
+    }
+
+    fn since_1970(&self) -> io::Result<Duration> {
+        self.monotonic()
+    }
+}
+
+/// A clock that stands still at 0, and while it is read somebody asks how often a service is expected to be heard.
+#[derive(Drop)]
+struct Asking<'a> {
+    expectations: &'a Arc<Expectations>,
+    slot: Slot,
+    told: Cell<Option<u32>>,
+}
+
+impl Clock for Asking<'_> {
+    fn monotonic(&self) -> io::Result<Duration> {
+        self.told.set(self.expectations.seconds(self.slot));
+        Ok(Duration::from_millis(0))
     }
 
     fn since_1970(&self) -> io::Result<Duration> {
@@ -98,7 +117,7 @@ fn play_over<R: Wait + Abort>(
     expect_round(rt, hall, watchdog, own, &At(1_900), true, 50);
 }
 
-/// Has `a` be expected every second, over a new hall of which nothing was expected before.
+/// Has `a` be expected every second, over a new hall of which nothing was expected before. Whoever asks is told so from then on.
 fn play<R: Wait + Abort>(rt: &R, alloc: Global) {
     let catalogue = catalogue(rt, alloc, &["a", ""]);
     let slot = catalogue.slot("a").expect(rt, "a slot");
@@ -119,6 +138,13 @@ fn play<R: Wait + Abort>(rt: &R, alloc: Global) {
     let _ = hall.register(rt, &mut others, "a", Threshold::new(3, 1, Start::Up));
     expect_round(rt, &hall, &mut watchdog, &mut own, &At(0), false, 1_000);
     expectations.expect(slot, wish);
+    let asking = Asking {
+        expectations: &expectations,
+        slot,
+        told: Cell::new(None),
+    };
+    expect_round(rt, &hall, &mut watchdog, &mut own, &asking, false, 50);
+    same(rt, &asking.told.get(), &Some(1), &"told in that round");
     play_over(rt, &hall, &mut own, others, &mut watchdog);
 }
 
