@@ -16,9 +16,11 @@ def free_port():
 
 
 class Threads(http.server.ThreadingHTTPServer):
-    """Its threads end before it is closed: one that still runs when Python ends may break its end."""
+    """Its threads end before it is closed: one that still runs when Python ends may break its end. Many clients may wait to be taken, as
+    those of a balancer's checks do where this process has had no turn for a while."""
 
     daemon_threads = False
+    request_queue_size = 128
 
 
 class Web:
@@ -93,7 +95,9 @@ class Balancer:
                                         stdout=open(f"{folder}/haproxy.out", "w"))
 
     def is_open(self):
-        return os.path.exists(self.socket)
+        """Whether its stats socket takes connections. The file is there a moment before."""
+        with socket.socket(socket.AF_UNIX) as admin:
+            return admin.connect_ex(self.socket) == 0
 
     def stats(self, backend="web"):
         """What it says of each server at its stats socket."""

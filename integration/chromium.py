@@ -55,8 +55,13 @@ class Browser:
         sys.exit(f"Chromium ended with status {self.process.wait(5)}: " + " ".join(said[-3:]).strip())
 
     def close(self):
+        """Ends it. How long it takes for that is nothing that is checked."""
         self.ask("Browser.close")
-        self.process.wait(5)
+        try:
+            self.process.wait(20)
+        except subprocess.TimeoutExpired:
+            self.process.kill()
+            self.process.wait(20)
 
 
 class Page:

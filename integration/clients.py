@@ -28,6 +28,13 @@ def counted(server, *names):
     return [stats[name] for name in names]
 
 
+def counted_by(session, *names):
+    """The same by a session that is open, which takes no process."""
+    words = ask_line(session, "stats").split()
+    stats = dict(zip(words[::2], map(int, words[1::2])))
+    return [stats[name] for name in names]
+
+
 server = Server("--threads", "3")
 beside = connected(server, 3) + connected(server, 3, b"POST ")
 holds("Checks are answered beside clients that say nothing or too little", all(server.check().endswith(OK) for _ in range(6)))
@@ -86,18 +93,21 @@ def waits(server):
 
 
 def waits_beside(server, act):
-    """How often they wait while this is done so many times, at intervals of a hundredth of a second."""
-    before = waits(server)
+    """How often they wait while this is done so many times, at intervals of a hundredth of a second, and how long that takes."""
+    before, begins = waits(server), time.monotonic()
     for _ in range(CAME):
         act()
         time.sleep(0.01)
-    return waits(server) - before
+    return waits(server) - before, time.monotonic() - begins
 
 
 server = Server("--threads", "4")
-idle = waits_beside(server, lambda: None)
+idle, rest = waits_beside(server, lambda: None)
 came = []
-found = waits_beside(server, lambda: came.append(server.connect())) - idle
+found, seconds = waits_beside(server, lambda: came.append(server.connect()))
+# Each loop waits for a tenth of a second at most, so that all wait more often the longer it takes.
+idle = round(idle * seconds / rest)
+found -= idle
 holds("one of four loops is woken for a client", found < 2 * CAME, f"{CAME} clients end {found} waits, beside {idle}")
 for client in came:
     client.close()
@@ -107,12 +117,18 @@ server.stop()
 server = Server("--threads", "2", "--quiet")
 watcher = server.watcher()
 holds("a Watch beside clients that leave", watcher.next() == 1)
-with server.connect() as client:
-    client.sendall(head("Check").replace(b"content-length: 8", b"content-length: 20000"))
-    found = read_all(client)
-    client.sendall(b"0123456789abcdef" * 1_250)
-    time.sleep(0.3)
-    error = client.getsockopt(socket.SOL_SOCKET, socket.SO_ERROR)
+for tries in range(1, 21):
+    # The tenth of a second begins with the answer, and so behind the request: what is sent later than that shows nothing.
+    begins = time.monotonic()
+    with server.connect() as client:
+        client.sendall(head("Check").replace(b"content-length: 8", b"content-length: 20000"))
+        found = read_all(client)
+        client.sendall(b"0123456789abcdef" * 1_250)
+        is_late = time.monotonic() - begins > 0.09
+        time.sleep(0.3)
+        error = client.getsockopt(socket.SOL_SOCKET, socket.SO_ERROR)
+    if not is_late:
+        break
 holds("a client that is refused before its body has come may send that, without a reset",
       (found.endswith(b"grpc-status:8\r\ngrpc-message:request too large\r\n"), error) == (True, 0), f"{found} {error}")
 with server.connect() as client:
@@ -121,17 +137,17 @@ with server.connect() as client:
     found = read_all(client)
 holds("a Watch whose client closes its side is told the status, and closed", found.endswith(b"\r\n\r\n7\r\n" + SERVING + b"\r\n"),
       str(found))
-until("both have ended, and are not gone", lambda: counted(server, "calls", "gone", "connections", "watches"), [2, 0, 1, 1])
+until("both have ended, and are not gone", lambda: counted(server, "calls", "gone", "connections", "watches"), [tries + 1, 0, 1, 1])
 with server.connect() as client:
     client.sendall(b"POST ")
     time.sleep(0.2)
     client.setsockopt(socket.SOL_SOCKET, socket.SO_LINGER, struct.pack("ii", 1, 0))
-until("a client that resets its connection is gone", lambda: counted(server, "calls", "gone", "connections"), [3, 1, 1])
-with server.connect() as client:
+until("a client that resets its connection is gone", lambda: counted(server, "calls", "gone", "connections"), [tries + 2, 1, 1])
+with server.session() as session, server.connect() as client:
     client.sendall(b"GET / HTTP/1.1\r\nhost: a\r\n\r\n")
     found, begins = read_all(client), time.monotonic()
-    until("a client that stays behind its answer is closed, and counts as no other", lambda: counted(
-        server, "calls", "gone", "given_up", "connections", "watches"), [4, 1, 0, 1, 1])
+    until("a client that stays behind its answer is closed, and counts as no other", lambda: counted_by(
+        session, "calls", "gone", "given_up", "connections", "watches"), [tries + 3, 1, 0, 1, 1])
     measured("the end of its connection", time.monotonic() - begins, 0.7)
 holds("it had its answer", found.startswith(b"HTTP/1.1 405 "), str(found))
 watcher.client.sendall(b"0123456789abcdef" * 4_096)
@@ -193,7 +209,7 @@ holds("and no more of them", counted(server, "connections", "calls") == [PLACES,
 for client in held[:MORE]:
     client.close()
 until("the others get in where as many have left", lambda: counted(server, "connections", "calls"), [PLACES, MORE])
-held, answers, waited = held[MORE:], [], 0
+held, answers, waited, begins = held[MORE:], [], 0, time.monotonic()
 random.shuffle(held)
 for client in held[:LEAVE]:
     late = server.connect(20)
@@ -206,7 +222,7 @@ for client in held[:LEAVE]:
     held.append(server.connect(20))
     time.sleep(0.01)
 holds("a Check that waits for a place is answered once one is free, whose ever it was", all(answer.endswith(OK) for answer in answers))
-measured(f"{LEAVE} of them", waited, 0.6)
+measured(f"{LEAVE} of them", waited, 0.6, begins)
 for client in held:
     client.close()
 until("all places are free again", lambda: counted(server, "connections", "calls"), [0, PLACES + MORE + 2 * LEAVE])
@@ -220,7 +236,9 @@ WATCHES = 350
 freeze(server.process)
 watches = connected(server, WATCHES, head("Watch") + REQUEST)
 server.process.send_signal(signal.SIGCONT)
-until("of 350 Watches 300 stay open", lambda: counted(server, "connections", "watches"), [300, 300])
+# Once the others are counted as calls that have ended, none of them is left that was not accepted, or not read.
+until("of 350 Watches 300 stay open", lambda: counted(server, "connections", "watches", "calls"),
+      [300, 300, PLACES + MORE + 2 * LEAVE + WATCHES - 300])
 holds("a Check is answered beside them", server.check().endswith(OK))
 holds("one more is told the status and its end", server.watcher().to_end() == [1])
 told, still_open = [], []

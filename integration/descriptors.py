@@ -4,7 +4,7 @@ import resource
 import socket
 import subprocess
 
-from servers import HEALTHD, Server, holds, measured, timed
+from servers import HEALTHD, Server, holds, measured, timed, until
 
 CLIENTS = 1_100
 
@@ -42,8 +42,7 @@ for words, answer in ((("list",), "a=serving db=serving -=serving"), (("down", "
 (said, status), seconds = timed(server.ask, "--name", "a")
 holds("ask", said.startswith("NOT_SERVING"), said)
 measured(f"ask beside {CLIENTS} Watches", seconds, 1)
-held = server.stats()
-holds("as many Watches are open as nine tenths of the connections", held["watches"] == 864, str(held))
+until("as many Watches are open as nine tenths of the connections", lambda: server.stats()["watches"], 864)
 (said, status), seconds = timed(server.tell, "up", "a")
 holds("tell up a", said == "done", said)
 server.stop()

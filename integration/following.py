@@ -1,10 +1,11 @@
 """What `ask --watch` prints while the changes are made, and how it ends."""
+import resource
 import select
 import socket
 import subprocess
 import threading
 
-from servers import HEALTHD, MESSAGE, Server, WATCH_END, holds, measured, timed
+from servers import HEALTHD, MESSAGE, Server, WATCH_END, holds
 
 HEAD = b"HTTP/1.1 200 OK\r\ntransfer-encoding: chunked\r\n\r\n"
 PATIENCE = 10
@@ -23,9 +24,9 @@ class Follower:
             return "nothing"
         return self.process.stdout.readline().decode()
 
-    def end(self):
+    def end(self, patience=PATIENCE):
         """The lines that are left, what it says, and its exit status."""
-        out, err = self.process.communicate(timeout=PATIENCE)
+        out, err = self.process.communicate(timeout=patience)
         return out.decode(), err.decode(), self.process.returncode
 
     def leave(self):
@@ -72,9 +73,9 @@ holds("a Watch of two statuses ends behind the second", (found := some.end()) ==
 holds("and the other one is told it too", (line := follower.line()) == "NOT_SERVING\n", line)
 
 # What was printed stays where the time is up.
-late = Follower(server.port, "--watch", "--timeout", "1")
+late = Follower(server.port, "--watch", "--timeout", "4")
 found = late.end()
-holds("what was printed stays where the time is up", found == ("NOT_SERVING\n", "healthd: timed out after 1 s\n", 1), str(found))
+holds("what was printed stays where the time is up", found == ("NOT_SERVING\n", "healthd: timed out after 4 s\n", 1), str(found))
 
 # It ends with the next status where nobody reads what it prints.
 left = Follower(server.port, "--watch")
@@ -86,10 +87,21 @@ holds("while the other one goes on", (line := follower.line()) == "SERVING\n", l
 server.stop()
 holds("the end of the Watch is printed, too", (found := follower.end()) == ("grpc-status 14 watch ended\n", "", 0), str(found))
 
-# There is no bound below that of a number of 32 bits: these are over 1,000, and of over 1,048,576 bytes.
-for count in (1_500, 160_000):
+
+def processor_seconds():
+    """What the processes took that have ended, of the processor."""
+    used = resource.getrusage(resource.RUSAGE_CHILDREN)
+    return used.ru_utime + used.ru_stime
+
+
+# There is no bound below that of a number of 32 bits: these are over 1,000, and of over 1,048,576 bytes. It is the processor's time that is
+# bounded: each line is a write, behind which another process may have its turn.
+for count, patience in ((1_500, PATIENCE), (160_000, 10 * PATIENCE)):
+    before = processor_seconds()
     follower = Follower(Teller(count).port, "--watch")
-    (out, err, status), seconds = timed(follower.end)
+    out, err, status = follower.end(patience)
     expected = "SERVING\n" * count + "grpc-status 14 watch ended\n"
     holds(f"{count} statuses are printed", (out == expected, err, status) == (True, "", 0), f"{len(out)} bytes, {err} {status}")
-    measured(f"{count} statuses", seconds, PATIENCE)
+    seconds = processor_seconds() - before
+    holds(f"{count} statuses take no more than {PATIENCE} s of the processor", seconds <= PATIENCE, f"{seconds:.2f} s")
+    print(f"measured following {count} statuses: {seconds:.3f} s of the processor", flush=True)

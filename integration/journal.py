@@ -8,7 +8,7 @@ import tempfile
 import time
 import zlib
 
-from servers import HEALTHD, SCRIPT, Server, ask_line, holds, measured, timed
+from servers import HEALTHD, SCRIPT, Server, ask_line, holds, timed, until
 
 folder = tempfile.mkdtemp(prefix="healthd-journal-")
 journal = f"{folder}/journal"
@@ -59,7 +59,7 @@ holds("it has the entries, with their times and who asked", entries(server) == s
 holds("it says why", server.tell("why", "a")[0] == "not_serving: set down by entry 9", server.tell("why", "a")[0])
 holds("a change goes behind them", server.tell("up", "a")[0] == "done" and len(entries(server)) == 11)
 server.process.send_signal(signal.SIGKILL)
-server.process.wait(5)
+server.process.wait(60)
 shutil.rmtree(server.folder)
 server = start()
 holds("a kill takes nothing back", server.tell("list")[0] == "a=serving db=serving -=serving" and len(entries(server)) == 11, str(entries(server)))
@@ -69,9 +69,7 @@ server.stop()
 # The journal counts more than the script.
 server = start(script=SCRIPT.replace("register db threshold 2", "register db threshold 9") + "expect db 1\n")
 holds("a changed setup line is not run", [line for line in entries(server) if "register db" in line][0].endswith("register db threshold 2 1: done"))
-server.tell("pass", "db")
-time.sleep(1.6)
-holds("an `expect` line is", server.stats()["expired"] == 1 and "db=not_serving" in server.tell("list")[0], server.tell("list")[0])
+until("an `expect` line is", lambda: (server.stats()["expired"], "db=not_serving" in server.tell("list")[0]), (1, True))
 holds("its fails are in the file", kept()[1][-1].split()[2] == "expiry" and kept()[1] == entries(server), kept()[1][-1])
 server.stop()
 count = len(kept()[1])
@@ -325,7 +323,7 @@ for delay in (0.02, 0.1, 0.2, 0.3, 0.6):
     session.sendall(b"fail db\npass db\nfail db\npass db\n")
     time.sleep(delay)
     server.process.send_signal(signal.SIGKILL)
-    server.process.wait(5)
+    server.process.wait(60)
     session.close()
     shutil.rmtree(server.folder)
     status, lines, said = kept(one)
@@ -381,7 +379,7 @@ status, lines, said = kept(path)
 holds("it is not written anew before it is long again", lines[condensed].split()[0] == str(count + 104 - len(lines) + condensed) and len(lines) > NEWEST + 100)
 board = server.tell("list")[0]
 server.process.send_signal(signal.SIGKILL)
-server.process.wait(5)
+server.process.wait(60)
 shutil.rmtree(server.folder)
 server = start(path=path)
 holds("a restart has the statuses", server.tell("list")[0] == board, server.tell("list")[0])

@@ -26,7 +26,7 @@ def lines(server):
 
 def logs(server, *wanted):
     """Holds where these are the next lines, and no more come for a while."""
-    ends = time.monotonic() + 5
+    ends = time.monotonic() + 20
     while len(lines(server)) < logs.told + len(wanted) and time.monotonic() < ends:
         time.sleep(0.02)
     time.sleep(0.2)
@@ -116,7 +116,7 @@ logs(limited, "WARN  all 20 entries are made")
 limited.stop()
 
 # Who asked and when, and a journal that is full while a service is not heard from.
-FULL = "catalogue db api -\nmax 8\nregister db threshold 2\nregister api manual\nregister - depends db api\nexpect db 1\n"
+FULL = "catalogue db api -\nmax 8\nregister db threshold 2\nregister api manual\nregister - depends db api\nexpect db 3600\n"
 REPORT = f"/tmp/healthd-log-{os.getpid()}"
 
 
@@ -139,10 +139,13 @@ with full.session() as session:
     told_twice = [ask_line(session, "up api") for _ in range(2)]
 holds("two changes of one session are made", told_twice == ["done", "done"], str(told_twice))
 row = json.loads(shown(full, "status", "--json"))[0]
-holds("how often it is expected is told", row["expected_seconds"] == 1, str(row))
+holds("how often it is expected is told", row["expected_seconds"] == 3_600, str(row))
 holds("its status has the time of the setup, and its report its own",
       (row["since"]["entry"], row["reported"]["entry"]) == (0, 4) and row["since"]["time"] < row["reported"]["time"], str(row))
-time.sleep(2.5)
+told(full, "expect", "db", "1")
+REFUSED = "WARN  a change of expiry was refused: full"
+until("a fail that is refused is told", lambda: lines(full).count(REFUSED), 1)
+time.sleep(2.2)  # it is refused twice more
 entries = shown(full, "history").splitlines()
 WHO = ["setup"] * 3 + ["session 1", "session 2", "session 4", "session 4", "expiry"]
 holds("who asked", [re.match(r"\d+ \S+ (session \d+|\w+)", line)[1] for line in entries] == WHO, str(entries))
@@ -152,8 +155,7 @@ holds("each line of the log is of now", all(is_now(line.split()[0]) for line in 
 for line in ("WARN  db: not heard from for 1 s, 1 fail made, entry 7", "WARN  all 8 entries are made",
              "WARN  a change of session 3 was refused: not listed"):
     holds(f"its log has {line}", lines(full).count(line) == 1, str(lines(full)))
-line = "WARN  a change of expiry was refused: full"
-holds("a fail that is refused again and again is told once", lines(full).count(line) == 1, str(lines(full)))
+holds("a fail that is refused again and again is told once", lines(full).count(REFUSED) == 1, str(lines(full)))
 row = json.loads(shown(full, "status", "--json"))[0]
 holds("a fail that the server makes is no report", (row["since"]["entry"], row["reported"]["entry"], row["status"]) == (0, 4, "serving"), str(row))
 full.stop()
@@ -179,22 +181,27 @@ def seconds_of(text):
     return datetime.strptime(text, "%Y-%m-%dT%H:%M:%S.%fZ").replace(tzinfo=timezone.utc).timestamp()
 
 
-# Lines are written up to a twentieth of a second later.
+def refusals():
+    return [line for line in unheard.written() if line.endswith(" was refused: not listed\n")]
+
+
+# Lines are written up to a twentieth of a second later. Each is of a session of its own: one turn may have several lines, and has one time.
 answered = []
-with unheard.session() as session:
-    for _ in range(8):
-        begins = time.time()
+for _ in range(8):
+    begins = time.time()
+    with unheard.session() as session:
         holds("a change is refused", ask_line(session, "up nobody") == "refused not listed")
-        answered.append((begins - 0.001, time.time()))
-        time.sleep(0.07)
-time.sleep(0.2)
-noted = [seconds_of(line.split()[0]) for line in unheard.written() if line.endswith(" was refused: not listed\n")]
+    answered.append((begins - 0.001, time.time()))
+    time.sleep(0.07)
+until("each refusal has its line", lambda: len(refusals()), 8)
+noted = [seconds_of(line.split()[0]) for line in refusals()]
 holds("a line about a refusal has its time", len(noted) == 8 and all(begins <= then <= ends for then, (begins, ends) in zip(noted, answered)),
       f"{noted} {answered}")
 unheard.stop()
 
 # What came about last is told before the end, and each line is told or counted as left out.
 ending = Server()
+until("it has begun before it is ended", lambda: len(lines(ending)), 1)
 with open(f"{ending.folder}/err") as file:
     with ending.session() as session:
         for line in ("down a", "up nobody"):
@@ -251,8 +258,7 @@ for options in (("--quiet",), ()):
 reporting = Server("--report", REPORT, control=False)
 holds("a report is made there too", reporting.tell("fail", "db", place=REPORT) == ("done", 0))
 holds("and another", reporting.tell("fail", "db", place=REPORT) == ("done", 0))
-time.sleep(0.3)
-holds("its log tells what they changed", "WARN  db: serving -> not_serving, entry 4 (session 2: fail db)" in lines(reporting), str(lines(reporting)))
+until("its log tells what they changed", lambda: "WARN  db: serving -> not_serving, entry 4 (session 2: fail db)" in lines(reporting), True)
 reporting.kill()
 
 # A standard error that nobody reads.
@@ -272,16 +278,13 @@ def is_full():
 
 
 changed()
-ends = time.monotonic() + 5
-while not is_full() and time.monotonic() < ends:
-    time.sleep(0.02)
-holds("its standard error is full", is_full())
+until("its standard error is full", is_full, True)
 changed()
 _, seconds = timed(unread.check)
-holds("a Check is answered then", seconds < 1, f"{seconds:.2f} s")
+holds("a Check is answered then", seconds < 5, f"{seconds:.2f} s")
 session.close()
 status, seconds = timed(unread.stop)
-holds("and it ends", status == 0 and seconds < 3, f"{status} after {seconds:.2f} s")
+holds("and it ends", status == 0 and seconds < 10, f"{status} after {seconds:.2f} s")
 holds("nothing was taken out of it", is_full())
 os.close(writer)
 with os.fdopen(reader) as file:
@@ -319,10 +322,9 @@ with hung.session() as session:
         ask_line(session, "down a")
         ask_line(session, "up a")
         time.sleep(0.01)
-stats = hung.stats()
-holds("a service expires beside a terminal that nobody reads", stats["expired"] == 1, str(stats))
+until("a service expires beside a terminal that nobody reads", lambda: hung.stats()["expired"], 1)
 status, seconds = timed(hung.stop)
-holds("and the server ends", status == 0 and seconds < 3, f"{status} after {seconds:.2f} s")
+holds("and the server ends", status == 0 and seconds < 10, f"{status} after {seconds:.2f} s")
 os.close(master)
 os.close(slave)
 
@@ -341,10 +343,16 @@ BOTH = f"/tmp/healthd-log-{os.getpid()}-both"
 with open(BOTH, "w") as both:
     one = Server(err=both, out=both)
 told(one, "down", "a")
-time.sleep(0.3)
+
+
+def in_both():
+    with open(BOTH) as file:
+        return [line.split(" ", 1)[1] if LOGGED.match(line) else line for line in file.read().splitlines()]
+
+
+until("a change is told where both are one file", lambda: len(in_both()), 5)
 one.stop()
-with open(BOTH) as file:
-    found = [line.split(" ", 1)[1] if LOGGED.match(line) else line for line in file.read().splitlines()]
+found = in_both()
 os.remove(BOTH)
 PARTS = [f"listening 127.0.0.1:{one.port}", f"control {one.control}", f"INFO  serving on 127.0.0.1:{one.port}, 3 services, 3 entries",
          "WARN  a: serving -> not_serving, entry 3 (session 1: down a)", "WARN  -: serving -> not_serving, entry 3 (session 1: down a)",
@@ -442,7 +450,7 @@ def pours(name, reader, writer, waits, **options):
     holds(f"{name}: all changes are made", answers == {"done"}, str(answers))
     time.sleep(1)
     _, seconds = timed(server.check)
-    holds(f"{name}: a Check is answered then", seconds < 1, f"{seconds:.2f} s")
+    holds(f"{name}: a Check is answered then", seconds < 5, f"{seconds:.2f} s")
     read = read_until(reader, b"", lambda text: sum(accounted(text)) >= 2 * PAIRS)
     status = server.stop()
     read = read_until(reader, read, lambda text: text.endswith("INFO  ended: stopped\n")).decode()
@@ -477,8 +485,7 @@ whole = Server(err=writer)
 with whole.session() as session:
     for number in range(CHANGES):
         ask_line(session, ("down a", "up a")[number % 2])
-time.sleep(0.2)
-holds("a pipe that nobody reads is full", not select.select([], [writer], [], 0)[1])
+until("a pipe that nobody reads is full", is_full, True)
 whole.stop()
 os.close(writer)
 with os.fdopen(reader, "rb") as file:
@@ -501,8 +508,8 @@ size = os.path.getsize(path)
 resource.prlimit(limited.process.pid, resource.RLIMIT_FSIZE, (size + 10, resource.RLIM_INFINITY))
 told(limited, "down", "a")
 told(limited, "up", "a")
+until("a full disk takes no more", lambda: os.path.getsize(path), size + 10)
 time.sleep(0.3)
-holds("a full disk takes no more", os.path.getsize(path) == size + 10, str(os.path.getsize(path)))
 holds("a Check is answered beside a full disk", limited.check().endswith(OK))
 resource.prlimit(limited.process.pid, resource.RLIMIT_FSIZE, (resource.RLIM_INFINITY, resource.RLIM_INFINITY))
 until("what it did not take is written once it does", lambda: [line.partition(" ")[2] for line in on_disk().splitlines()], [
@@ -532,10 +539,17 @@ for name in ("a full disk", "a pipe whose reader is gone", "a pipe whose reader 
 
 # What lasts is told again a minute later, and not before; a full history only where something is new.
 time.sleep(max(0.0, lasted + MINUTE + 6 - time.monotonic()))
+
+
+def told_at(line):
+    return [seconds_of(text.split()[0]) for text in lasting.written() if text.endswith(f"Z {line}\n")]
+
+
 for line in ("WARN  all 2 connections are taken", "WARN  all 2 watches are taken", f"WARN  all {SESSIONS} sessions are taken",
              "WARN  a change of expiry was refused: full"):
-    found = [seconds_of(text.split()[0]) for text in lasting.written() if text.endswith(f"Z {line}\n")]
-    holds(f"it is told once a minute that {line.split('  ')[1]}", len(found) > 1 and MINUTE - 0.1 < found[1] - found[0] < MINUTE + 4, str(found))
+    until(f"it is told again that {line.split('  ')[1]}", lambda: len(told_at(line)) > 1, True, 20)
+    found = told_at(line)
+    holds(f"it is told once a minute that {line.split('  ')[1]}", MINUTE - 0.1 < found[1] - found[0] < MINUTE + 20, str(found))
 line = "WARN  all 2 entries are made"
 holds(f"its log has {line}, once", lines(lasting).count(line) == 1, str(lines(lasting)))
 for client in held:

