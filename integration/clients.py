@@ -10,7 +10,7 @@ import struct
 import time
 
 from servers import (MESSAGE, NOT_SERVING, OK, REQUEST, SERVING, WATCH_END, Server, ask_line, freeze, head, holds, measured, processor_seconds,
-                     read_all, rest_of, timed, until)
+                     read_all, rest_of, stats_by, timed, until)
 
 CHECK = head("Check") + REQUEST
 
@@ -25,13 +25,6 @@ def connected(server, count, said=b""):
 
 def counted(server, *names):
     stats = server.stats()
-    return [stats[name] for name in names]
-
-
-def counted_by(session, *names):
-    """The same by a session that is open, which takes no process."""
-    words = ask_line(session, "stats").split()
-    stats = dict(zip(words[::2], map(int, words[1::2])))
     return [stats[name] for name in names]
 
 
@@ -146,8 +139,8 @@ until("a client that resets its connection is gone", lambda: counted(server, "ca
 with server.session() as session, server.connect() as client:
     client.sendall(b"GET / HTTP/1.1\r\nhost: a\r\n\r\n")
     found, begins = read_all(client), time.monotonic()
-    until("a client that stays behind its answer is closed, and counts as no other", lambda: counted_by(
-        session, "calls", "gone", "given_up", "connections", "watches"), [tries + 3, 1, 0, 1, 1])
+    until("a client that stays behind its answer is closed, and counts as no other", lambda: [
+        stats_by(session)[name] for name in ("calls", "gone", "given_up", "connections", "watches")], [tries + 3, 1, 0, 1, 1])
     measured("the end of its connection", time.monotonic() - begins, 0.7)
 holds("it had its answer", found.startswith(b"HTTP/1.1 405 "), str(found))
 watcher.client.sendall(b"0123456789abcdef" * 4_096)

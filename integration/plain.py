@@ -10,7 +10,7 @@ import time
 import page_source
 from prometheus_client.parser import text_string_to_metric_families
 from servers import (OK, PAUSES, REQUEST, SERVING, Server, Watcher, ask_line, connect, freeze, holds, read_all, request_for, rest_of,
-                     until)
+                     stats_by, until)
 
 MOST = 1_000_000_000
 # Services with names that have to be escaped somewhere, and one that is listed and not registered.
@@ -182,13 +182,6 @@ holds("its quotes and backslashes are escaped", 'healthd_service_status{service=
       and 'healthd_service_status{service="back\\\\slash"} 0' in lines, text)
 line, fields, body = parted(sent(server.plain, asking("/metrics", "HEAD")))
 holds("HEAD /metrics has no body", (line, body) == ("HTTP/1.1 200 OK", b""), f"{line} {body}")
-
-
-def stats_by(session):
-    """The numbers that an open session is told, which is one itself."""
-    words = ask_line(session, "stats").split()
-    return dict(zip(words[::2], map(int, words[1::2])))
-
 
 # The numbers are those of `stats`. A look at them is a connection itself, and ends as a call.
 with server.session() as session:

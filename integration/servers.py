@@ -224,8 +224,7 @@ class Server:
         return (ran.stdout + ran.stderr).strip(), ran.returncode
 
     def stats(self):
-        words = self.tell("stats")[0].split()
-        return dict(zip(words[::2], map(int, words[1::2])))
+        return numbers(self.tell("stats")[0])
 
     def ended(self):
         """Waits until it has ended: its exit status, and what it has printed since it told its places."""
@@ -328,3 +327,14 @@ def ask_line(client, line):
             break
         answer += part
     return answer.decode().strip()
+
+
+def numbers(answer):
+    """The answer to `stats`, by its words."""
+    words = answer.split()
+    return dict(zip(words[::2], map(int, words[1::2])))
+
+
+def stats_by(session):
+    """The numbers that an open session is told. It is one of them itself, and asking so starts no process."""
+    return numbers(ask_line(session, "stats"))

@@ -6,7 +6,7 @@ import subprocess
 import threading
 import time
 
-from servers import HEALTHD, NOT_SERVING, OK, Server, ask_line, connect, holds, rest_of, until
+from servers import HEALTHD, NOT_SERVING, OK, Server, ask_line, connect, holds, rest_of, stats_by, until
 
 SCRIPT = "catalogue a b -\nmax 10000\nregister a manual\nregister - manual\n"
 TIMES = 1_000
@@ -159,8 +159,8 @@ def change(count):
 
 
 def counted():
-    found = dict(zip(*[iter(ask_line(session, "stats").split())] * 2))
-    return [int(found[name]) for name in ("kept", "connections", "watches", "calls", "given_up", "behind")]
+    found = stats_by(session)
+    return [found[name] for name in ("kept", "connections", "watches", "calls", "given_up", "behind")]
 
 
 change(FULL)
