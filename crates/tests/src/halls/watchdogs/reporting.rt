@@ -53,7 +53,7 @@ impl<R: Wait> Clock for Reporting<'_, R> {
     }
 }
 
-/// A clock that stands still at 0, and while it is read somebody asks how often a service is expected to be heard.
+/// A clock that stands still at 0. While it is read somebody asks how often a service is expected to be heard; the wall's time is read later.
 #[derive(Drop)]
 struct Asking<'a> {
     expectations: &'a Arc<Expectations>,
@@ -68,7 +68,7 @@ impl Clock for Asking<'_> {
     }
 
     fn since_1970(&self) -> io::Result<Duration> {
-        self.monotonic()
+        Ok(Duration::from_millis(0))
     }
 }
 
