@@ -152,7 +152,7 @@ def looks_of_many():
 
 
 # Looks come all at once where the observer, or what takes them here, had no turn for some tenths of a second: then they are counted again.
-for _ in range(5):
+for _ in range(3):
     rate, fullest = looks_of_many()
     if 70 <= rate <= 110 and fullest <= 40:
         break
@@ -180,7 +180,7 @@ server.tell("expect", "good", "2")
 port = int(subprocess.check_output(["/usr/bin/python3", "-I", f"{HERE}/free_port.py"]))
 listener = socket.create_server(("127.0.0.1", port), backlog=64)
 place = f"{server.folder}/other"
-other = Server(script="catalogue a -\nregister a threshold 1\nregister - depends a\nexpect a 2\n", control=place)
+other = Server(script="catalogue a -\nregister a threshold 1 1 unknown\nregister - depends a\nexpect a 2\n", control=place)
 process = subprocess.Popen([HEALTHD, "observe", "-v", "--control", place, "--every", "0.3", "--timeout", "0.2", f"a=tcp://127.0.0.1:{port}"],
                            stdout=subprocess.PIPE, stderr=subprocess.PIPE, text=True)
 until("a target that is there is serving", lambda: status(other, "a"), "serving")

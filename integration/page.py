@@ -10,7 +10,7 @@ import urllib.request
 
 import page_source
 from chromium import Browser, Page
-from servers import HERE, Server, ask_line, freeze, holds, measured, timed, until
+from servers import HERE, Server, freeze, holds, measured, timed, until
 
 # Six services, of which the first four are watched; one is absent, and one has a name that a page could take for markup.
 ODD = "<b>a</b>&amp;\"'\\"

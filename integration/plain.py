@@ -222,7 +222,7 @@ def pour():
                 answers.readline()
 
 
-pouring = threading.Thread(target=pour)
+pouring = threading.Thread(target=pour, daemon=True)
 pouring.start()
 seen, begins = [], time.monotonic()
 

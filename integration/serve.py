@@ -158,7 +158,7 @@ def pour():
         pass
 
 
-thread = threading.Thread(target=pour)
+thread = threading.Thread(target=pour, daemon=True)
 thread.start()
 with pouring.connect() as client:
     client.sendall(head("Check", request_for("a")) + request_for("a"))

@@ -7,7 +7,7 @@ import sys
 import threading
 import time
 
-from servers import HEALTHD, Server, ask_line, freeze, holds, measured, rest_of, timed, until
+from servers import HEALTHD, Server, ask_line, fails, freeze, holds, measured, rest_of, timed, until
 
 server = Server("--threads", "2")
 silent = [server.session() for _ in range(16)]
@@ -73,7 +73,7 @@ def pour():
             file.readline()
 
 
-pouring = [threading.Thread(target=pour) for _ in range(16)]
+pouring = [threading.Thread(target=pour, daemon=True) for _ in range(16)]
 for thread in pouring:
     thread.start()
 time.sleep(1.5)
@@ -116,7 +116,7 @@ def turned_away(place):
 for _ in range(5):
     talking = [server.session(place) for place in (server.control, REPORT) for _ in range(16)]
     answers, ends, quiet, told = {ask_line(client, "check a") for client in talking}, threading.Event(), [], []
-    thread = threading.Thread(target=talk)
+    thread = threading.Thread(target=talk, daemon=True)
     thread.start()
     for _ in range(4):
         told += [turned_away(server.control), turned_away(REPORT)]
@@ -129,6 +129,8 @@ for _ in range(5):
     for client in talking:
         client.close()
     time.sleep(0.5)
+else:
+    fails("sixteen talk at each place", f"one of them was quiet for {max(quiet):.1f} s in the last of five tries")
 holds("beside sixteen that talk at each place one more is turned away at each", told == [b"too many sessions\n"] * 8, str(told))
 holds("those that talk are all answered", answers == {"serving"}, str(answers))
 talking.pop().close()

@@ -8,7 +8,7 @@ import threading
 import time
 from datetime import datetime, timezone
 
-from servers import HEALTHD, NOT_SERVING, SERVING, Server, ask_line, holds, measured, processor_seconds, timed
+from servers import HEALTHD, NOT_SERVING, PAUSES, SERVING, Server, ask_line, holds, measured, processor_seconds, timed
 
 SCRIPT = "catalogue a db -\nregister a threshold 3\nregister db manual\nregister - depends a\n"
 REPORT = f"/tmp/healthd-silence-{os.getpid()}"
@@ -68,7 +68,8 @@ def expires(name, watch, begins, period=1):
     ends, wall = time.monotonic(), time.time()
     holds(f"{name} expires", seconds is not None)
     passed = wall - reported() if begins is None else ends - begins
-    holds(f"{name} is not early", passed >= period, f"{passed} s")
+    # The clock of the wall may be set meanwhile, by a little.
+    holds(f"{name} is not early", passed >= period - (0.01 if begins is None else 0), f"{passed} s")
     measured(f"{name} expires", seconds, period + ONCE)
     late.append((passed if begins is None else seconds) - period)
 
@@ -182,9 +183,11 @@ def pour():
 
 
 def expire_all():
-    """The seconds until all of them are down that are expected now; and how long after its own line each was seen so first."""
+    """The seconds until all of them are down that are expected now, but for a pause of the machine; and how long after its own line each was
+    seen so first."""
     begun, down = {}, {}
     for name in [*NAMES, "-"]:
+        ask_line(session, f"expect {name} 0")
         ask_line(session, f"pass {name}")
         begun[name] = time.monotonic()
         holds(f"{name} is expected", ask_line(session, f"expect {name} 1") == "done")
@@ -194,7 +197,7 @@ def expire_all():
         now = time.monotonic()
         down |= {name: now - begun[name] for name in begun.keys() - down.keys() if f"{name}=not_serving" in listed}
         time.sleep(0.005)
-    return time.monotonic() - begins, down
+    return time.monotonic() - begins - PAUSES.since(begins), down
 
 
 pouring = threading.Thread(target=pour, daemon=True)
@@ -209,7 +212,8 @@ while len(tries) < 3 and not any(seconds <= 1 + 2 * LATE for seconds in tries):
     tries.append(seconds)
 ends.set()
 pouring.join()
-measured("fifteen services expire beside a session that pours", min(tries), 1 + 2 * LATE)
+holds("fifteen services expire in time beside a session that pours", min(tries) <= 1 + 2 * LATE, str(tries))
+print(f"measured silence fifteen services expire beside a session that pours: {min(tries):.3f} s", flush=True)
 holds("each is counted once", server.stats()["expired"] == 15 * len(tries), str(server.stats()))
 server.stop()
 

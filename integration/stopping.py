@@ -141,7 +141,7 @@ def pour():
         (answered if answer.endswith(OK) else cut).append(answer)
 
 
-clients = [threading.Thread(target=pour) for _ in range(8)]
+clients = [threading.Thread(target=pour, daemon=True) for _ in range(8)]
 for client in clients:
     client.start()
 time.sleep(1)
