@@ -6,6 +6,7 @@ use crate::refused::Refused;
 use crate::session_numbers::SessionNumbers;
 use crate::sitting::Sitting;
 use crate::time::{TimeText, time_text};
+use crate::vitals::Vitals;
 use crate::who::{Who, record_of, who_in};
 use record_ring::Ring;
 use std::alloc::{AllocError, Global};
@@ -35,6 +36,7 @@ pub struct Chronicle {
     sessions: SessionNumbers,
     /// Who sits at each seat.
     sitting: Vec<Sitting>,
+    vitals: Vitals,
 }
 
 impl Drop for Chronicle {
@@ -45,6 +47,7 @@ impl Drop for Chronicle {
             refusals: _,
             sessions: _,
             sitting: _,
+            vitals: _,
         } = self;
     }
 }
@@ -67,6 +70,7 @@ impl Chronicle {
             refusals: Refusals::new(alloc)?,
             sessions: SessionNumbers::after(0),
             sitting: sittings(alloc)?,
+            vitals: Vitals::new(alloc)?,
         })
     }
 
@@ -88,7 +92,15 @@ impl Chronicle {
     pub fn keep(&self, service: u8, newest: Newest, place: u32) {
         if let Ok(record) = self.entries.record(u64::from(place)) {
             self.newest.keep(service, newest, place, record);
+            if let Newest::Report = newest {
+                self.vitals.report(service, record.micros);
+            }
         }
+    }
+
+    /// What is to be watched in its server.
+    pub fn vitals(&self) -> &Vitals {
+        &self.vitals
     }
 
     /// What is known of the entry at this place: nothing where it was not taken down yet, or is no longer kept.
@@ -128,6 +140,7 @@ impl Chronicle {
     pub fn refuse(&self, micros: u64, who: Who, reason: u8) {
         let place = self.refusals.take_place();
         self.refusals.put(place, micros, who, reason);
+        self.vitals.count_refusal(reason);
     }
 
     /// The next refusal at or after this cursor, which starts at 0 and moves past it. Where one is being taken down, those

@@ -24,7 +24,9 @@ mod refusals;
 mod refused;
 mod session_numbers;
 mod sitting;
+mod store_fault;
 mod time;
+mod vitals;
 mod who;
 
 pub use crate::chronicle::{Chronicle, Note};
@@ -33,5 +35,7 @@ pub use crate::newest::Newest;
 pub use crate::refusals::Refusals;
 pub use crate::refused::Refused;
 pub use crate::session_numbers::SessionNumbers;
+pub use crate::store_fault::StoreFault;
 pub use crate::time::{TimeText, time_text, wall_micros};
+pub use crate::vitals::Vitals;
 pub use crate::who::Who;

@@ -11,6 +11,7 @@ use clap::ArgMatches;
 use clap::parser::ValueSource;
 use client::{AskFault, Ended, Lent, Listener, Told, ask, watch_through};
 use control::Cause;
+use safe_text::printable;
 use std::alloc::{AllocError, Global};
 use std::fmt::Write as _;
 use std::io;
@@ -317,9 +318,7 @@ fn with_code(mut output: String, ended: &Ended) -> Result<Vec<u8>, AllocError> {
         output.push_str("grpc-status 0\n")?;
         return Ok(output.into_bytes());
     }
-    write!(output, "grpc-status {code} ")?;
-    let mut bytes = output.into_bytes();
-    bytes.extend_from_slice(&ended.text)?;
-    bytes.push(b'\n')?;
-    Ok(bytes)
+    let text = printable(*output.allocator(), &ended.text)?;
+    writeln!(output, "grpc-status {code} {text}")?;
+    Ok(output.into_bytes())
 }

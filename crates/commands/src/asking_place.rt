@@ -5,6 +5,7 @@ ghost use Rattle.std.specs.Io.KnownBytes.{Appends, Keeps};
 ghost use Rattle.control.specs.Line.{ended};
 
 use crate::show_failure::ShowFailure;
+use crate::tell::HTTP;
 use crate::tell_failure::{TellFailure, failure_at};
 use crate::timed_control::{AnswerTime, TimedControl};
 use control::{
@@ -62,6 +63,9 @@ impl<'a, R: Read + Drop, W: Write + Drop> AskingPlace<'a, R, W> {
     fn text_of(&self, answer: Vec<u8>) -> Result<String, ShowFailure<'a>> {
         if is_turned_away(&answer) {
             return Err(ShowFailure::Told(TellFailure::TurnedAway));
+        }
+        if answer.starts_with(HTTP) {
+            return Err(ShowFailure::Told(TellFailure::Http(self.place)));
         }
         match String::from_utf8(answer) {
             Ok(text) => Ok(text),

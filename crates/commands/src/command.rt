@@ -1,16 +1,17 @@
 use crate::help_texts::{
-    HISTORY_HELP, JOURNAL_HELP, OBSERVE_HELP, SCRIPT_HELP, STATUS_HELP, TELL_HELP,
+    HISTORY_HELP, JOURNAL_HELP, OBSERVE_HELP, REPLAY_HELP, SCRIPT_HELP, STATUS_HELP, STOP_HELP,
+    TELL_HELP,
 };
+use crate::no_place::why_no_place;
 use crate::observe_options::BadObserve;
 use crate::options::{
-    ASK, BODY, HISTORY, JOURNAL, OBSERVE, RUN, SERVE, STATUS, TELL, asked_place, with_options,
+    ASK, BODY, HISTORY, JOURNAL, OBSERVE, RUN, SERVE, STATUS, STOP, TELL, asked_place, with_options,
 };
 use clap::error::ErrorKind;
 use clap::{ArgMatches, Command};
+use plain::VERSION;
 use std::alloc::{AllocError, Global};
 use std::fmt::Display;
-
-const VERSION: &str = "0.1.0";
 
 /// The environment variable that says where a running server is asked, for the commands that are not told.
 pub const CONTROL_VARIABLE: &str = "HEALTHD_CONTROL";
@@ -22,6 +23,7 @@ pub fn command<'a>(alloc: Global, control: Option<&'a str>) -> Result<Command<'a
     let healthd = add(healthd, run(alloc));
     let healthd = add(healthd, ask(alloc));
     let healthd = add(healthd, tell(alloc, control));
+    let healthd = add(healthd, stop(alloc, control));
     let healthd = add(healthd, status(alloc, control));
     let healthd = add(healthd, history(alloc, control));
     let healthd = add(healthd, journal(alloc));
@@ -42,9 +44,9 @@ fn with_scripts<'a>(alloc: Global) -> Result<Command<'a>, AllocError> {
         .about("A gRPC health checking server (gRPC-Web over HTTP/1.1)")
         .version(VERSION)
         .subcommand_required(true);
-    let replay = Command::new(alloc, "replay").about(
-        "Run the script on standard input, and print what each of its lines comes to",
-    );
+    let replay = Command::new(alloc, "replay")
+        .about("Run the script on standard input, and print what each of its lines comes to")
+        .after_help(REPLAY_HELP);
     add(add(add(Ok(healthd), body(alloc)), Ok(replay)), serve(alloc))
 }
 
@@ -124,6 +126,17 @@ fn tell<'a>(alloc: Global, control: Option<&'a str>) -> Result<Command<'a>, Allo
     with_options(alloc, tell, &TELL)
 }
 
+fn stop<'a>(alloc: Global, control: Option<&'a str>) -> Result<Command<'a>, AllocError> {
+    let stop = asking(
+        alloc,
+        control,
+        "stop",
+        "Tell a server to stop, and wait until it has",
+        STOP_HELP,
+    )?;
+    with_options(alloc, stop, &STOP)
+}
+
 fn status<'a>(alloc: Global, control: Option<&'a str>) -> Result<Command<'a>, AllocError> {
     let status = asking(
         alloc,
@@ -156,6 +169,12 @@ pub fn bad_place(alloc: Global, text: &str) -> Result<clap::Error, AllocError> {
     bad_tell(alloc, &no_place(alloc, text)?)
 }
 
+/// The same, where `stop` is to tell it.
+pub fn bad_stop_place(alloc: Global, text: &str) -> Result<clap::Error, AllocError> {
+    let message = no_place(alloc, text)?;
+    refused(stop(alloc, None)?, "healthd stop", &message)
+}
+
 /// The same, where `status` is to ask there.
 pub fn bad_status_place(alloc: Global, text: &str) -> Result<clap::Error, AllocError> {
     let message = no_place(alloc, text)?;
@@ -169,9 +188,17 @@ pub fn bad_history_place(alloc: Global, text: &str) -> Result<clap::Error, Alloc
 }
 
 fn no_place(alloc: Global, text: &str) -> Result<String, AllocError> {
-    format!(in alloc;
-        "invalid value '{text}' for '--control <PLACE>': not a loopback address and a port, nor the path of a socket"
-    )
+    let why = why_no_place(text);
+    format!(in alloc; "invalid value '{text}' for '--control <PLACE>': {why}")
+}
+
+/// Whether a command line is refused since neither it nor the environment says where a server is asked.
+pub fn lacks_place(alloc: Global, error: &clap::Error) -> Result<bool, AllocError> {
+    if error.kind() != ErrorKind::MissingRequiredArgument {
+        return Ok(false);
+    }
+    let text = error.to_string(alloc)?;
+    Ok(text.contains("\n  --control <PLACE>\n"))
 }
 
 /// The words are more than one line.

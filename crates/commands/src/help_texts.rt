@@ -25,7 +25,8 @@ and after these, in any order:
       with unknown, its status is UNKNOWN until its first pass or fail
   register NAME manual
   register NAME depends NAME..
-      up where all of these services are
+      up where all of these services are, each of which stands further left in the
+      catalogue than NAME
   retire NAME
   pass NAME, fail NAME
       for a service with a threshold
@@ -40,6 +41,11 @@ and after these, in any order:
       each service begins anew
 
 A change that is not answered done or replaced ends the run before anything listens.";
+
+/// Which script may be replayed.
+pub(crate) const REPLAY_HELP: &str = "\
+The script has a line max right after the catalogue, and no comments. To look at a script for run, \
+which may have comments and needs no max, use healthd run --check.";
 
 /// What may be told and asked.
 pub(crate) const TELL_HELP: &str = "\
@@ -59,13 +65,21 @@ The exit status is 3 if an answer is one of
       no service was changed
   bad line, line too long
       the line was not understood
-  not allowed
+  not allowed, not a session
       the place does not take such a line
 
-and 0 if there is no such answer.
+and 0 if there is no such answer. Standard error says what is wrong with a line that is answered \
+bad line, wrong kind or refused bad rule.
 
 Where an answer takes longer than --timeout, tell ends with \
 timed out, the change may still be made, and exit status 1.";
+
+/// How `stop` ends.
+pub(crate) const STOP_HELP: &str = "\
+It sends the line stop, prints the answer, and waits until nobody listens at the control place any \
+more. Open Watches end with their trailers, and requests that are being read are answered. The exit \
+status is 0 then, 3 if the server has not stopped in time or does not take the line there, and 1 if \
+nobody listens there at the start.";
 
 /// What `status` prints.
 pub(crate) const STATUS_HELP: &str = "\
@@ -73,16 +87,16 @@ The table tells since when each service has its status and why, how often it has
 and when it was reported last. Times are in UTC. On a terminal statuses have colours, unless the \
 environment variable NO_COLOR is set and not empty. For example
 
-  healthd status --control /run/healthd.sock
-  healthd status --control 127.0.0.1:8081 --json";
+  healthd status --control /run/healthd/control
+  healthd status --control 127.0.0.1:8082 --json";
 
 /// What `history` prints.
 pub(crate) const HISTORY_HELP: &str = "\
 Each entry is a line: its place, when it was made and by whom, the change, and what it came to. \
 For example
 
-  healthd history --control /run/healthd.sock --last 20
-  healthd history --control /run/healthd.sock --last 0 --follow --json
+  healthd history --control /run/healthd/control --last 20
+  healthd history --control /run/healthd/control --last 0 --follow --json
 
 With --follow it ends with exit status 0 when the server stops.";
 
@@ -113,5 +127,5 @@ Where the server cannot be told, observe tries again, once a second at most; wha
 With --once it looks once at each target, prints what each was, and ends with exit status 0, or 3 if \
 one failed, or 1 if one could not be told. For example
 
-  healthd observe --control /run/healthd-report.sock db=tcp://10.0.0.5:5432
-  healthd observe --control 127.0.0.1:8081 --every 1 --timeout 0.5 web=http://10.0.0.6:80/live";
+  healthd observe --control /run/healthd/report db=tcp://10.0.0.5:5432
+  healthd observe --control 127.0.0.1:8082 --every 1 --timeout 0.5 web=http://10.0.0.6:80/live";

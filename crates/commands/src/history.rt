@@ -1,6 +1,7 @@
 ghost use Rattle.std.specs.Prelude.{◌≤◌, ◌+◌, IfSome};
 
 use crate::asking_place::{AskingPlace, asking_over, connect_to, flush, print_line};
+use crate::safe_lines::SafeLines;
 use crate::show_failure::ShowFailure;
 use crate::tell_failure::TellFailure;
 use crate::timed_control::AnswerTime;
@@ -78,9 +79,10 @@ pub fn run_history<'a, R>(
 where
     R: Print + Clock + AllocGlobal + Net<Stream = TcpStream>,
 {
-    let Ok(mut output) = BufWriter::new(rt.alloc(), io::writer(rt)) else {
+    let Ok(output) = BufWriter::new(rt.alloc(), io::writer(rt)) else {
         return Err(ShowFailure::Told(TellFailure::OutOfMemory));
     };
+    let mut output = SafeLines::new(rt.alloc(), output);
     show_by_sessions(rt, place, timeout, options, &mut output)
 }
 

@@ -22,6 +22,7 @@
 //! ```
 #![tactic(auto)]
 
+pub mod advice;
 pub mod answer;
 pub mod ask;
 pub mod ask_failure;
@@ -34,16 +35,19 @@ pub mod fault;
 mod help_texts;
 pub mod history;
 pub mod input;
+mod no_place;
 pub mod observe;
 pub mod observe_options;
 pub mod options;
 pub mod replay;
+pub mod safe_lines;
 pub mod serve;
 pub mod service;
 pub mod show_failure;
 pub mod show_journal;
 pub mod status;
 pub mod status_printer;
+pub mod stop;
 pub mod tell;
 pub mod tell_failure;
 pub mod timed_control;

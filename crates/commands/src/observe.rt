@@ -3,6 +3,7 @@ use control::Place;
 use observing::{
     Note, ObserveFault, Observed, Sink, Target, Verdict, exit_status, observe, observe_once,
 };
+use safe_text::SafeText;
 use std::io;
 use std::net::{Net, TcpListener, TcpStream};
 use std::sync::Wait;
@@ -98,7 +99,7 @@ impl<R: Print + Eprint> Sink for Printer<'_, R> {
         let _ = match note {
             Note::Refused(number, answer) => match targets.get(*number) {
                 Some(target) => {
-                    let name = target.name();
+                    let (name, answer) = (target.name(), SafeText(answer));
                     eprintln!(rt; "healthd: {place} answered {answer} to reports of {name}")
                 }
                 None => Ok(()),

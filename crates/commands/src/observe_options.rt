@@ -1,5 +1,6 @@
 ghost use Rattle.std.specs.Prelude.{◌≤◌, IfSome};
 
+use crate::no_place::why_no_place;
 use clap::ArgMatches;
 use control::Place;
 use observing::{Target, TargetFault, Terms};
@@ -37,10 +38,10 @@ pub enum BadObserve<'a> {
 impl fmt::Display for BadObserve<'_> {
     fn fmt<W: fmt::Write>(&self, f: &mut fmt::Formatter<W>) -> fmt::Result {
         match *self {
-            BadObserve::Place(text) => write!(
-                f,
-                "invalid value '{text}' for '--control <PLACE>': not a loopback address and a port, nor the path of a socket"
-            ),
+            BadObserve::Place(text) => {
+                let why = why_no_place(text);
+                write!(f, "invalid value '{text}' for '--control <PLACE>': {why}")
+            }
             BadObserve::Every(text) => write!(
                 f,
                 "invalid value '{text}' for '--every <S>': not a number of seconds from 0.001 to 86400"

@@ -101,7 +101,7 @@ pub(crate) static SERVE: [CommandOption; 3] = [
     },
 ];
 
-pub(crate) static RUN: [CommandOption; 10] = [
+pub(crate) static RUN: [CommandOption; 11] = [
     CommandOption {
         name: "listen",
         takes: Takes::Text("ADDR"),
@@ -112,19 +112,19 @@ pub(crate) static RUN: [CommandOption; 10] = [
         name: "plain",
         takes: Takes::Text("ADDR"),
         otherwise: Otherwise::Nothing,
-        help: "Where plain HTTP is answered, for balancers, Prometheus, curl and browsers: an address and a port, e.g. 0.0.0.0:8082; without it nowhere",
+        help: "Where plain HTTP is answered, for balancers, Prometheus, curl and browsers: an address and a port, e.g. 0.0.0.0:8081; without it nowhere",
     },
     CommandOption {
         name: "control",
         takes: Takes::Text("PLACE"),
         otherwise: Otherwise::Nothing,
-        help: "Where changes are asked for, and tell, status and history ask: a loopback address and a port, e.g. 127.0.0.1:8081, or a path of a Unix socket that only its owner may open, e.g. /run/healthd.sock; without it nothing changes after the script",
+        help: "Where changes are asked for, and tell, status and history ask: a loopback address and a port, e.g. 127.0.0.1:8082, or a path of a Unix socket that only its owner may open, e.g. /run/healthd/control; without it nothing changes after the script",
     },
     CommandOption {
         name: "report",
         takes: Takes::Text("PLACE"),
         otherwise: Otherwise::Nothing,
-        help: "Where checkers report, pass and fail and questions only: a loopback address and a port, or a path of a Unix socket that its owner's group may open too, e.g. /run/healthd-report.sock; without it they report at the control place",
+        help: "Where checkers report, pass and fail and questions only: a loopback address and a port, or a path of a Unix socket that its owner's group may open too, e.g. /run/healthd/report; without it they report at the control place",
     },
     CommandOption {
         name: "script",
@@ -161,6 +161,12 @@ pub(crate) static RUN: [CommandOption; 10] = [
         takes: Takes::Flag,
         otherwise: Otherwise::Nothing,
         help: "Write no log to standard error; without it there is a line for each status change",
+    },
+    CommandOption {
+        name: "check",
+        takes: Takes::Flag,
+        otherwise: Otherwise::Nothing,
+        help: "Read the script and the journal, print what would be served, and end with exit status 0, or 1 if a run would fail; nothing is bound, locked or written, also beside a server",
     },
 ];
 
@@ -223,6 +229,16 @@ pub(crate) static TELL: [CommandOption; 2] = [
         help: "The words of one line, e.g. fail db; without them the lines of standard input",
     },
 ];
+
+/// How long a server may take to stop.
+const STOP_TIMEOUT: CommandOption = CommandOption {
+    name: "timeout",
+    takes: Takes::Small("S", 1, 3_600),
+    otherwise: Otherwise::Value("30"),
+    help: "How many seconds the server may take to stop, 1 to 3600, e.g. 5",
+};
+
+pub(crate) static STOP: [CommandOption; 1] = [STOP_TIMEOUT];
 
 pub(crate) static STATUS: [CommandOption; 2] = [
     ANSWER_TIMEOUT,
@@ -361,7 +377,7 @@ pub(crate) fn asked_place<'a>(alloc: Global, control: Option<&'a str>) -> Arg<'a
         .long("control")
         .value_name("PLACE")
         .help(
-            "Where the server takes changes or reports: a loopback address and a port, e.g. 127.0.0.1:8081, or the path of a Unix socket, e.g. /run/healthd.sock; without it what the environment variable HEALTHD_CONTROL says",
+            "Where the server takes changes or reports: a loopback address and a port, e.g. 127.0.0.1:8082, or the path of a Unix socket, e.g. /run/healthd/control; without it what the environment variable HEALTHD_CONTROL says",
         );
     match control {
         Some(control) => place.default_value(control),

@@ -2,8 +2,9 @@ ghost use Rattle.std.specs.Prelude.{◌≡◌};
 ghost use Rattle.commands.specs.declared.show_failure.ShowFailure.TheVariants.{Told};
 ghost use Rattle.commands.specs.declared.tell_failure.TellFailure.TheVariants.{OutOfMemory};
 
-use crate::tell_failure::TellFailure;
+use crate::tell_failure::{Doubt, TellFailure};
 use control::Place;
+use safe_text::SafeText;
 use std::alloc::{AllocError, AllocFailed};
 use std::fmt;
 use thiserror::Error;
@@ -14,13 +15,13 @@ pub enum ShowFailure<'a> {
     #[error("{0}")]
     Told(TellFailure<'a>),
     /// The time for an answer was up. Nothing that was asked changes anything.
-    #[error("timed out")]
-    TimedOut,
+    #[error("timed out{}", Doubt(*.0))]
+    TimedOut(Place<'a>),
     /// The server ended the session before it answered.
     #[error("no answer")]
     Ended,
     /// The answer is none to what was asked.
-    #[error("{0} answered {1}")]
+    #[error("{} answered {}", .0, SafeText(.1.as_str()))]
     Answered(Place<'a>, String),
     /// The answer is not UTF-8.
     #[error("{0} answered no text")]
@@ -36,7 +37,7 @@ impl fmt::Debug for ShowFailure<'_> {
 impl<'a> From<TellFailure<'a>> for ShowFailure<'a> {
     fn from(failure: TellFailure<'a>) -> Self {
         match failure {
-            TellFailure::TimedOut => ShowFailure::TimedOut,
+            TellFailure::TimedOut(place) => ShowFailure::TimedOut(place),
             TellFailure::NoAnswer => ShowFailure::Ended,
             other => ShowFailure::Told(other),
         }

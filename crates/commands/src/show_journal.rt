@@ -1,3 +1,4 @@
+use crate::safe_lines::SafeLines;
 use control::Cause;
 use journal_lines::{PrintingFault, print_journal};
 use std::io::BufWriter;
@@ -47,9 +48,10 @@ pub fn run_journal<'a, R: Print + Files + AllocGlobal>(
     is_json: bool,
 ) -> Result<(), JournalFailure<'a>> {
     let alloc = rt.alloc();
-    let Ok(mut output) = BufWriter::new(alloc, io::writer(rt)) else {
+    let Ok(output) = BufWriter::new(alloc, io::writer(rt)) else {
         return Err(JournalFailure::OutOfMemory);
     };
+    let mut output = SafeLines::new(alloc, output);
     match print_journal(rt, alloc, path, is_json, &mut output) {
         Ok(()) => Ok(()),
         Err(fault) => Err(JournalFailure::at(path, fault)),

@@ -12,6 +12,12 @@ use std::net::{Net, TcpStream};
 use std::rt::Env;
 use std::time::{Clock, Duration};
 
+/// How an answer to `stats` ends where the journal can't be written.
+const NOT_WRITABLE: &str = " writable 0";
+
+/// What stands over the services then.
+const NOT_STORED: &str = "journal not writable: no change takes effect";
+
 /// How services are printed.
 #[derive(Clone, Copy)]
 pub enum Form {
@@ -69,16 +75,27 @@ pub fn show_status<'a, R: Read + Drop, W: Write + Drop, O: Write>(
     form: Form,
 ) -> Result<(), ShowFailure<'a>> {
     let rows = ask_rows(asked)?;
-    let text = text_of(asked.alloc(), &rows, form)?;
+    let text = text_of(asked, &rows, form)?;
     print_text(output, &text)
 }
 
-fn text_of(alloc: Global, rows: &[Row], form: Form) -> Result<String, AllocError> {
-    match form {
-        Form::Table => table(alloc, rows, false),
-        Form::ColouredTable => table(alloc, rows, true),
-        Form::Json => rows_json(alloc, rows),
+fn text_of<'a, R: Read + Drop, W: Write + Drop>(
+    asked: &mut AskingPlace<'a, R, W>,
+    rows: &[Row],
+    form: Form,
+) -> Result<String, ShowFailure<'a>> {
+    let alloc = asked.alloc();
+    let is_coloured = match form {
+        Form::Json => return Ok(rows_json(alloc, rows)?),
+        Form::Table => false,
+        Form::ColouredTable => true,
+    };
+    let is_writable = !asked.ask("stats")?.ends_with(NOT_WRITABLE);
+    let table = table(alloc, rows, is_coloured)?;
+    if is_writable {
+        return Ok(table);
     }
+    Ok(format!(in alloc; "{NOT_STORED}\n{table}")?)
 }
 
 /// How each service of the server's list stands.

@@ -4,7 +4,9 @@ ghost use Rattle.commands.specs.Tell.{HasTold};
 ghost use Rattle.control.specs.Answer.{IsRefused};
 ghost use Rattle.control.specs.Line.{IsPartOfLine, ended};
 
+use crate::advice::advice_on;
 use crate::expect::{DONE, UNMET};
+use crate::safe_lines::SafeLines;
 use crate::tell_failure::{TellFailure, failure_at};
 use crate::timed_control::{AnswerTime, TimedControl};
 use clap::ArgMatches;
@@ -20,6 +22,9 @@ use std::time::{Clock, Duration};
 
 /// For an answer, where no other time is given.
 const DEFAULT_SECONDS: u16 = 10;
+
+/// What an answer of HTTP begins with.
+pub(crate) const HTTP: &[u8] = b"HTTP/";
 
 /// The place that is told, unless the text is none.
 pub fn place_in<'a>(matches: &ArgMatches<'a>) -> Option<Place<'a>> {
@@ -53,7 +58,7 @@ pub fn run_line<'a, R>(
     line: &[u8],
 ) -> Result<u8, TellFailure<'a>>
 where
-    R: Print + Clock + AllocGlobal + Net<Stream = TcpStream>,
+    R: Print + Eprint + Clock + AllocGlobal + Net<Stream = TcpStream>,
     requires one_line { IsPartOfLine line.now }
     ensures one_of_two { IfOk result (λ status. (status ≡ 0) ⊎ (status ≡ 3)) }
 {
@@ -64,14 +69,22 @@ where
         return Err(TellFailure::OutOfMemory);
     };
     let mut writer = TimedControl::new(rt, &client, &time);
-    let mut output = io::writer(rt);
-    tell_line(alloc, place, &mut reader, &mut writer, &mut output, line)
+    let mut output = SafeLines::new(alloc, io::writer(rt));
+    tell_line(
+        rt,
+        alloc,
+        place,
+        &mut reader,
+        &mut writer,
+        &mut output,
+        line,
+    )
 }
 
 /// The command `tell` without words. It tells the exit status.
 pub fn run_input<'a, R>(rt: &R, place: Place<'a>, timeout: Duration) -> Result<u8, TellFailure<'a>>
 where
-    R: Input + Print + Clock + AllocGlobal + Net<Stream = TcpStream>,
+    R: Input + Print + Eprint + Clock + AllocGlobal + Net<Stream = TcpStream>,
     ensures one_of_two { IfOk result (λ status. (status ≡ 0) ⊎ (status ≡ 3)) }
 {
     let client = connect_to(rt, place, timeout)?;
@@ -90,7 +103,7 @@ fn tell_input<'a, R, I: Read>(
     input: &mut I,
 ) -> Result<u8, TellFailure<'a>>
 where
-    R: Print + Clock + AllocGlobal,
+    R: Print + Eprint + Clock + AllocGlobal,
     ensures one_of_two { IfOk result (λ status. (status ≡ 0) ⊎ (status ≡ 3)) }
 {
     let alloc = rt.alloc();
@@ -99,8 +112,16 @@ where
         return Err(TellFailure::OutOfMemory);
     };
     let mut writer = TimedControl::new(rt, client, &time);
-    let mut output = io::writer(rt);
-    tell_lines(alloc, place, input, &mut reader, &mut writer, &mut output)
+    let mut output = SafeLines::new(alloc, io::writer(rt));
+    tell_lines(
+        rt,
+        alloc,
+        place,
+        input,
+        &mut reader,
+        &mut writer,
+        &mut output,
+    )
 }
 
 fn connect_to<'a, R: Net<Stream = TcpStream>>(
@@ -115,7 +136,8 @@ fn connect_to<'a, R: Net<Stream = TcpStream>>(
 }
 
 /// Tells each line of an input, one after the other. It tells the greatest exit status of their answers.
-pub fn tell_lines<'a, I: Read, R: Read, W: Write, O: Write>(
+pub fn tell_lines<'a, E: Eprint, I: Read, R: Read, W: Write, O: Write>(
+    rt: &E,
     alloc: Global,
     place: Place<'a>,
     input: &mut I,
@@ -139,13 +161,14 @@ pub fn tell_lines<'a, I: Read, R: Read, W: Write, O: Write>(
         if end == LineEnd::Input && line.is_empty() {
             return Ok(status);
         }
-        status = status.max(tell_line(alloc, place, reader, writer, output, &line)?);
+        status = status.max(tell_line(rt, alloc, place, reader, writer, output, &line)?);
     }
     Ok(status)
 }
 
 /// Tells a line, and prints its answer, if it has one. It tells the exit status.
-pub fn tell_line<'a, R: Read, W: Write, O: Write>(
+pub fn tell_line<'a, E: Eprint, R: Read, W: Write, O: Write>(
+    rt: &E,
     alloc: Global,
     place: Place<'a>,
     reader: &mut R,
@@ -157,10 +180,10 @@ pub fn tell_line<'a, R: Read, W: Write, O: Write>(
     ensures told { IfOk result (HasTold (R.remaining reader.old) (R.remaining reader.new) (O.contents output.old) (O.contents output.new)) }
 {
     match tell(alloc, reader, writer, line) {
-        Ok(Some(answer)) => print_answer(output, answer),
+        Ok(Some(answer)) => print_answer(rt, place, output, line, answer),
         Ok(None) => Ok(DONE),
         Err(AnswerFault::Write(error)) => match last_answer(alloc, reader, error.kind()) {
-            Some(answer) => print_answer(output, answer),
+            Some(answer) => print_answer(rt, place, output, line, answer),
             None => Err(failure_at(place, AnswerFault::Write(error))),
         },
         Err(fault) => Err(failure_at(place, fault)),
@@ -182,8 +205,14 @@ fn last_answer<R: Read>(alloc: Global, reader: &mut R, kind: ErrorKind) -> Optio
     }
 }
 
-/// Prints an answer, and tells the exit status.
-fn print_answer<'a, O: Write>(output: &mut O, answer: Vec<u8>) -> Result<u8, TellFailure<'a>>
+/// Prints the answer to a line, and what more there is to say of it. It tells the exit status.
+fn print_answer<'a, E: Eprint, O: Write>(
+    rt: &E,
+    place: Place<'a>,
+    output: &mut O,
+    line: &[u8],
+    answer: Vec<u8>,
+) -> Result<u8, TellFailure<'a>>
     ensures status { IfOk result (λ status. (status ≡ 3) ↔ IsRefused answer.items) }
     ensures one_of_two { IfOk result (λ status. (status ≡ 0) ⊎ (status ≡ 3)) }
     ensures printed { OnOk result (Appends (O.contents output.old) (O.contents output.new) (ended answer.items)) }
@@ -191,11 +220,18 @@ fn print_answer<'a, O: Write>(output: &mut O, answer: Vec<u8>) -> Result<u8, Tel
     if is_turned_away(&answer) {
         return Err(TellFailure::TurnedAway);
     }
-    let status = status_of(&answer);
-    match print_line(output, answer) {
-        Ok(()) => Ok(status),
-        Err(error) => Err(TellFailure::Write(Cause::from(error))),
+    if answer.starts_with(HTTP) {
+        return Err(TellFailure::Http(place));
     }
+    let status = status_of(&answer);
+    let advice = advice_on(line, &answer);
+    if let Err(error) = print_line(output, answer) {
+        return Err(TellFailure::Write(Cause::from(error)));
+    }
+    if let Some(advice) = advice {
+        let _ = eprintln!(rt; "healthd: {advice}");
+    }
+    Ok(status)
 }
 
 fn status_of(answer: &[u8]) -> u8

@@ -17,8 +17,11 @@ pub enum TellFailure<'a> {
     #[error("read {0}: {1}")]
     Receive(Place<'a>, Cause),
     /// The time for an answer was up.
-    #[error("timed out, the change may still be made")]
-    TimedOut,
+    #[error("timed out, the change may still be made{}", Doubt(*.0))]
+    TimedOut(Place<'a>),
+    /// What listens there answered as a server of HTTP does.
+    #[error("{0} answers HTTP, and is no control place")]
+    Http(Place<'a>),
     /// The server ended the session before it answered.
     #[error("no answer")]
     NoAnswer,
@@ -35,6 +38,22 @@ pub enum TellFailure<'a> {
     Write(Cause),
     #[error("out of memory")]
     OutOfMemory,
+}
+
+/// Why nothing may have answered at a place: a port for calls waits for a request.
+#[derive(Clone, Copy)]
+pub(crate) struct Doubt<'a>(pub(crate) Place<'a>);
+
+impl fmt::Display for Doubt<'_> {
+    fn fmt<W: fmt::Write>(&self, f: &mut fmt::Formatter<W>) -> fmt::Result {
+        match self.0 {
+            Place::Address(addr) => write!(
+                f,
+                "; is {addr} a port for calls, and no control place?"
+            ),
+            Place::Path(_) => Ok(()),
+        }
+    }
 }
 
 impl fmt::Debug for TellFailure<'_> {
@@ -63,7 +82,7 @@ impl<T: Drop> From<AllocFailed<T>> for TellFailure<'_> {
 pub fn failure_at<'a>(place: Place<'a>, fault: AnswerFault) -> TellFailure<'a> {
     match fault {
         AnswerFault::Write(error) | AnswerFault::Read(error)
-            if error.kind() == ErrorKind::TimedOut => { TellFailure::TimedOut }
+            if error.kind() == ErrorKind::TimedOut => { TellFailure::TimedOut(place) }
         AnswerFault::Write(error) => TellFailure::Send(place, Cause::from(error)),
         AnswerFault::Read(error) => TellFailure::Receive(place, Cause::from(error)),
         AnswerFault::NoAnswer => TellFailure::NoAnswer,

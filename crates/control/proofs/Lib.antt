@@ -1,5 +1,6 @@
 pub mod BesideLemmas
 pub mod EntryTextLemmas
+pub mod ForeignLemmas
 pub mod LineLemmas
 pub mod MeetingLemmas
 pub mod OneMeeting

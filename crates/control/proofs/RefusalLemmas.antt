@@ -15,10 +15,11 @@ module _ (answer said text : List ℕ) (found : Bool) (tells : found ≡ pointwi
   pub is_no_text : {P : Type 0} → found ≡ false → answer ≡ text → P
   is_no_text no_text same = absurd (true≢false (sym (is_found same) ∙ no_text))
 
-pub one_of_six : {A B C D E F P : Type 0} → (A → P) → (B → P) → (C → P) → (D → P) → (E → P) → (F → P) → A ⊎ B ⊎ C ⊎ D ⊎ E ⊎ F → P
-one_of_six a b c d e f (inl x) = a x
-one_of_six a b c d e f (inr (inl x)) = b x
-one_of_six a b c d e f (inr (inr (inl x))) = c x
-one_of_six a b c d e f (inr (inr (inr (inl x)))) = d x
-one_of_six a b c d e f (inr (inr (inr (inr (inl x))))) = e x
-one_of_six a b c d e f (inr (inr (inr (inr (inr x))))) = f x
+pub one_of_seven : {A B C D E F G P : Type 0} → (A → P) → (B → P) → (C → P) → (D → P) → (E → P) → (F → P) → (G → P) → A ⊎ B ⊎ C ⊎ D ⊎ E ⊎ F ⊎ G → P
+one_of_seven a b c d e f g (inl x) = a x
+one_of_seven a b c d e f g (inr (inl x)) = b x
+one_of_seven a b c d e f g (inr (inr (inl x))) = c x
+one_of_seven a b c d e f g (inr (inr (inr (inl x)))) = d x
+one_of_seven a b c d e f g (inr (inr (inr (inr (inl x))))) = e x
+one_of_seven a b c d e f g (inr (inr (inr (inr (inr (inl x)))))) = f x
+one_of_seven a b c d e f g (inr (inr (inr (inr (inr (inr x)))))) = g x

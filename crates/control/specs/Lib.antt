@@ -13,3 +13,4 @@ pub mod Session
 pub mod Talk
 pub mod Tell
 pub mod Text
+pub mod WebLine

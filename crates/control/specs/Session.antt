@@ -2,7 +2,7 @@
 use Rattle.std.specs.Prelude.{ℕ, ◌≡◌, ◌≤◌, ◌⊎◌, ◌==◌, ◌&&◌, not, nat_lt, codes, Bool, true, false, if◌then◌else◌, List, [], ◌∷◌, ◌++◌, length, Contains}
 
 -- the bytes that were given and not read, those of its answers that wait to be sent, whether its last line was answered (one that is too
--- long, or `stop`), and whether it was told that no more bytes come
+-- long or none of a session, or `stop`), and whether it was told that no more bytes come
 pub record SessionState : Type 0 where
   pub unread : List ℕ
   pub waiting : List ℕ

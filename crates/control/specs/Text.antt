@@ -9,7 +9,7 @@ use Rattle.desk_core.specs.declared.reason.Reason.TheVariants as reasons
 use Rattle.desk_core.specs.Board.{status_in}
 use Rattle.script.specs.RunText.{changed_text, checked_text}
 use Rattle.control.specs.declared.answer.Answer.{Answer}
-use Rattle.control.specs.declared.answer.Answer.TheVariants.{Changed, Expected, Checked, Board, Listed, Told, Explained, Described, Recalled, NotFound, Stopping, BadLine, TooLong, NotAllowed, OutOfMemory, Skipped}
+use Rattle.control.specs.declared.answer.Answer.TheVariants.{Changed, Expected, Checked, Board, Listed, Told, Explained, Described, Recalled, NotFound, Stopping, BadLine, TooLong, NotAllowed, NotASession, OutOfMemory, Skipped}
 use Rattle.control.specs.declared.description.Description.{Description}
 use Rattle.control.specs.declared.stats.Counts.{Counts}
 use Rattle.control.specs.declared.stats.Ended.{Ended}
@@ -48,12 +48,12 @@ abbrev pub ended_text : Ended → List ℕ
 ended_text ended = codes "calls " ++ decimal ended.calls ++ codes " given_up " ++ decimal ended.given_up ++ codes " behind " ++ decimal ended.behind ++ codes " gone " ++ decimal ended.gone
 
 -- what a server counts of connections, calls and expiries
-abbrev pub counts_text : Counts → List ℕ
+unfoldable pub counts_text : Counts → List ℕ
 counts_text counts = open_text counts.current ++ codes " " ++ ended_text counts.ended ++ codes " expired " ++ decimal counts.expired
 
 -- what a server counts
 abbrev pub stats_text : Stats → List ℕ
-stats_text stats = codes "entries " ++ decimal stats.entries ++ codes " kept " ++ decimal stats.kept ++ codes " " ++ counts_text stats.counts ++ codes " left " ++ decimal stats.left
+stats_text stats = codes "entries " ++ decimal stats.entries ++ codes " kept " ++ decimal stats.kept ++ codes " " ++ counts_text stats.counts ++ codes " left " ++ decimal stats.left ++ codes " writable " ++ decimal stats.counts.writable
 
 -- an entry that a reason names
 abbrev pub cause_text : Cause → List ℕ
@@ -112,6 +112,7 @@ short_text Stopping = Some (codes "stopping")
 short_text BadLine = Some (codes "bad line")
 short_text TooLong = Some (codes "line too long")
 short_text NotAllowed = Some (codes "not allowed")
+short_text NotASession = Some (codes "not a session")
 short_text OutOfMemory = Some (codes "refused no memory")
 short_text Skipped = None
 
@@ -131,6 +132,7 @@ long_text names Stopping = []
 long_text names BadLine = []
 long_text names TooLong = []
 long_text names NotAllowed = []
+long_text names NotASession = []
 long_text names OutOfMemory = []
 long_text names Skipped = []
 
@@ -150,10 +152,11 @@ answer_text names Stopping = codes "stopping\n"
 answer_text names BadLine = codes "bad line\n"
 answer_text names TooLong = codes "line too long\n"
 answer_text names NotAllowed = codes "not allowed\n"
+answer_text names NotASession = codes "not a session\n"
 answer_text names OutOfMemory = codes "refused no memory\n"
 answer_text names Skipped = []
 
--- no line behind the one that has this answer is answered: the server ends, or the line was too long
+-- no line behind the one that has this answer is answered: the server ends, or the line was too long or none of a session
 abbrev pub ends_session : Answer → Bool
 ends_session (Changed result) = false
 ends_session (Expected result) = false
@@ -169,6 +172,7 @@ ends_session Stopping = true
 ends_session BadLine = false
 ends_session TooLong = true
 ends_session NotAllowed = false
+ends_session NotASession = true
 ends_session OutOfMemory = false
 ends_session Skipped = false
 

@@ -33,6 +33,8 @@ pub enum Answer {
     TooLong,
     /// The place of the session does not take such a line.
     NotAllowed,
+    /// A web browser sends such a line, and no session does.
+    NotASession,
     /// Memory ran out, and nothing was changed.
     OutOfMemory,
     /// The line has no byte, and is not answered.
@@ -57,6 +59,7 @@ impl Answer {
             Answer::BadLine => Some("bad line"),
             Answer::TooLong => Some("line too long"),
             Answer::NotAllowed => Some("not allowed"),
+            Answer::NotASession => Some("not a session"),
             Answer::OutOfMemory => Some("refused no memory"),
             Answer::Board(_)
             | Answer::Listed(_)
@@ -72,6 +75,9 @@ impl Answer {
     pub(crate) fn ends_session(&self) -> bool
         ensures { result ≡ ends_session self.now }
     {
-        matches!(self, Answer::Stopping | Answer::TooLong)
+        matches!(
+            self,
+            Answer::Stopping | Answer::TooLong | Answer::NotASession
+        )
     }
 }

@@ -70,6 +70,7 @@
 
 mod answer;
 mod answer_fault;
+mod answering;
 mod cause;
 mod client;
 mod description;
@@ -91,11 +92,13 @@ mod rights;
 mod sending;
 mod server;
 mod session;
+mod session_terms;
 mod stats;
 mod stream;
 mod telling;
 mod terms;
 mod unix_place;
+mod web_line;
 mod words;
 mod writing;
 
@@ -118,6 +121,7 @@ pub use request::Request;
 pub use rights::Rights;
 pub use server::Server;
 pub use session::Session;
+pub use session_terms::SessionTerms;
 pub use stats::{Counts, Ended, OpenNow, Stats};
 pub use stream::ControlStream;
 pub use telling::tell;

@@ -1,5 +1,5 @@
 ghost use Rattle.std.specs.IoError.{error_kind};
-ghost use Rattle.std.specs.Prelude.{◌≡◌, IfOk, IsErrAnd};
+ghost use Rattle.std.specs.Prelude.{◌≡◌, ◌↔◌, IfOk, IsErrAnd, IsTrue, None};
 ghost use Rattle.control.specs.Listener.{path_listened};
 ghost use Rattle.control.specs.Place.{IsLocal, path_of};
 
@@ -54,6 +54,13 @@ impl ControlListener {
             ControlListener::Tcp(listener) => Ok(Place::Address(listener.local_addr()?)),
             ControlListener::Unix(place) => Ok(Place::Path(place.path())),
         }
+    }
+
+    /// Whether it listens at an address, which web pages reach too.
+    pub fn is_tcp(&self) -> bool
+        ensures { IsTrue result ↔ (path_listened self.now ≡ None) }
+    {
+        matches!(self, ControlListener::Tcp(_))
     }
 
     /// The next connection, or `WouldBlock` where none waits.

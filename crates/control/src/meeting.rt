@@ -1,7 +1,7 @@
 ghost use Rattle.std.specs.Prelude.{◌≡◌, ◌⊎◌, ℕ, None, Some, IsSome, IfSome, IfNone};
 ghost use Rattle.desk_core.specs.Catalogue.{slot_of};
 ghost use Rattle.script.specs.Change.{line_change};
-ghost use Rattle.control.specs.Beside.{ChangesBeside, ExpectsBeside, IsLineMetBeside};
+ghost use Rattle.control.specs.Beside.{ChangesBeside, ExpectsBeside, IsTextMetBeside};
 ghost use Rattle.control.specs.Beside.{IsMetBeside, TellsBeside};
 ghost use Rattle.control.specs.Meeting.{reply_by_rule};
 ghost use Rattle.control.specs.Request.{IsOfferedRequest};
@@ -57,7 +57,7 @@ fn stats<P: Probe, C: Console<P>, V: Server>(console: &mut C, server: &V) -> Sta
         entries,
         kept: kept as u32,
         counts: server.counts(),
-        left: server.terms().most.saturating_sub(entries),
+        left: server.terms().place.most.saturating_sub(entries),
     }
 }
 
@@ -231,14 +231,14 @@ fn meet_allowed<P: Probe, C: Console<P>, V: Server, M: Maker<P>>(
 ) -> Answer
     requires offered { IsOfferedRequest request.now }
     ensures names { C.names console.new ≡ C.names console.old }
-    ensures met { (IsAllowed (V.terms server.old).rights request.now
+    ensures met { (IsAllowed (V.terms server.old).place.rights request.now
         × IsMetBeside C.seen C.kept C.looks C.answers V.terms V.counted V.woken V.expected
         V.stopped (C.names console.old) (console.old, server.old) (console.new, server.new)
         request.now result)
-        ⊎ ((¬ IsAllowed (V.terms server.old).rights request.now) × (result ≡ Answer.NotAllowed)
+        ⊎ ((¬ IsAllowed (V.terms server.old).place.rights request.now) × (result ≡ Answer.NotAllowed)
         × (console.new ≡ console.old) × (server.new ≡ server.old)) }
 {
-    if !server.terms().rights.allow(request) {
+    if !server.terms().place.rights.allow(request) {
         return Answer::NotAllowed;
     }
     meet(console, server, maker, request)
@@ -256,7 +256,7 @@ pub(crate) fn meet_text<P: Probe, C: Console<P>, V: Server, M: Maker<P>>(
     line: &[u8],
 ) -> Answer
     ensures names { C.names console.new ≡ C.names console.old }
-    ensures met { IsLineMetBeside C.seen C.kept C.looks C.answers V.terms V.counted V.woken
+    ensures met { IsTextMetBeside C.seen C.kept C.looks C.answers V.terms V.counted V.woken
         V.expected V.stopped (C.names console.old) (console.old, server.old)
         (console.new, server.new) line.now result }
 {
@@ -264,7 +264,7 @@ pub(crate) fn meet_text<P: Probe, C: Console<P>, V: Server, M: Maker<P>>(
         return Answer::TooLong;
     }
     let Ok(text) = str::from_utf8(line) else {
-        return server.terms().rights.unknown_line();
+        return server.terms().place.rights.unknown_line();
     };
     let content = without_cr(text);
     if content.is_empty() {
@@ -272,7 +272,7 @@ pub(crate) fn meet_text<P: Probe, C: Console<P>, V: Server, M: Maker<P>>(
     }
     match read_request(alloc, console.catalogue(), content) {
         Ok(Some(request)) => meet_allowed(console, server, maker, &request),
-        Ok(None) => server.terms().rights.unknown_line(),
+        Ok(None) => server.terms().place.rights.unknown_line(),
         Err(_) => Answer::OutOfMemory,
     }
 }

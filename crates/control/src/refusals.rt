@@ -35,7 +35,10 @@ fn is_refusal(answer: &[u8]) -> bool
     if answer == b"bad line".as_slice() {
         return true;
     }
-    answer == b"line too long".as_slice()
+    if answer == b"line too long".as_slice() {
+        return true;
+    }
+    answer == b"not a session".as_slice()
 }
 
 /// Whether the server took the connection, and then closed it because it has as many sessions as it may.

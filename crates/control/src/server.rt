@@ -1,6 +1,6 @@
 use crate::expected::Expected;
+use crate::session_terms::SessionTerms;
 use crate::stats::Counts;
-use crate::terms::Terms;
 use chronicle::Note;
 use desk_core::{Refusal, Slot};
 
@@ -13,9 +13,9 @@ pub trait Server {
     ghost use Rattle.std.specs.Prelude.{◌≡◌};
     ghost use Rattle.control.specs.declared.expected.Expected.{Expected};
     ghost use Rattle.control.specs.declared.stats.Counts.{Counts};
-    ghost use Rattle.control.specs.declared.terms.Terms.{Terms};
+    ghost use Rattle.control.specs.declared.session_terms.SessionTerms.{SessionTerms};
 
-    ghost terms: { Self → Terms };
+    ghost terms: { Self → SessionTerms };
 
     ghost counted: { Self → Counts → Type 0 };
 
@@ -26,7 +26,7 @@ pub trait Server {
     ghost stopped: { Self → Self → Type 0 };
 
     /// What holds for its sessions.
-    fn terms(&self) -> Terms
+    fn terms(&self) -> SessionTerms
         ensures { result ≡ terms self.now };
 
     /// What it counts of connections, calls and expiries.

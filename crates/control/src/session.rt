@@ -2,7 +2,7 @@ ghost use Rattle.std.specs.Prelude.{◌≡◌, ◌≤◌, length};
 ghost use Rattle.control.specs.Session.{ends_open, first_line};
 
 use crate::answer::Answer;
-use crate::meeting::meet_text;
+use crate::answering::answer_line;
 use crate::server::Server;
 use crate::writing::write_answer;
 use desk_core::{Catalogue, Console};
@@ -131,7 +131,7 @@ impl Session {
         self.waiting.drain(..count);
     }
 
-    /// Whether its last line was answered: one that is too long, or `stop`.
+    /// Whether its last line was answered: one that is too long or none of a session, or `stop`.
     pub fn is_over(&self) -> bool
         ensures { result ≡ self.now.is_over }
     {
@@ -160,7 +160,7 @@ impl Session {
         ensures waiting { self.new.waiting ≡ answer_text (C.names console.old) result }
         ensures over { self.new.is_over ≡ ends_session result }
     {
-        let answer = meet_text(alloc, console, server, maker, self.first_line());
+        let answer = answer_line(alloc, console, server, maker, self.first_line());
         self.drop_line();
         let told = self.say(alloc, console.catalogue(), answer);
         self.is_over = told.ends_session();

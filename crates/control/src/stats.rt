@@ -23,13 +23,15 @@ pub struct Ended {
     pub gone: u64,
 }
 
-/// What a server counts of connections, calls and expiries.
+/// What a server counts of connections, calls and expiries, and whether its journal takes changes.
 #[derive(Clone, Copy)]
 pub struct Counts {
     pub current: OpenNow,
     pub ended: Ended,
     /// How often a service was brought down since nothing was heard of it.
     pub expired: u64,
+    /// 0 if the newest change could not be stored, else 1.
+    pub writable: u8,
 }
 
 /// What a server counts.
@@ -89,11 +91,13 @@ impl fmt::Display for Counts {
 
     ghost output = { λ counts. Some (counts_text counts) };
 
+    #[tactic(auto, unfolding(crate::specs::Text::counts_text))]
     fn fmt<W: fmt::Write>(&self, f: &mut fmt::Formatter<W>) -> fmt::Result {
         let Counts {
             current,
             ended,
             expired,
+            writable: _,
         } = self;
         write!(f, "{current} {ended} expired {expired}")
     }
@@ -112,6 +116,10 @@ impl fmt::Display for Stats {
             counts,
             left,
         } = self;
-        write!(f, "entries {entries} kept {kept} {counts} left {left}")
+        let writable = counts.writable;
+        write!(
+            f,
+            "entries {entries} kept {kept} {counts} left {left} writable {writable}"
+        )
     }
 }

@@ -1,5 +1,5 @@
 -- What lines that a seat met have made of its history.
-use Rattle.std.proofs.Common.{◌≡◌, ℕ, List, [], ◌∷◌, ◌++◌, ap, sym, refl, ◌∙◌, subst}
+use Rattle.std.proofs.Common.{◌≡◌, ◌⊎◌, inl, inr, ℕ, List, [], ◌∷◌, ◌++◌, ap, sym, refl, ◌∙◌, subst}
 use Rattle.std.specs.Prelude.{Option, None, Some, Result, Ok, Err}
 use Rattle.std.specs.Option.{option_map}
 use Rattle.std.proofs.lemmas.Option.{none-some}
@@ -20,6 +20,7 @@ use Rattle.hall.specs.Looking.{HasLooked}
 use Rattle.hall.proofs.CarryingOut.{has_met}
 use Rattle.hall.proofs.LookingLemmas.{older_on}
 use Rattle.control.specs.declared.answer.Answer.{Answer}
+use Rattle.control.specs.declared.answer.Answer.TheVariants.{NotASession}
 use Rattle.script.specs.declared.line.Line.{Line}
 use Rattle.script.specs.declared.line.Line.TheVariants.{Register, Retire, Order, Check, Open, Step, Board}
 use Rattle.script.specs.Change.{line_change}
@@ -36,7 +37,7 @@ use Rattle.control.specs.Meeting.IsMet.{Changes, Expects, Checks, Packs, Lists, 
 use Rattle.control.specs.Meeting.IsLineMet.{IsTooLong, IsSkipped, IsNoText, IsNoRequest, IsUnread, IsDenied, IsAsked}
 use Rattle.control.specs.Request.{IsRequest}
 use Rattle.control.specs.Talk.AreMet.{Ends, Then, Moves}
-use Rattle.control_server.specs.SeatLines.{AreAskedBy, AreFindings, CountsSeen, KnowsSeen, HasMade, HasMet, IsExpectedBySeat, IsFindingAsked, IsMetBySeat, results_of}
+use Rattle.control_server.specs.SeatLines.{AreAskedBy, AreFindings, CountsSeen, KnowsSeen, HasMade, HasMet, IsExpectedBySeat, IsFindingAsked, IsMetBySeat, IsTextMetBySeat, results_of}
 use Rattle.control_server.specs.SeatLines.AreAskedBy.{NoLines, Change, NoChange}
 
 -- the first change's entry stands before those of the others
@@ -160,15 +161,26 @@ unknown_first : (terms : Terms) (names : List (List ℕ)) (a b c : SeatState) (l
 unknown_first terms names a b c line answer lines answers told same makes =
     let quiet = unknown_result terms.rights answer answers told in quiet_first terms names a b c line answer lines answers quiet.0 quiet.1 (stays a b same) makes
 
+text_first : (kept : Option ℕ) (terms : Terms) (names : List (List ℕ)) (a b c : SeatState) (line : List ℕ) (answer : Answer) (lines : List (List ℕ)) (answers : List Answer)
+    → IsTextMetBySeat kept terms names a b line answer → Makes terms names b c lines answers → Makes terms names a c (line ∷ lines) (answer ∷ answers)
+text_first kept terms names a b c line _ lines answers (IsTooLong long same) makes = quiet_first terms names a b c line _ lines answers refl refl (stays a b same) makes
+text_first kept terms names a b c line _ lines answers (IsSkipped short empty same) makes = quiet_first terms names a b c line _ lines answers refl refl (stays a b same) makes
+text_first kept terms names a b c line _ lines answers (IsNoText short not_text answer told same) makes = unknown_first terms names a b c line answer lines answers told same makes
+text_first kept terms names a b c line _ lines answers (IsNoRequest said not_request answer told same) makes = unknown_first terms names a b c line answer lines answers told same makes
+text_first kept terms names a b c line _ lines answers (IsUnread said same) makes = quiet_first terms names a b c line _ lines answers refl refl (stays a b same) makes
+text_first kept terms names a b c line _ lines answers (IsDenied said request is may_not same) makes = quiet_first terms names a b c line _ lines answers refl refl (stays a b same) makes
+text_first kept terms names a b c line _ lines answers (IsAsked said request answer is may met) makes = request_first kept terms names a b c line request answer lines answers is may met makes
+
+-- a line that is none of a session makes nothing
+told_first : (terms : Terms) (names : List (List ℕ)) (a b c : SeatState) (line : List ℕ) (answer : Answer) (lines : List (List ℕ)) (answers : List Answer)
+    → answer ≡ NotASession → b ≡ a → Makes terms names b c lines answers → Makes terms names a c (line ∷ lines) (answer ∷ answers)
+told_first terms names a b c line answer lines answers told same makes =
+    quiet_first terms names a b c line answer lines answers (ap (λ (given : Answer). results_of (given ∷ [])) told) (ap (λ (given : Answer). results_of (given ∷ answers)) told) (stays a b same) makes
+
 line_first : (kept : Option ℕ) (terms : Terms) (names : List (List ℕ)) (a b c : SeatState) (line : List ℕ) (answer : Answer) (lines : List (List ℕ)) (answers : List Answer)
     → IsMetBySeat kept terms names a b line answer → Makes terms names b c lines answers → Makes terms names a c (line ∷ lines) (answer ∷ answers)
-line_first kept terms names a b c line _ lines answers (IsTooLong long same) makes = quiet_first terms names a b c line _ lines answers refl refl (stays a b same) makes
-line_first kept terms names a b c line _ lines answers (IsSkipped short empty same) makes = quiet_first terms names a b c line _ lines answers refl refl (stays a b same) makes
-line_first kept terms names a b c line _ lines answers (IsNoText short not_text answer told same) makes = unknown_first terms names a b c line answer lines answers told same makes
-line_first kept terms names a b c line _ lines answers (IsNoRequest said not_request answer told same) makes = unknown_first terms names a b c line answer lines answers told same makes
-line_first kept terms names a b c line _ lines answers (IsUnread said same) makes = quiet_first terms names a b c line _ lines answers refl refl (stays a b same) makes
-line_first kept terms names a b c line _ lines answers (IsDenied said request is may_not same) makes = quiet_first terms names a b c line _ lines answers refl refl (stays a b same) makes
-line_first kept terms names a b c line _ lines answers (IsAsked said request answer is may met) makes = request_first kept terms names a b c line request answer lines answers is may met makes
+line_first kept terms names a b c line answer lines answers (inl told) makes = told_first terms names a b c line answer lines answers told.1 told.2 makes
+line_first kept terms names a b c line answer lines answers (inr met) makes = text_first kept terms names a b c line answer lines answers met makes
 
 makes_all : (kept : Option ℕ) (terms : Terms) (names : List (List ℕ)) (old new : SeatState) (lines : List (List ℕ)) (answers : List Answer) → HasMet kept terms names old new lines answers → Makes terms names old new lines answers
 makes_all kept terms names _ _ _ _ (Ends seat) = record { calls = []; asked = NoLines; made = made_none seat; findings = λ reports. tt }

@@ -5,6 +5,7 @@ use Rattle.crew.specs.declared.door.HallDoor.{HallDoor}
 use Rattle.crew.specs.HallDoor.{CarriesOut, StaysAt}
 use Rattle.control.specs.declared.expected.Expected.{Expected}
 use Rattle.control.specs.declared.stats.Counts.{Counts}
+use Rattle.control.specs.declared.session_terms.SessionTerms.{SessionTerms}
 use Rattle.control.specs.declared.terms.Terms.{Terms}
 use Rattle.control.specs.Beside.{IsLineMetBeside}
 use Rattle.control.specs.Session.{SessionState, begun}
@@ -21,11 +22,11 @@ pub by_draining : {X : Type 0} (draining : Bool) → (draining ≡ false → X) 
 by_draining false talks drains = talks refl
 by_draining true talks drains = drains refl
 
-module _ {R P K V : Type 0} (kept : Option ℕ) (terms : V → Terms) (counted : V → Counts → Type 0) (woken : V → V → Type 0) (expected : V → V → Expected → Type 0) (stopped : V → V → Type 0) where
+module _ {R P K V : Type 0} (kept : Option ℕ) (terms : V → SessionTerms) (counted : V → Counts → Type 0) (woken : V → V → Type 0) (expected : V → V → Expected → Type 0) (stopped : V → V → Type 0) where
   -- what was said over a door was said by its seat
   pub said_by_seat : (names : List (List ℕ)) (old new : HallDoor R P K × V) {session session_now : SessionState} {moved : Moved}
       → HasSaid nobody (IsLineMetBeside seen_by kept StaysAt CarriesOut terms counted woken expected stopped names) names old new session session_now moved
-      → IsSame terms old new × SpeaksBy kept (terms old.1) names (seat_of old) (seat_of new) session session_now moved
+      → IsSame terms old new × SpeaksBy kept (terms old.1).place names (seat_of old) (seat_of new) session session_now moved
   said_by_seat names old new said =
       let met = lines_met kept terms counted woken expected stopped names old new said.lines said.answers said.are_met in (
         met.0,
@@ -36,7 +37,7 @@ module _ {R P K V : Type 0} (kept : Option ℕ) (terms : V → Terms) (counted :
   pub speaks_by_turn : (names : List (List ℕ)) (old new : HallDoor R P K × V) (session session_now : SessionState) (draining : Bool)
       → (draining ≡ false → (moved : Moved)
       × HasSaid nobody (IsLineMetBeside seen_by kept StaysAt CarriesOut terms counted woken expected stopped names) names old new session session_now moved)
-      → (draining ≡ true → (new ≡ old) × (session_now ≡ session)) → IsSame terms old new × ((moved : Moved) × SpeaksBy kept (terms old.1) names (seat_of old) (seat_of new) session session_now moved)
+      → (draining ≡ true → (new ≡ old) × (session_now ≡ session)) → IsSame terms old new × ((moved : Moved) × SpeaksBy kept (terms old.1).place names (seat_of old) (seat_of new) session session_now moved)
   speaks_by_turn names old new session session_now false goes stays =
       let said = goes refl in
       let by_seat = said_by_seat names old new said.1 in
@@ -46,8 +47,8 @@ module _ {R P K V : Type 0} (kept : Option ℕ) (terms : V → Terms) (counted :
         same_whole terms old new same.0,
         (
           nothing_moved,
-          subst (λ (s : SessionState). SpeaksBy kept (terms old.1) names (seat_of old) (seat_of new) session s nothing_moved) (sym same.1)
-              (subst (λ (seat : SeatState). SpeaksBy kept (terms old.1) names (seat_of old) seat session session nothing_moved) (sym (ap (λ (held : HallDoor R P K × V). seat_of held) same.0))
+          subst (λ (s : SessionState). SpeaksBy kept (terms old.1).place names (seat_of old) (seat_of new) session s nothing_moved) (sym same.1)
+              (subst (λ (seat : SeatState). SpeaksBy kept (terms old.1).place names (seat_of old) seat session session nothing_moved) (sym (ap (λ (held : HallDoor R P K × V). seat_of held) same.0))
               (said_nothing (seat_of old) session)),
         ),
       )

@@ -1,5 +1,5 @@
 -- What sessions make of the seat that they have, one after the other, and what of it is in the seat's history.
-use Rattle.std.specs.Prelude.{ℕ, ◌≡◌, ◌-◌, Option, Some, None, List, [], ◌∷◌, ◌++◌, length, Result}
+use Rattle.std.specs.Prelude.{ℕ, ◌≡◌, ◌⊎◌, ◌-◌, Option, Some, None, List, [], ◌∷◌, ◌++◌, length, Result}
 use Rattle.desk_core.specs.declared.call.Call.{Call}
 use Rattle.desk_core.specs.declared.call.Call.TheVariants as calls
 use Rattle.desk_core.specs.declared.refusal.Refusal.{Refusal}
@@ -14,7 +14,7 @@ use Rattle.script.specs.declared.line.Line.{Line}
 use Rattle.script.specs.Change.{line_change}
 use Rattle.script.specs.TextLines.{without_cr}
 use Rattle.control.specs.declared.answer.Answer.{Answer}
-use Rattle.control.specs.declared.answer.Answer.TheVariants.{Changed, Expected, Checked, Board, Listed, Told, Explained, Described, Recalled, NotFound, Stopping, BadLine, TooLong, NotAllowed, OutOfMemory, Skipped}
+use Rattle.control.specs.declared.answer.Answer.TheVariants.{Changed, Expected, Checked, Board, Listed, Told, Explained, Described, Recalled, NotFound, Stopping, BadLine, TooLong, NotAllowed, NotASession, OutOfMemory, Skipped}
 use Rattle.control.specs.declared.request.Request.TheVariants as requests
 use Rattle.control.specs.declared.stats.Stats.{Stats}
 use Rattle.control.specs.declared.terms.Terms.{Terms}
@@ -22,6 +22,7 @@ use Rattle.control.specs.Known.{Asked, Known, known_of}
 use Rattle.control.specs.Request.{IsRequest}
 use Rattle.control.specs.Meeting.{IsLineMet, expected_reply}
 use Rattle.control.specs.Talk.{AreMet}
+use Rattle.control.specs.WebLine.{IsWebLine}
 use Rattle.tail.specs.Tail.{forgotten}
 
 -- the numbers of entries, those that were made, those that are kept and those that may still be made, are those of what the seat has seen,
@@ -43,9 +44,14 @@ pub record IsExpectedBySeat (names : List (List ℕ)) (old new : SeatState)
 
 -- The line is met by the seat with this answer, by these terms: a change by a change of the seat, anything else by what the seat has seen,
 -- of which so many entries are kept
+abbrev pub IsTextMetBySeat : Option ℕ → Terms → List (List ℕ) → SeatState → SeatState → List ℕ → Answer → Type 0
+IsTextMetBySeat kept terms names old new line answer =
+    IsLineMet terms.rights names (λ seat. seat.seen) HasLooked IsCarriedOut (IsExpectedBySeat names) (CountsSeen kept terms) (KnowsSeen kept) (λ before after. after ≡ before) old new line answer
+
+-- the same of any line that comes: one that a web browser sends may be answered that it is none of a session, and then nothing is done
 abbrev pub IsMetBySeat : Option ℕ → Terms → List (List ℕ) → SeatState → SeatState → List ℕ → Answer → Type 0
 IsMetBySeat kept terms names old new line answer =
-    IsLineMet terms.rights names (λ seat. seat.seen) HasLooked IsCarriedOut (IsExpectedBySeat names) (CountsSeen kept terms) (KnowsSeen kept) (λ before after. after ≡ before) old new line answer
+    (IsWebLine line × (answer ≡ NotASession) × (new ≡ old)) ⊎ IsTextMetBySeat kept terms names old new line answer
 
 -- By this seat these lines were met, one after the other, each with its answer at its point of the history. In between it has at most looked
 abbrev pub HasMet : Option ℕ → Terms → List (List ℕ) → SeatState → SeatState → List (List ℕ) → List Answer → Type 0
@@ -68,6 +74,7 @@ results_of (Stopping ∷ answers) = results_of answers
 results_of (BadLine ∷ answers) = results_of answers
 results_of (TooLong ∷ answers) = results_of answers
 results_of (NotAllowed ∷ answers) = results_of answers
+results_of (NotASession ∷ answers) = results_of answers
 results_of (OutOfMemory ∷ answers) = results_of answers
 results_of (Skipped ∷ answers) = results_of answers
 

@@ -1,4 +1,5 @@
 -- The loop over the sessions of a server.
+use Rattle.std.specs.Prelude.{Bool}
 use Rattle.reactor.specs.Table.{TableState}
 use Rattle.control.specs.declared.terms.Terms.{Terms}
 use Rattle.live_server.specs.Loop.{held_by}
@@ -12,3 +13,7 @@ sessions_of server = held_by server.sessions
 -- what holds for its sessions
 abbrev pub terms_of : ControlServer → Terms
 terms_of server = server.terms
+
+-- whether they come over TCP
+abbrev pub is_over_tcp : ControlServer → Bool
+is_over_tcp server = server.over_tcp

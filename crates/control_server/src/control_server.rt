@@ -36,6 +36,8 @@ pub struct ControlServer {
     stops: AtomicU64,
     /// What holds for its sessions.
     terms: Terms,
+    /// Whether they come over TCP.
+    over_tcp: bool,
     /// Tells a supervisor that the server was told to stop.
     notifier: Notifier,
     /// What its sessions expect of services.
@@ -49,6 +51,7 @@ impl Drop for ControlServer {
             tallies: _,
             stops: _,
             terms: _,
+            over_tcp: _,
             notifier: _,
             expectations: _,
         } = self;
@@ -56,11 +59,12 @@ impl Drop for ControlServer {
 }
 
 impl ControlServer {
-    ghost use Rattle.std.specs.Prelude.{◌≡◌, IfOk};
+    ghost use Rattle.std.specs.Prelude.{◌≡◌, ◌↔◌, IfOk, IsTrue, None};
     ghost use Rattle.std.specs.List.{All};
     ghost use Rattle.hall.specs.Seats.{IsOf};
     ghost use Rattle.reactor.specs.Table.{held_count};
-    ghost use Rattle.control_server.specs.Server.{sessions_of, terms_of};
+    ghost use Rattle.control.specs.Listener.{path_listened};
+    ghost use Rattle.control_server.specs.Server.{is_over_tcp, sessions_of, terms_of};
     ghost use Rattle.control_server.specs.Seats.{SeatsHaveMet};
     ghost use Rattle.live_server.specs.Settled.{KeepsAccount};
 
@@ -74,14 +78,18 @@ impl ControlServer {
         terms: Terms,
         expectations: Arc<Expectations>,
     ) -> io::Result<ControlServer>
-        ensures { IfOk result (λ server. terms_of server ≡ terms) }
+        ensures terms { IfOk result (λ server. terms_of server ≡ terms) }
+        ensures tcp { IfOk result (λ server. IsTrue (is_over_tcp server)
+            ↔ (path_listened listener ≡ None)) }
     {
+        let over_tcp = listener.is_tcp();
         let places = Arc::new(alloc, Places::new(LIMITS))?;
         Ok(ControlServer {
             sessions: EventLoop::new(rt, alloc, ControlAcceptor::new(listener), places)?,
             tallies,
             stops: AtomicU64::new(0),
             terms,
+            over_tcp,
             notifier: Notifier::nobody(),
             expectations,
         })
@@ -90,6 +98,7 @@ impl ControlServer {
     /// The same loop, which tells a supervisor once a session stops the server.
     pub fn notifying(self, notifier: Notifier) -> ControlServer
         ensures terms { terms_of result ≡ terms_of self }
+        ensures tcp { is_over_tcp result ≡ is_over_tcp self }
         ensures sessions { sessions_of result ≡ sessions_of self }
     {
         let ControlServer {
@@ -97,6 +106,7 @@ impl ControlServer {
             tallies,
             stops,
             terms,
+            over_tcp,
             notifier: _,
             expectations,
         } = self;
@@ -105,6 +115,7 @@ impl ControlServer {
             tallies,
             stops,
             terms,
+            over_tcp,
             notifier,
             expectations,
         }
@@ -144,6 +155,7 @@ impl ControlServer {
             expectations: &self.expectations,
             stops: &self.stops,
             terms: self.terms,
+            over_tcp: self.over_tcp,
             notifier: &self.notifier,
         };
         self.sessions.run(context.rt, &mut handler, context.news);

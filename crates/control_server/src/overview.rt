@@ -1,5 +1,5 @@
 use chronicle::{Note, Who};
-use control::{Counts, Ended, Expected, OpenNow, Server, Terms};
+use control::{Counts, Ended, Expected, OpenNow, Server, SessionTerms, Terms};
 use desk_core::{Refusal, Slot};
 use live_server::{News, Tally};
 use std::sync::Arc;
@@ -23,6 +23,8 @@ pub struct Overview<'a> {
     pub sessions: u64,
     /// What holds for them.
     pub terms: Terms,
+    /// Whether they come over TCP.
+    pub over_tcp: bool,
     /// Not 0 once a session was told to stop the server.
     pub stops: &'a AtomicU64,
 }
@@ -40,7 +42,7 @@ impl Overview<'_> {
 impl<'a> Server for Overview<'a> {
     ghost use Rattle.std.specs.Prelude.{◌≡◌};
 
-    ghost terms = { λ overview. overview.terms };
+    ghost terms = { λ overview. record { place = overview.terms; over_tcp = overview.over_tcp } };
 
     ghost counted = { λ overview counts. Unit {0} };
 
@@ -50,16 +52,21 @@ impl<'a> Server for Overview<'a> {
 
     ghost stopped = { λ old new. new ≡ old };
 
-    fn terms(&self) -> Terms {
-        self.terms
+    fn terms(&self) -> SessionTerms {
+        SessionTerms {
+            place: self.terms,
+            over_tcp: self.over_tcp,
+        }
     }
 
     fn counts(&self) -> Counts {
         let (current, ended) = sums_of(self.tallies, self.sessions);
+        let vitals = self.expectations.chronicle().vitals();
         Counts {
             current,
             ended,
             expired: self.expectations.expired(),
+            writable: if vitals.store_fault().is_some() { 0 } else { 1 },
         }
     }
 

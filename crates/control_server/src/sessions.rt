@@ -54,6 +54,8 @@ pub(crate) struct Sessions<'s, 'a, 'b, R, P: Probe, K: Keep, M> {
     pub(crate) stops: &'a AtomicU64,
     /// What holds for them.
     pub(crate) terms: Terms,
+    /// Whether they come over TCP.
+    pub(crate) over_tcp: bool,
     /// Tells a supervisor that the server was told to stop.
     pub(crate) notifier: &'a Notifier,
 }
@@ -245,6 +247,7 @@ impl<R: Wait + Clock, P: Probe, K: Keep, M: Maker<P>> Handler<ControlStream, Ses
             sessions: visit.talking as u64,
             stops: self.stops,
             terms: self.terms,
+            over_tcp: self.over_tcp,
         };
         let left = turn_by_key(
             alloc,

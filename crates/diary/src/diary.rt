@@ -8,6 +8,7 @@ use crate::held::Held;
 use crate::moment::Moment;
 use crate::page::Page;
 use crate::pen::Pen;
+use crate::storage::Storage;
 use crate::story::{Story, tell_batch};
 use desk_core::{Catalogue, Keep, board_entries};
 use hall::{Hall, Seat};
@@ -56,6 +57,7 @@ pub struct Diary {
     batch: Batch,
     pen: Pen,
     bounds: Bounds,
+    storage: Storage,
 }
 
 impl Drop for Diary {
@@ -71,6 +73,7 @@ impl Drop for Diary {
             batch: _,
             pen: _,
             bounds: _,
+            storage: _,
         } = self;
     }
 }
@@ -95,6 +98,7 @@ impl Diary {
             batch: Batch::new(alloc, setup.entries)?,
             pen: Pen::new(alloc, outlet)?,
             bounds: Bounds::new(setup.room, setup.most),
+            storage: Storage::new(),
         })
     }
 
@@ -122,6 +126,7 @@ impl Diary {
         self.tell_beginning(hall.catalogue());
         self.follow_journal(rt, hall, seat);
         self.tell_refusals(hall.catalogue());
+        self.tell_storage();
         self.bounds.tell_held(&mut self.pen, self.moment, held);
         self.pen.write_now();
     }
@@ -241,6 +246,12 @@ impl Diary {
             moment: *moment,
         };
         *has_more = tell_batch(&page, pen, story, batch, own);
+    }
+
+    /// Tells whether the journal takes changes, where that is new or lasts.
+    fn tell_storage(&mut self) {
+        let fault = self.expectations.chronicle().vitals().store_fault();
+        self.storage.tell(&mut self.pen, self.moment, fault);
     }
 
     /// Tells which changes were refused.

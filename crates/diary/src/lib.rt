@@ -41,6 +41,7 @@ mod moment;
 mod page;
 mod pen;
 mod shown;
+mod storage;
 mod story;
 mod words;
 

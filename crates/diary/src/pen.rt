@@ -1,5 +1,5 @@
 use crate::moment::Moment;
-use log_lines::{Allowance, Event, Line, Outlet, Writer};
+use log_lines::{Allowance, Event, JournalLine, Line, Outlet, Writer};
 use std::alloc::{AllocError, Global};
 
 /// Writes lines, as many as may be written and as fast as they are taken, unless it has no outlet.
@@ -8,6 +8,8 @@ pub(crate) struct Pen {
     alloc: Global,
     allowance: Allowance,
     writer: Option<Writer>,
+    /// Whether lines have their priority before them.
+    is_journal: bool,
     /// How many lines were dropped of which nobody was told yet.
     dropped: u64,
 }
@@ -23,6 +25,7 @@ impl Pen {
             alloc,
             allowance: Allowance::new(),
             writer,
+            is_journal: outlet.is_some_and(|outlet| outlet.is_journal),
             dropped: 0,
         })
     }
@@ -41,7 +44,12 @@ impl Pen {
         let Some(writer) = &mut self.writer else {
             return;
         };
-        match line.to_string(self.alloc) {
+        let text = if self.is_journal {
+            JournalLine(line).to_string(self.alloc)
+        } else {
+            line.to_string(self.alloc)
+        };
+        match text {
             Ok(text) => {
                 writer.push(text.as_bytes());
             }

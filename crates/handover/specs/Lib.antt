@@ -1,3 +1,4 @@
 pub mod Address
 pub mod Numbers
+pub mod Signals
 pub mod Sockets

@@ -2,7 +2,7 @@ ghost use Rattle.std.specs.Prelude.{◌≡◌, ◌↔◌, ◌<◌, ◌++◌, ℕ
 ghost use Rattle.std.specs.Option.{option_to_list};
 ghost use Rattle.handover.specs.Sockets.{IsHandedOver, first_descriptors};
 
-use crate::listener::{is_open, listener_at};
+use crate::listener::{is_open, listener_at, not_listening};
 use crate::number::number_in;
 use std::marker::Model;
 use std::net::TcpListener;
@@ -26,6 +26,8 @@ const ROOM: usize = 16;
 pub struct HandedOver {
     next: u32,
     end: u32,
+    /// Those below it were open when the process began. The number of another one may be given to a file that is opened later.
+    open: u32,
 }
 
 /// The descriptors of the sockets that are left.
@@ -49,17 +51,18 @@ impl HandedOver {
         HandedOver {
             next: FIRST,
             end: FIRST,
+            open: FIRST,
         }
     }
 
-    /// What the environment hands to the process of this id by `LISTEN_PID` and `LISTEN_FDS`, as far as it is open. It is nothing where a
-    /// text is missing or is no number, and where the sockets are another process's.
+    /// What the environment hands to the process of this id by `LISTEN_PID` and `LISTEN_FDS`. It is nothing where a text is missing or
+    /// is no number, and where the sockets are another process's. From the first one on that is not open, none is taken.
     pub fn from_env<R: Env>(rt: &R, process_id: u32) -> HandedOver {
         let mut pid = [0u8; ROOM];
         let mut fds = [0u8; ROOM];
         let pid = text_of(rt, "LISTEN_PID", &mut pid);
         let fds = text_of(rt, "LISTEN_FDS", &mut fds);
-        HandedOver::from_texts(process_id, pid, fds).open_front()
+        HandedOver::from_texts(process_id, pid, fds).as_open()
     }
 
     /// What the texts of `LISTEN_PID` and `LISTEN_FDS` hand over, whether it is open or not.
@@ -73,24 +76,23 @@ impl HandedOver {
             Some(count) => HandedOver {
                 next: FIRST,
                 end: FIRST + count,
+                open: FIRST + count,
             },
             None => HandedOver::nothing(),
         }
     }
 
-    /// The sockets at the front that are open. The number of another one may be given to a file that is opened later.
-    fn open_front(self) -> HandedOver
-        ensures { (count : ℕ) × (result ≡ take count self) }
+    /// The same sockets, of which those at the front are open.
+    fn as_open(self) -> HandedOver
+        ensures { result ≡ self }
     {
-        for descriptor in self.next..self.end {
-            if !is_open(descriptor as i32) {
-                return HandedOver {
-                    next: self.next,
-                    end: descriptor,
-                };
-            }
+        let HandedOver { next, end, .. } = self;
+        let open = (next..end).find(|descriptor| !is_open(*descriptor as i32));
+        HandedOver {
+            next,
+            end,
+            open: open.unwrap_or(end),
         }
-        self
     }
 
     /// How many sockets are left.
@@ -101,13 +103,17 @@ impl HandedOver {
     }
 
     /// Takes the next socket, which then does not wait and is closed at `exec`. It is an error of the kind `InvalidInput` if the
-    /// descriptor is no listening TCP socket, and it is gone then too.
+    /// descriptor is no listening TCP socket, or was not open when the process began, and it is gone then too.
     pub fn take(&mut self) -> Option<io::Result<TcpListener>>
         ensures some { IsSome result ↔ (0 < length self.old) }
         ensures left { self.new ≡ drop 1 self.old }
     {
         let descriptor = self.take_descriptor()?;
-        Some(listener_at(descriptor as i32))
+        if descriptor < self.open {
+            Some(listener_at(descriptor as i32))
+        } else {
+            Some(Err(not_listening()))
+        }
     }
 
     fn take_descriptor(&mut self) -> Option<u32>

@@ -31,6 +31,10 @@ mod handed_over;
 mod listener;
 mod notifier;
 mod number;
+mod signals;
+mod standard;
 
 pub use crate::handed_over::{HandedOver, sockets_for};
 pub use crate::notifier::Notifier;
+pub use crate::signals::StopSignals;
+pub use crate::standard::open_standard_descriptors;

@@ -24,7 +24,7 @@ pub(crate) fn listener_at(fd: i32) -> io::Result<TcpListener>
     Ok(listener)
 }
 
-fn not_listening() -> io::Error {
+pub(crate) fn not_listening() -> io::Error {
     io::Error::new(ErrorKind::InvalidInput, "not a listening TCP socket")
 }
 

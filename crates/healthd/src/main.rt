@@ -5,13 +5,16 @@ ghost use Rattle.probe_core.specs.Made.{IsAsked};
 
 use clap::ArgMatches;
 use clap::error::ErrorKind;
+use commands::command::CONTROL_VARIABLE;
 use commands::fault::Fault;
 use commands::observe::run_observe;
 use commands::observe_options::{ObserveOptions, targets_in};
 use commands::show_journal::run_journal;
-use commands::{ask, body, command, history, replay, serve, status, tell};
+use commands::{ask, body, command, history, replay, serve, status, stop, tell};
 use control::is_one_line;
+use handover::open_standard_descriptors;
 use probe_core::{Depends, FnMaker, Maker, Manual, Probe, ProbeFn, Rule, Threshold};
+use running::check::check;
 use running::run;
 use running::run_options::{RunOptions, Source};
 use running::supervisor::Supervisor;
@@ -34,6 +37,10 @@ const REFUSED: u8 = 2;
 const READS_TERMINAL: &str = "reading a script from standard input, to its end (Ctrl-D)";
 
 fn main(rt: HostRuntime) -> ExitCode {
+    // What is opened while one of these is closed gets its number, and what is printed then goes there.
+    if let Err(error) = open_standard_descriptors() {
+        return failed(&rt, &error);
+    }
     match execute(&rt, process::id(rt.process())) {
         Ok(status) => status,
         Err(fault) => failed(&rt, &fault),
@@ -65,13 +72,25 @@ where
         Ok(words) => words,
         Err(error) => return refuse_words(rt, &error),
     };
-    let control = env::var(rt, command::CONTROL_VARIABLE).ok();
+    let control = env::var(rt, CONTROL_VARIABLE).ok();
     let place = control.as_deref().filter(|place| !place.is_empty());
     let parsed = command::command(rt.alloc(), place)?.try_get_matches_from(words.as_slice());
     match parsed {
         Ok(matches) => run_command(rt, process_id, &matches),
-        Err(error) => refuse(rt, &error),
+        Err(error) => refuse_parsed(rt, &error),
     }
+}
+
+/// Refuses the words, and says what else may name the place that they lack.
+fn refuse_parsed<R: Print + Eprint + AllocGlobal>(
+    rt: &R,
+    error: &clap::Error,
+) -> Result<ExitCode, Fault> {
+    let status = refuse(rt, error)?;
+    if command::lacks_place(rt.alloc(), error)? {
+        let _ = eprintln!(rt; "healthd: {CONTROL_VARIABLE} in the environment may name PLACE too");
+    }
+    Ok(status)
 }
 
 /// The words of this process.
@@ -144,6 +163,7 @@ where
         }
         Some(("ask", matches)) => ask_server(rt, matches),
         Some(("tell", matches)) => tell_server(rt, matches),
+        Some(("stop", matches)) => stop_server(rt, matches),
         Some(("status", matches)) => show_status(rt, matches),
         Some(("history", matches)) => show_history(rt, matches),
         Some(("journal", matches)) => show_journal(rt, matches),
@@ -184,7 +204,12 @@ where
     if options.script == Source::StandardInput && is_input_terminal(rt) {
         let _ = eprintln!(rt; "healthd: {READS_TERMINAL}");
     }
-    match run::run(rt, maker, options, supervisor) {
+    let ended = if matches.get_flag("check") {
+        check(rt, maker, options)
+    } else {
+        run::run(rt, maker, options, supervisor)
+    };
+    match ended {
         Ok(()) => Ok(ExitCode::SUCCESS),
         Err(failure) => Ok(failed(rt, &failure)),
     }
@@ -227,6 +252,21 @@ where
         None => tell::run_input(rt, place, timeout),
     };
     match told {
+        Ok(status) => Ok(ExitCode::from(status)),
+        Err(failure) => Ok(failed(rt, &failure)),
+    }
+}
+
+/// The command `stop`, whose faults tell their cause.
+fn stop_server<R>(rt: &R, matches: &ArgMatches<'_>) -> Result<ExitCode, Fault>
+where
+    R: Print + Eprint + Clock + AllocGlobal + Net<Stream = TcpStream>,
+{
+    let Some(place) = tell::place_in(matches) else {
+        let text = matches.get_str("control").unwrap_or("");
+        return refuse(rt, &command::bad_stop_place(rt.alloc(), text)?);
+    };
+    match stop::run_stop(rt, place, tell::timeout_in(matches)) {
         Ok(status) => Ok(ExitCode::from(status)),
         Err(failure) => Ok(failed(rt, &failure)),
     }

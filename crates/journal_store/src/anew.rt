@@ -4,8 +4,8 @@ ghost use Rattle.journal_store.specs.Turned.{AreTurned};
 
 use crate::medium::Medium;
 use crate::text::{Text, turn};
-use desk_core::NotStored;
-use record_log::{Device, RecordLog, begins};
+use chronicle::StoreFault;
+use record_log::{Device, OpenError, RecordLog, begins};
 use std::alloc::Global;
 
 /// Opens a file anew that has this text or the other, which is turned to where it has that one.
@@ -14,17 +14,18 @@ pub(crate) fn open_either<M: Medium>(
     medium: &mut M,
     text: &mut Text,
     other: &mut Option<Text>,
-) -> Result<RecordLog<M::Device>, NotStored>
+) -> Result<RecordLog<M::Device>, StoreFault>
     ensures turned { AreTurned text.old other.old text.new other.new }
     ensures ready { IfOk result (λ log. (records : List (List ℕ))
         → text.new.written.items ≡ blocks records
         → IsReady M.Device.contents M.Device.may_leave log records) }
 {
-    if let Ok(log) = open_anew(alloc, medium, &text.written) {
-        return Ok(log);
-    }
+    let fault = match open_anew(alloc, medium, &text.written) {
+        Ok(log) => return Ok(log),
+        Err(fault) => fault,
+    };
     if !turn(text, other) {
-        return Err(NotStored);
+        return Err(fault);
     }
     open_anew(alloc, medium, &text.written)
 }
@@ -34,19 +35,17 @@ fn open_anew<M: Medium>(
     alloc: Global,
     medium: &mut M,
     written: &[u8],
-) -> Result<RecordLog<M::Device>, NotStored>
+) -> Result<RecordLog<M::Device>, StoreFault>
     ensures { IfOk result (λ log. (records : List (List ℕ)) → written.now ≡ blocks records
         → IsReady M.Device.contents M.Device.may_leave log records) }
 {
-    let Ok(device) = medium.reopen() else {
-        return Err(NotStored);
-    };
-    let mut log = RecordLog::new(device);
+    let mut log = RecordLog::new(medium.reopen()?);
     match go_back(alloc, &mut log, written) {
         Ok(()) => Ok(log),
-        Err(error) => {
+        Err(fault) => {
+            let fault = medium.fault(&log.device).unwrap_or(fault);
             medium.hold(log.device);
-            Err(error)
+            Err(fault)
         }
     }
 }
@@ -57,19 +56,21 @@ fn go_back<D: Device>(
     alloc: Global,
     log: &mut RecordLog<D>,
     written: &[u8],
-) -> Result<(), NotStored>
+) -> Result<(), StoreFault>
     ensures { OnOk result ((records : List (List ℕ)) → written.now ≡ blocks records
         → IsReady D.contents D.may_leave log.new records) }
 {
-    let Ok(found) = log.open(alloc) else {
-        return Err(NotStored);
+    let found = match log.open(alloc) {
+        Ok(found) => found,
+        Err(OpenError::Damaged(_)) => return Err(StoreFault::Moved),
+        Err(OpenError::Memory | OpenError::Failed) => return Err(StoreFault::Unknown),
     };
     if !begins(&found, written) {
-        return Err(NotStored);
+        return Err(StoreFault::Moved);
     }
     match log.take_back(written.len()) {
         Ok(()) => Ok(()),
-        Err(_) => Err(NotStored),
+        Err(_) => Err(StoreFault::Unknown),
     }
 }
 

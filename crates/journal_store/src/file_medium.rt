@@ -3,8 +3,10 @@
 
 use crate::journal_store::JournalStore;
 use crate::medium::Medium;
-use record_log::{DeviceError, FileDevice, FileError, HeldFile, RecordLog, write_text_anew};
+use chronicle::StoreFault;
+use record_log::{FileDevice, FileError, HeldFile, RecordLog, write_text_anew};
 use std::fs::File;
+use std::io;
 use std::rt::Files;
 
 /// A file at a path.
@@ -41,11 +43,19 @@ impl<'a, R: Files<File = File> + AllocGlobal> FileMedium<'a, R> {
     }
 }
 
-/// What is told of an error of a file.
-fn device_error(error: FileError) -> DeviceError {
+/// What is told of an error of a file. The journal's own is in use by nobody else.
+fn fault_of_file(error: FileError) -> StoreFault {
     match error {
-        FileError::Memory => DeviceError::Memory,
-        FileError::Io(_) | FileError::InUse | FileError::NotAFile => DeviceError::Failed,
+        FileError::Memory => StoreFault::Unknown,
+        FileError::Io(error) => fault_of_system(error),
+        FileError::InUse | FileError::NotAFile => StoreFault::Moved,
+    }
+}
+
+fn fault_of_system(error: io::Error) -> StoreFault {
+    match error.raw_os_error() {
+        Some(number) => StoreFault::System(number.unsigned_abs()),
+        None => StoreFault::Unknown,
     }
 }
 
@@ -56,18 +66,26 @@ impl<'a, R: Files<File = File> + AllocGlobal> Medium for FileMedium<'a, R> {
 
     type Device = FileDevice;
 
+    fn fault(&self, device: &FileDevice) -> Option<StoreFault> {
+        device.error().map(fault_of_system)
+    }
+
+    fn is_in_place(&self, device: &FileDevice) -> bool {
+        device.is_at(self.rt, &self.path)
+    }
+
     fn hold(&mut self, device: FileDevice) {
         self.old = Some(device.into_held());
     }
 
-    fn reopen(&mut self) -> Result<FileDevice, DeviceError> {
+    fn reopen(&mut self) -> Result<FileDevice, StoreFault> {
         match self.open() {
             Ok(device) => {
                 self.old = None;
                 self.new = None;
                 Ok(device)
             }
-            Err(error) => Err(device_error(error)),
+            Err(error) => Err(fault_of_file(error)),
         }
     }
 
@@ -75,7 +93,7 @@ impl<'a, R: Files<File = File> + AllocGlobal> Medium for FileMedium<'a, R> {
         &mut self,
         old: RecordLog<FileDevice>,
         file: &[u8],
-    ) -> Result<RecordLog<FileDevice>, DeviceError>
+    ) -> Result<RecordLog<FileDevice>, StoreFault>
         requires whole { (records : List (List ℕ)) × (file.now ≡ blocks records ++ 0 ∷ []) }
         ensures ready { (records : List (List ℕ)) → file.now ≡ blocks records ++ 0 ∷ []
             → IfOk result (λ log. IsReadyFile log records) }
@@ -85,7 +103,7 @@ impl<'a, R: Files<File = File> + AllocGlobal> Medium for FileMedium<'a, R> {
             Err(failed) => {
                 self.old = Some(failed.old);
                 self.new = failed.new;
-                Err(device_error(failed.error))
+                Err(fault_of_file(failed.error))
             }
         }
     }

@@ -9,6 +9,7 @@ use crate::shortening::shortened;
 use crate::text::Text;
 use crate::told::{Step, Told};
 use crate::witness::Witness;
+use chronicle::StoreFault;
 use desk_core::{Entry, Keep, NotStored};
 use entry_record::Stored;
 use record_log::{RecordLog, blocks_of};
@@ -20,6 +21,9 @@ const LEAST: usize = 16 << 20;
 
 /// How many of the newest entries stay in a file that is written anew.
 const NEWEST: usize = 65_536;
+
+/// How long the block of a record is at most.
+const LONGEST: usize = 261;
 
 /// A journal in a file, as records of its entries behind a preface. It keeps the blocks that were acknowledged, and opens a file that
 /// failed anew before the next change, once a second at most. A file that has grown long is written anew, with short entries in place of
@@ -36,6 +40,8 @@ pub struct JournalStore<M: Medium, W: Witness> {
     log: Option<RecordLog<M::Device>>,
     is_open: bool,
     retry: Retry,
+    // Why the newest change that was not stored was not.
+    fault: StoreFault,
     told: Told,
 }
 
@@ -52,6 +58,7 @@ impl<M: Medium, W: Witness> Drop for JournalStore<M, W> {
             log: _,
             is_open: _,
             retry: _,
+            fault: _,
             told: _,
         } = self;
     }
@@ -78,9 +85,10 @@ impl<M: Medium, W: Witness> Model for JournalStore<M, W> {
 }
 
 impl<M: Medium, W: Witness> JournalStore<M, W> {
-    ghost use Rattle.std.specs.Prelude.{◌≡◌, ◌⊎◌, ◌<◌, ◌≤◌, ◌^◌, ◌∷◌, [], ℕ, true, List, All, length, IfOk, IfSome, IsSome, IsErrOf, OnOk, OnErr};
+    ghost use Rattle.std.specs.Prelude.{◌≡◌, ◌⊎◌, ◌<◌, ◌≤◌, ◌^◌, ◌∷◌, ◌++◌, [], ℕ, true, List, All, length, IfOk, IfSome, IsSome, IsErrOf, OnOk, OnErr};
     ghost use Rattle.record_log.specs.Log.{IsReady, texts};
-    ghost use Rattle.desk_core.specs.Left.{Holds};
+    ghost use Rattle.desk_core.specs.declared.entry.Entry.{Entry as JournalEntry};
+    ghost use Rattle.desk_core.specs.Left.{Holds, HasLeft, LeavesJournal};
     ghost use Rattle.journal_store.specs.Faithful.{HasLeftSince, LeavesOneOf};
     ghost use Rattle.journal_store.specs.Bound.{IsNextLimit};
     ghost use Rattle.journal_store.specs.Kept.{asked, begun_at, opened_at, settled};
@@ -138,6 +146,7 @@ impl<M: Medium, W: Witness> JournalStore<M, W> {
             log: Some(log),
             is_open: true,
             retry: Retry::new(),
+            fault: StoreFault::Unknown,
             told,
         };
         Ok((store, stored))
@@ -199,6 +208,16 @@ impl<M: Medium, W: Witness> JournalStore<M, W> {
         &self.text.written
     }
 
+    /// Whether a restart would find the file that has these records, where it may have to be written anew behind them.
+    fn may_take(&self, batch: &[Vec<u8>]) -> bool {
+        let more = batch.len().saturating_mul(LONGEST);
+        let Some(log) = &self.log else {
+            return true;
+        };
+        self.text.written.len().saturating_add(more) <= self.text.limit
+            || self.medium.is_in_place(&log.device)
+    }
+
     /// Whether the file is open, or may be opened anew at the time at which these entries are asked for.
     fn may_open(&mut self, entries: &[Entry]) -> bool
         ensures { self.new ≡ self.old }
@@ -215,7 +234,7 @@ impl<M: Medium, W: Witness> JournalStore<M, W> {
     }
 
     /// Opens the file anew, if it is not open. Nobody else has it meanwhile.
-    fn reopen(&mut self) -> Result<(), NotStored>
+    fn reopen(&mut self) -> Result<(), StoreFault>
         ensures open { OnOk result (self.new.is_open ≡ true) }
         ensures durable { OnOk result
             (self.new.kept.left.now ≡ self.new.kept.journal ∷ []) }
@@ -243,7 +262,7 @@ impl<M: Medium, W: Witness> JournalStore<M, W> {
     }
 
     /// Puts these records of entries into the file.
-    fn append(&mut self, entries: &[Entry], batch: &[Vec<u8>]) -> Result<(), NotStored>
+    fn append(&mut self, entries: &[Entry], batch: &[Vec<u8>]) -> Result<(), StoreFault>
         requires open { self.old.is_open ≡ true }
         requires some { 0 < length batch.now }
         requires short { All (λ bytes. length bytes.items < 256) batch.now }
@@ -257,23 +276,24 @@ impl<M: Medium, W: Witness> JournalStore<M, W> {
         ensures limit { (self.new.limit ≡ self.old.limit) × (self.new.least ≡ self.old.least) }
     {
         let Ok(text) = blocks_of(self.alloc, batch) else {
-            return Err(NotStored);
+            return Err(StoreFault::Unknown);
         };
         let before = self.text.written.len();
         let Ok(()) = self.text.written.extend_from_slice(&text[..text.len() - 1]) else {
-            return Err(NotStored);
+            return Err(StoreFault::Unknown);
         };
         let Some(mut log) = self.log.take() else {
             self.text.written.truncate(before);
-            return Err(NotStored);
+            return Err(StoreFault::Unknown);
         };
         self.told = self.told.and(&Step::Asked(entries));
         let stored = log.append(self.alloc, batch);
+        let fault = self.medium.fault(&log.device);
         self.log = Some(log);
         if stored.is_err() {
             self.is_open = false;
             self.text.written.truncate(before);
-            return Err(NotStored);
+            return Err(fault.unwrap_or(StoreFault::Unknown));
         }
         self.told = self.told.and(&Step::Settled(entries));
         Ok(())
@@ -317,6 +337,51 @@ impl<M: Medium, W: Witness> JournalStore<M, W> {
         self.log = Some(log);
         self.text = text;
     }
+
+    /// Puts these entries behind those of the file, and has them on the disk: all of them, or none.
+    fn keep(&mut self, entries: &[Entry]) -> Result<(), StoreFault>
+        ensures stored { (journal : List JournalEntry) → self.old.kept.journal ≡ journal
+            → OnOk result (self.new.kept.journal ≡ journal ++ entries.now) }
+        ensures durable { (journal : List JournalEntry) → self.old.kept.journal ≡ journal
+            → OnOk result (LeavesJournal self.new.kept.left (journal ++ entries.now)) }
+        ensures refused { (journal : List JournalEntry) → self.old.kept.journal ≡ journal
+            → OnErr result (self.new.kept.journal ≡ journal) }
+        ensures crash { (journal : List JournalEntry) → self.old.kept.journal ≡ journal
+            → HasLeft self.old.kept.left self.new.kept.left journal (journal ++ entries.now) }
+
+        // The device of a file that is open stays the same, unless the file is written anew, behind another preface.
+        ensures opened { self.old.is_open ≡ true → self.new.front ≡ self.old.front
+            → self.new.kept.opened ≡ self.old.kept.opened }
+
+        // However many entries there are, the blocks are as long as this at most.
+        ensures bounded { 0 < length entries.now
+            → OnOk result (length self.new.written ≤ self.new.limit) }
+        ensures limit { self.old.is_open ≡ true → OnOk result (IsNextLimit self.old.limit
+            self.old.least (length self.new.written) self.new.limit) }
+    {
+        if !self.may_open(entries) {
+            return Err(self.fault);
+        }
+        self.reopen()?;
+        if entries.is_empty() {
+            return Ok(());
+        }
+        let Ok(batch) = batch_of(
+            self.alloc,
+            &self.witness,
+            &self.text.preface,
+            &self.text.written,
+            entries,
+        ) else {
+            return Err(StoreFault::Unknown);
+        };
+        if !self.may_take(&batch) {
+            return Err(StoreFault::Moved);
+        }
+        self.append(entries, &batch)?;
+        self.write_anew_if_long();
+        Ok(())
+    }
 }
 
 impl<M: Medium, W: Witness> Keep for JournalStore<M, W> {
@@ -355,24 +420,16 @@ impl<M: Medium, W: Witness> Keep for JournalStore<M, W> {
         ensures limit { self.old.is_open ≡ true → OnOk result (IsNextLimit self.old.limit
             self.old.least (length self.new.written) self.new.limit) }
     {
-        if !self.may_open(entries) {
-            return Err(NotStored);
+        match self.keep(entries) {
+            Ok(()) => {
+                self.witness.stored();
+                Ok(())
+            }
+            Err(fault) => {
+                self.fault = fault;
+                self.witness.not_stored(fault);
+                Err(NotStored)
+            }
         }
-        self.reopen()?;
-        if entries.is_empty() {
-            return Ok(());
-        }
-        let Ok(batch) = batch_of(
-            self.alloc,
-            &self.witness,
-            &self.text.preface,
-            &self.text.written,
-            entries,
-        ) else {
-            return Err(NotStored);
-        };
-        self.append(entries, &batch)?;
-        self.write_anew_if_long();
-        Ok(())
     }
 }

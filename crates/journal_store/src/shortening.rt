@@ -12,7 +12,7 @@ use crate::reading::read_behind;
 use crate::records::batch_of;
 use crate::text::Renewed;
 use crate::witness::Witness;
-use chronicle::Who;
+use chronicle::{StoreFault, Who};
 use record_log::{blocks_of, read_entries};
 use std::alloc::Global;
 
@@ -105,4 +105,8 @@ impl Witness for NoOne {
     fn witness(&self, _seat: u16) -> (u64, Who) {
         (0, Who::Setup)
     }
+
+    fn stored(&self) {}
+
+    fn not_stored(&self, _fault: StoreFault) {}
 }

@@ -12,6 +12,8 @@ pub struct Counts {
     pub given_up: u64,
     /// Watches that were behind.
     pub behind: u64,
+    /// Watches that found no place.
+    pub refused: u64,
     /// Those that ended before all was sent for any other reason: the client broke off or went away, or an allocation failed.
     pub gone: u64,
 }

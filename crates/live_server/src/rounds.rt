@@ -151,6 +151,7 @@ impl<A: Accept<S>, S: Socket, M: Machine> EventLoop<A, S, M> {
             ended: table.ended(),
             given_up: counts.given_up,
             behind: counts.behind,
+            refused: counts.refused,
             gone: counts.gone,
         });
     }

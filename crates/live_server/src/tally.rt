@@ -10,6 +10,7 @@ pub struct Tally {
     ended: AtomicU64,
     given_up: AtomicU64,
     behind: AtomicU64,
+    refused: AtomicU64,
     gone: AtomicU64,
 }
 
@@ -26,6 +27,8 @@ pub struct Tallied {
     pub given_up: u64,
     /// Those of them whose Watch was behind.
     pub behind: u64,
+    /// Those of them whose Watch found no place.
+    pub refused: u64,
     /// Those of them that ended before all was sent for any other reason.
     pub gone: u64,
 }
@@ -38,6 +41,7 @@ impl Tally {
             ended: AtomicU64::new(0),
             given_up: AtomicU64::new(0),
             behind: AtomicU64::new(0),
+            refused: AtomicU64::new(0),
             gone: AtomicU64::new(0),
         }
     }
@@ -49,6 +53,7 @@ impl Tally {
             ended,
             given_up,
             behind,
+            refused,
             gone,
         } = tallied;
         self.connections.store(connections, Ordering::SeqCst);
@@ -56,6 +61,7 @@ impl Tally {
         self.ended.store(ended, Ordering::SeqCst);
         self.given_up.store(given_up, Ordering::SeqCst);
         self.behind.store(behind, Ordering::SeqCst);
+        self.refused.store(refused, Ordering::SeqCst);
         self.gone.store(gone, Ordering::SeqCst);
     }
 
@@ -67,6 +73,7 @@ impl Tally {
             ended: self.ended.load(Ordering::SeqCst),
             given_up: self.given_up.load(Ordering::SeqCst),
             behind: self.behind.load(Ordering::SeqCst),
+            refused: self.refused.load(Ordering::SeqCst),
             gone: self.gone.load(Ordering::SeqCst),
         }
     }

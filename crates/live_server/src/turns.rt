@@ -122,6 +122,7 @@ impl<S: Socket, M: Machine> Conversations<S, M> {
             counts: Counts {
                 given_up: 0,
                 behind: 0,
+                refused: 0,
                 gone: 0,
             },
             seen: 0,
@@ -190,6 +191,7 @@ impl<S: Socket, M: Machine> Conversations<S, M> {
             return Some(left);
         }
         // It was told its status, and ends for want of a place.
+        self.counts.refused = self.counts.refused.saturating_add(1);
         occasion.then = Turn::End;
         occasion.ready = None;
         let left = held.turn(key, self.alloc, handler, &mut *self.buffer, occasion)?;

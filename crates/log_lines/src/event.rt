@@ -2,10 +2,11 @@ ghost use Rattle.std.specs.Prelude.{◌≡◌};
 ghost use Rattle.log_lines.specs.Level.{level_of};
 
 use crate::limit::Limit;
-use crate::plain::{Plain, entries, fails, lines, services, word_of};
+use crate::plain::{entries, fails, lines, services, word_of};
 use crate::status::Status;
 use crate::who::Who;
 use log::Level;
+use safe_text::SafeText;
 use std::fmt;
 use std::net::SocketAddr;
 
@@ -44,6 +45,10 @@ pub enum Event<'a> {
     },
     /// A bound is reached, or nearly.
     Limited(Limit),
+    /// The journal takes no change, for this reason.
+    NotWritten(&'a str),
+    /// It takes changes again.
+    WrittenAgain,
     /// So many lines were not written, since others of their second were.
     LeftOut(u64),
     /// So many lines were not written, since those before them were not taken.
@@ -60,7 +65,7 @@ impl Event<'_> {
         ensures { result ≡ level_of self.now }
     {
         match self {
-            Event::Serving { .. } | Event::Ended(_) => Level::Info,
+            Event::Serving { .. } | Event::Ended(_) | Event::WrittenAgain => Level::Info,
             Event::Changed { new, .. } => new.level(),
             _ => Level::Warn,
         }
@@ -75,7 +80,7 @@ impl fmt::Display for Event<'_> {
                 services,
                 entries,
             } => write_serving(f, address, services, entries),
-            Event::Ended(why) => write!(f, "ended: {}", Plain(why)),
+            Event::Ended(why) => write!(f, "ended: {}", SafeText(why)),
             Event::Changed {
                 name,
                 old,
@@ -84,7 +89,7 @@ impl fmt::Display for Event<'_> {
                 who,
                 call,
             } => {
-                let (name, call) = (word_of(name), Plain(call));
+                let (name, call) = (word_of(name), SafeText(call));
                 write!(f, "{name}: {old} -> {new}, entry {place} ({who}: {call})")
             }
             Event::Expired {
@@ -94,9 +99,11 @@ impl fmt::Display for Event<'_> {
                 place,
             } => write_expired(f, name, seconds, fails, place),
             Event::Refused { who, reason } => {
-                write!(f, "a change of {who} was refused: {}", Plain(reason))
+                write!(f, "a change of {who} was refused: {}", SafeText(reason))
             }
             Event::Limited(limit) => write!(f, "{limit}"),
+            Event::NotWritten(why) => write!(f, "journal not written: {}", SafeText(why)),
+            Event::WrittenAgain => f.write_str("journal written again"),
             Event::LeftOut(count) => write!(f, "{} left out", lines(count)),
             Event::Dropped(count) => {
                 write!(

@@ -33,6 +33,7 @@
 
 mod allowance;
 mod event;
+mod journal_stream;
 mod laws;
 mod limit;
 mod line;
@@ -50,7 +51,7 @@ pub use crate::allowance::Allowance;
 pub use crate::event::Event;
 pub use crate::laws::at_most_so_many_and_each_counted;
 pub use crate::limit::Limit;
-pub use crate::line::Line;
+pub use crate::line::{JournalLine, Line};
 pub use crate::met::Met;
 pub use crate::minutely::Minutely;
 pub use crate::outlet::Outlet;

@@ -2,9 +2,11 @@
 
 ghost use Rattle.std.specs.Prelude.{◌≤◌, length};
 
+use crate::journal_stream::is_read_by_journal;
 use libc::net::{MSG_DONTWAIT, MSG_NOSIGNAL, POLLERR, POLLOUT};
 use libc::types::pollfd;
 use libc::{ENOTSOCK, SEEK_CUR};
+use std::rt::{Env, Files};
 
 /// The descriptor of standard error.
 const STANDARD_ERROR: i32 = 2;
@@ -18,6 +20,8 @@ pub struct Outlet {
     pub descriptor: i32,
     /// Whether other processes write by the same open file, so that it can't be told not to wait.
     pub is_shared: bool,
+    /// Whether the journal of systemd reads it, which takes the priority of a line from its front.
+    pub is_journal: bool,
 }
 
 impl Outlet {
@@ -27,7 +31,7 @@ impl Outlet {
     /// A pipe or a terminal is opened anew where the system allows that, so that a write to it never waits and nobody else's does
     /// either. Where it does not, as with sockets and with the terminals of other users, the open file stays shared; and so does one
     /// on a disk, since standard output may have the same, and each writes behind the other.
-    pub fn standard_error() -> Option<Outlet> {
+    pub fn standard_error<R: Env + Files>(rt: &R) -> Option<Outlet> {
         let shared = os::duplicate(STANDARD_ERROR);
         if shared < 0 {
             return None;
@@ -42,6 +46,7 @@ impl Outlet {
         Some(Outlet {
             descriptor: shared,
             is_shared: true,
+            is_journal: is_read_by_journal(rt),
         })
     }
 
@@ -52,6 +57,7 @@ impl Outlet {
         let Outlet {
             descriptor,
             is_shared,
+            is_journal: _,
         } = self;
         let written = if is_shared {
             write_if_room(descriptor, bytes)
@@ -89,6 +95,8 @@ fn opened_anew(path: &[u8]) -> Option<Outlet> {
     Some(Outlet {
         descriptor,
         is_shared: false,
+        // The journal's socket can't be opened anew.
+        is_journal: false,
     })
 }
 

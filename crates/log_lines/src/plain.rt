@@ -1,30 +1,9 @@
+use safe_text::SafeText;
 use std::fmt;
 
-/// A text that somebody else chose, on one line: a control character stands there by its number.
-#[derive(Clone, Copy)]
-pub(crate) struct Plain<'a>(pub(crate) &'a str);
-
-impl fmt::Display for Plain<'_> {
-    fn fmt<W: fmt::Write>(&self, f: &mut fmt::Formatter<W>) -> fmt::Result {
-        for c in self.0.chars() {
-            write_plain(f, c)?;
-        }
-        Ok(())
-    }
-}
-
-fn write_plain<W: fmt::Write>(f: &mut fmt::Formatter<W>, c: char) -> fmt::Result {
-    if c.is_control() {
-        let number = u32::from(c);
-        write!(f, "\\u{{{number:x}}}")
-    } else {
-        f.write_char(c)
-    }
-}
-
 /// The name of a service as lines have it: `-` stands for the whole server.
-pub(crate) fn word_of(name: &str) -> Plain<'_> {
-    Plain(if name.is_empty() { "-" } else { name })
+pub(crate) fn word_of(name: &str) -> SafeText<'_> {
+    SafeText(if name.is_empty() { "-" } else { name })
 }
 
 /// So many of something, as `1 line` or `2 lines`.

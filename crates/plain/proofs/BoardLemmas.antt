@@ -6,7 +6,7 @@ use Rattle.desk_core.specs.Board.{board_of, entries_in, status_in}
 use Rattle.desk_core.specs.Status.{status_at}
 use Rattle.desk_core.proofs.ReadingLemmas.{read_entries, read_on_board}
 use Rattle.plain.specs.declared.figures.Figures.{Figures}
-use Rattle.plain.specs.Metrics.{ended_metrics, family, history_metrics, label_text, level, metric_text, metrics_text, open_metrics, status_metrics, status_sample}
+use Rattle.plain.specs.Metrics.{family, figures_text, history_metrics, label_of, level, metric_text, metrics_text, status_metrics, status_sample}
 use Rattle.plain.specs.Services.{separator, service_text, services_text, status_word}
 use Rattle.json.specs.Print.{quoted}
 use Rattle.plain.specs.Slots.{texts_from}
@@ -35,7 +35,7 @@ pub samples_same : (seen : List Entry) (board : ℕ) (names : List (List ℕ)) �
 samples_same seen board names is few =
     texts_same (status_sample (status_in board)) (status_sample (status_at seen))
     (λ i name within. ap
-    (λ status. codes "healthd_service_status{service=\"" ++ label_text name ++ codes "\"} " ++ level status ++ codes "\n")
+    (λ status. codes "healthd_service_status{service=\"" ++ label_of name ++ codes "\"} " ++ level status ++ codes "\n")
     (read_on_board seen board i is within))
     0 names (omega (arith, few))
 
@@ -55,10 +55,9 @@ pub metrics_whole : (seen : List Entry) (board : ℕ) (names : List (List ℕ)) 
     → metrics_text (entries_in board) (status_in board) names figures ≡ metrics_text (length seen) (status_at seen) names figures
 metrics_whole seen board names figures is few =
     ap
-    (λ entries. status_metrics (status_in board) names ++ flat_map metric_text (history_metrics entries figures)
-    ++ flat_map metric_text (open_metrics figures) ++ flat_map metric_text (ended_metrics figures))
+    (λ entries. status_metrics (status_in board) names ++ flat_map metric_text (history_metrics entries figures) ++ figures_text names figures)
     (read_entries seen board is)
     ∙ ap
     (λ texts. family (codes "healthd_service_status") (codes "1 if the service is serving, 0 if not, -1 if unknown or absent.") (codes "gauge") ++ texts
-    ++ flat_map metric_text (history_metrics (length seen) figures) ++ flat_map metric_text (open_metrics figures) ++ flat_map metric_text (ended_metrics figures))
+    ++ flat_map metric_text (history_metrics (length seen) figures) ++ figures_text names figures)
     (samples_same seen board names is few)

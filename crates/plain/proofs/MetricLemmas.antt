@@ -16,6 +16,12 @@ pub metrics_more : (old whole new : List ℕ) (made metrics : List Metric) → n
 metrics_more old whole new made metrics written same so_far =
     written ∙ (ap (λ text. text ++ flat_map metric_text made) so_far ∙ ap (λ ms. whole ++ flat_map metric_text ms) same)
 
+-- the same of some metrics behind other parts
+pub samples_more : (old front before after : List ℕ) (made metrics : List Metric) → before ≡ old ++ front
+    → after ≡ before ++ flat_map metric_text made → made ≡ metrics → after ≡ old ++ (front ++ flat_map metric_text metrics)
+samples_more old front before after made metrics so_far written same =
+    part_more old front (flat_map metric_text metrics) before after so_far (written ∙ ap (λ ms. before ++ flat_map metric_text ms) same)
+
 -- a last part, which there may be no memory for
 pub part_last : (written : Result Unit AllocError) (old front part before after : List ℕ) → before ≡ old ++ front → after ≡ (if is_ok written then before ++ part else before)
     → OnOk written (after ≡ old ++ (front ++ part))

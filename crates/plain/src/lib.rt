@@ -12,7 +12,9 @@ mod services;
 mod status_text;
 mod target;
 mod verb;
+mod version;
 
 pub use answering::answer;
-pub use figures::Figures;
+pub use figures::{Figures, Refused};
 pub use inquiry::{Inquiry, inquiry_of};
+pub use version::VERSION;

@@ -1,15 +1,25 @@
 ghost use Rattle.std.specs.Prelude.{◌≡◌, ◌≤◌, ◌++◌, flat_map, length, map, IfOk, OnOk};
 ghost use Rattle.desk_core.specs.Board.{entries_in, status_in};
-ghost use Rattle.plain.specs.Metrics.{ended_metrics, escaped_byte, family, history_metrics, label_text, level, metric_of, metric_text, metrics_text, open_metrics, status_metrics, status_sample};
+ghost use Rattle.plain.specs.Metrics.{build_text, ended_metrics, escaped_byte, expected_metrics, figures_text, history_metrics, label_of, label_text, level, metric_of, metric_text, metrics_text, number_sample, open_metrics, refused_metrics, reported_metrics, server_metrics, status_metrics, status_sample, writable};
 ghost use Rattle.plain.specs.Slots.{texts_from};
 
-use crate::figures::Figures;
+use crate::figures::{Figures, Refused};
+use crate::version::VERSION;
 use desk_core::{Catalogue, Slot, board_entries, board_status};
 use health_wire::Serving;
 use std::alloc::{AllocError, Global};
 
 const STATUS_FAMILY: &[u8] =
     b"# HELP healthd_service_status 1 if the service is serving, 0 if not, -1 if unknown or absent.\n# TYPE healthd_service_status gauge\n";
+
+const REPORTED_FAMILY: &[u8] =
+    b"# HELP healthd_last_report_timestamp_seconds When the service was reported last, 0 if not since the start.\n# TYPE healthd_last_report_timestamp_seconds gauge\n";
+
+const EXPECTED_FAMILY: &[u8] =
+    b"# HELP healthd_expected_seconds Every how many seconds a report is expected, 0 if none is.\n# TYPE healthd_expected_seconds gauge\n";
+
+const BUILD: &[u8] =
+    b"# HELP healthd_build_info The version of the program.\n# TYPE healthd_build_info gauge\nhealthd_build_info{version=\"";
 
 /// A metric of one sample: all of its text before the value, and the value.
 #[derive(Clone, Copy)]
@@ -35,8 +45,7 @@ pub(crate) fn metrics_text(
         &mut text,
         &history_samples(board_entries(board), figures),
     )?;
-    push_samples(alloc, &mut text, &open_samples(figures))?;
-    push_samples(alloc, &mut text, &ended_samples(figures))?;
+    push_figures(alloc, &mut text, catalogue, figures)?;
     Ok(text)
 }
 
@@ -75,7 +84,18 @@ fn push_status(text: &mut Vec<u8>, board: u64, slot: Slot, name: &str) -> Result
     Ok(())
 }
 
+/// A name; that of the whole server is empty, and a hyphen stands for it.
 fn push_label(text: &mut Vec<u8>, name: &[u8]) -> Result<(), AllocError>
+    ensures { OnOk result (text.new.items ≡ text.old.items ++ label_of name.now) }
+{
+    if name.is_empty() {
+        text.extend_from_slice(b"-")
+    } else {
+        push_text(text, name)
+    }
+}
+
+fn push_text(text: &mut Vec<u8>, name: &[u8]) -> Result<(), AllocError>
     ensures { OnOk result (text.new.items ≡ text.old.items ++ label_text name.now) }
 {
     for c in name {
@@ -107,6 +127,104 @@ fn level(status: Option<Serving>) -> &'static [u8]
         Some(Serving::NotServing) => b"0",
         Some(Serving::Unknown | Serving::ServiceUnknown) | None => b"-1",
     }
+}
+
+/// What does not depend on the history.
+fn push_figures(
+    alloc: Global,
+    text: &mut Vec<u8>,
+    catalogue: &Catalogue,
+    figures: &Figures,
+) -> Result<(), AllocError>
+    ensures { OnOk result (text.new.items
+        ≡ text.old.items ++ figures_text catalogue.now figures.now) }
+{
+    push_reported(alloc, text, catalogue, figures)?;
+    push_expected(alloc, text, catalogue, figures)?;
+    push_build(text)?;
+    push_samples(alloc, text, &server_samples(figures))?;
+    push_samples(alloc, text, &open_samples(figures))?;
+    push_samples(alloc, text, &ended_samples(figures))?;
+    push_samples(alloc, text, &refused_samples(&figures.refused))?;
+    Ok(())
+}
+
+fn push_reported(
+    alloc: Global,
+    text: &mut Vec<u8>,
+    catalogue: &Catalogue,
+    figures: &Figures,
+) -> Result<(), AllocError>
+    ensures { OnOk result (text.new.items
+        ≡ text.old.items ++ reported_metrics figures.now catalogue.now) }
+{
+    text.extend_from_slice(REPORTED_FAMILY)?;
+    let before = b"healthd_last_report_timestamp_seconds{service=\"";
+    push_numbers(alloc, text, catalogue, before, &figures.reported)?;
+    Ok(())
+}
+
+fn push_expected(
+    alloc: Global,
+    text: &mut Vec<u8>,
+    catalogue: &Catalogue,
+    figures: &Figures,
+) -> Result<(), AllocError>
+    ensures { OnOk result (text.new.items
+        ≡ text.old.items ++ expected_metrics figures.now catalogue.now) }
+{
+    text.extend_from_slice(EXPECTED_FAMILY)?;
+    let before = b"healthd_expected_seconds{service=\"";
+    push_numbers(alloc, text, catalogue, before, &figures.expected)?;
+    Ok(())
+}
+
+/// The number of each service, by its slot.
+fn push_numbers(
+    alloc: Global,
+    text: &mut Vec<u8>,
+    catalogue: &Catalogue,
+    before: &[u8],
+    numbers: &[u64; 16],
+) -> Result<(), AllocError>
+    ensures { OnOk result (text.new.items
+        ≡ text.old.items ++ texts_from (number_sample before.now numbers.now) 0 catalogue.now) }
+{
+    for number in 0..catalogue.len() as u8 {
+        let slot = Slot::new(number).unwrap();
+        let name = catalogue.name(slot).unwrap();
+        push_number(alloc, text, before, numbers, slot, name)?;
+    }
+    Ok(())
+}
+
+fn push_number(
+    alloc: Global,
+    text: &mut Vec<u8>,
+    before: &[u8],
+    numbers: &[u64; 16],
+    slot: Slot,
+    name: &str,
+) -> Result<(), AllocError>
+    ensures { OnOk result (text.new.items
+        ≡ text.old.items ++ number_sample before.now numbers.now slot name.now) }
+{
+    let number = numbers[usize::from(slot.number())];
+    text.extend_from_slice(before)?;
+    push_label(text, name.as_bytes())?;
+    text.extend_from_slice(b"\"} ")?;
+    text.extend_from_slice(number.to_string(alloc)?.as_bytes())?;
+    text.extend_from_slice(b"\n")?;
+    Ok(())
+}
+
+fn push_build(text: &mut Vec<u8>) -> Result<(), AllocError>
+    ensures { OnOk result (text.new.items ≡ text.old.items ++ build_text) }
+{
+    text.extend_from_slice(BUILD)?;
+    text.extend_from_slice(VERSION.as_bytes())?;
+    text.extend_from_slice(b"\"} 1\n")?;
+    Ok(())
 }
 
 fn push_samples(alloc: Global, text: &mut Vec<u8>, samples: &[Sample]) -> Result<(), AllocError>
@@ -143,6 +261,27 @@ fn history_samples(entries: u32, figures: &Figures) -> [Sample; 2]
     ]
 }
 
+fn server_samples(figures: &Figures) -> [Sample; 2]
+    ensures { map metric_of result ≡ server_metrics figures.now }
+{
+    [
+        Sample {
+            before: b"# HELP healthd_start_time_seconds When the server was started.\n# TYPE healthd_start_time_seconds gauge\nhealthd_start_time_seconds ",
+            value: figures.started,
+        },
+        Sample {
+            before: b"# HELP healthd_journal_writable 1 if the newest change could be stored, 0 if not.\n# TYPE healthd_journal_writable gauge\nhealthd_journal_writable ",
+            value: writable(figures.is_writable),
+        },
+    ]
+}
+
+fn writable(is_writable: bool) -> u64
+    ensures { result ≡ writable is_writable }
+{
+    if is_writable { 1 } else { 0 }
+}
+
 fn open_samples(figures: &Figures) -> [Sample; 3]
     ensures { map metric_of result ≡ open_metrics figures.now }
 {
@@ -162,7 +301,7 @@ fn open_samples(figures: &Figures) -> [Sample; 3]
     ]
 }
 
-fn ended_samples(figures: &Figures) -> [Sample; 5]
+fn ended_samples(figures: &Figures) -> [Sample; 6]
     ensures { map metric_of result ≡ ended_metrics figures.now }
 {
     [
@@ -183,8 +322,39 @@ fn ended_samples(figures: &Figures) -> [Sample; 5]
             value: figures.behind,
         },
         Sample {
+            before: b"# HELP healthd_watches_refused_total Watches that ended because no place was free.\n# TYPE healthd_watches_refused_total counter\nhealthd_watches_refused_total ",
+            value: figures.refused_watches,
+        },
+        Sample {
             before: b"# HELP healthd_expired_total Times that a service was not heard from in time.\n# TYPE healthd_expired_total counter\nhealthd_expired_total ",
             value: figures.expired,
+        },
+    ]
+}
+
+fn refused_samples(refused: &Refused) -> [Sample; 5]
+    ensures { map metric_of result ≡ refused_metrics refused.now }
+{
+    [
+        Sample {
+            before: b"# HELP healthd_refused_total Changes that were refused, by cause.\n# TYPE healthd_refused_total counter\nhealthd_refused_total{cause=\"bad rule\"} ",
+            value: refused.bad_rule,
+        },
+        Sample {
+            before: b"healthd_refused_total{cause=\"full\"} ",
+            value: refused.full,
+        },
+        Sample {
+            before: b"healthd_refused_total{cause=\"no memory\"} ",
+            value: refused.no_memory,
+        },
+        Sample {
+            before: b"healthd_refused_total{cause=\"not listed\"} ",
+            value: refused.not_listed,
+        },
+        Sample {
+            before: b"healthd_refused_total{cause=\"not stored\"} ",
+            value: refused.not_stored,
         },
     ]
 }

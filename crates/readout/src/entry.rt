@@ -1,4 +1,5 @@
 use crate::words::{first_word, known, read_number};
+use safe_text::SafeJson;
 use serde::Serialize;
 use std::alloc::{AllocError, Global};
 
@@ -20,7 +21,7 @@ pub fn entry_json(alloc: Global, answer: &str) -> Result<Option<String>, AllocEr
     };
     // Writing fails only without memory, since an entry does not nest deep.
     let text = serde_json::to_string(alloc, &entry).map_err(|_| AllocError)?;
-    Ok(Some(text))
+    Ok(Some(SafeJson(&text).to_string(alloc)?))
 }
 
 fn read_entry(answer: &str) -> Option<Entry<'_>> {

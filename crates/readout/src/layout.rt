@@ -1,6 +1,7 @@
 use crate::moment::{Moment, shown};
 use crate::row::Row;
 use crate::status::Status;
+use safe_text::SafeText;
 use std::alloc::{AllocError, Global};
 
 /// How many columns there are.
@@ -109,10 +110,10 @@ fn push_cells(
     push_moment(alloc, line, &row.reported)
 }
 
-/// Adds a text that can be seen, where it is empty too.
+/// Adds a text that can be printed, and seen where it is empty too.
 fn push_text(alloc: Global, line: &mut Vec<Cell>, text: &str) -> Result<(), AllocError> {
     let shown = if text.is_empty() { "-" } else { text };
-    line.push(Cell::plain(String::from_str(alloc, shown)?))?;
+    line.push(Cell::plain(SafeText(shown).to_string(alloc)?))?;
     Ok(())
 }
 
@@ -121,8 +122,7 @@ fn push_moment(
     line: &mut Vec<Cell>,
     moment: &Option<Moment>,
 ) -> Result<(), AllocError> {
-    line.push(Cell::plain(shown(alloc, moment)?))?;
-    Ok(())
+    push_text(alloc, line, &shown(alloc, moment)?)
 }
 
 fn status_cell(alloc: Global, status: Status, is_coloured: bool) -> Result<Cell, AllocError> {

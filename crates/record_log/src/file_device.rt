@@ -95,6 +95,11 @@ impl FileDevice {
         self.error
     }
 
+    /// Whether its file is the one that stands at this path.
+    pub fn is_at<R: Files<File = File>>(&self, rt: &R, path: &str) -> bool {
+        is_named(rt, &self.file, path).unwrap_or(false)
+    }
+
     /// The file alone, which stays locked.
     pub fn into_held(self) -> HeldFile {
         HeldFile { file: self.file }

@@ -5,7 +5,7 @@ use std::{fmt, io};
 pub enum FileError {
     Memory,
     Io(io::Error),
-    /// Another process or handle holds the lock.
+    /// Another process or handle holds the lock, or has put another file in its place.
     InUse,
     NotAFile,
 }

@@ -12,7 +12,8 @@ use std::rt::Files;
 use std::{fs, io};
 
 /// Puts a file of this text, which is some entries' blocks and a closed gate, in the place of a log's. A crash leaves the one or the
-/// other, and no moment leaves the path without a lock. After an `Err`, open the path anew by the files that are held.
+/// other, and no moment leaves the path without a lock. Where another file is at the path by then, or none, it is left alone. After an
+/// `Err`, open the path anew by the files that are held.
 pub fn write_text_anew<R: Files<File = File> + AllocGlobal>(
     rt: &R,
     path: &str,
@@ -35,7 +36,7 @@ pub fn write_text_anew<R: Files<File = File> + AllocGlobal>(
             });
         }
     };
-    match put_in_place(rt, path) {
+    match put_in_place(rt, path, &old) {
         Ok(()) => Ok(RecordLog {
             device: FileDevice::written(file, text),
             end: text.len() - 1,
@@ -79,8 +80,16 @@ fn discard<R: Files<File = File> + AllocGlobal>(rt: &R, path: &str) {
     }
 }
 
-/// Puts the file beside the one at a path in its place.
-fn put_in_place<R: Files<File = File> + AllocGlobal>(rt: &R, path: &str) -> Result<(), FileError> {
+/// Puts the file beside the one at a path in its place, if that is still this one.
+fn put_in_place<R: Files<File = File> + AllocGlobal>(
+    rt: &R,
+    path: &str,
+    old: &HeldFile,
+) -> Result<(), FileError> {
+    if !old.is_at(rt, path) {
+        discard(rt, path);
+        return Err(FileError::InUse);
+    }
     let beside = beside(rt, path)?;
     fs::rename(rt, beside.as_str(), path)?;
     Ok(sync_folder(rt, path)?)

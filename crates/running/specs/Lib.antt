@@ -1,4 +1,5 @@
 pub mod Bounds
+pub mod ByteOrderMark
 pub mod Expected
 pub mod Journaled
 pub mod Run

@@ -16,6 +16,7 @@ use crate::run_failure::RunFailure;
 use crate::run_options::RunOptions;
 use crate::supervisor::Supervisor;
 use crate::tallies::{counters_of, gauges_of};
+use chronicle::wall_micros;
 use control::Rights;
 use control_server::MAX_SESSIONS;
 use desk_core::Keep;
@@ -33,6 +34,8 @@ use std::rt::Files;
 use std::sync::Arc;
 use std::time::Clock;
 use watchdog::Expectations;
+
+const MICROS_A_SECOND: u64 = 1_000_000;
 
 /// What a server is told that runs over a hall that is set up.
 #[derive(Clone, Copy)]
@@ -199,7 +202,8 @@ where
         report,
     } = loops;
     let gauges = gauges_of(alloc, &servers, &control, &report)?;
-    let counters = counters_of(alloc, made.most(), &gauges, setting.expectations)?;
+    let started = wall_micros(rt) / MICROS_A_SECOND;
+    let counters = counters_of(alloc, started, made.most(), &gauges, setting.expectations)?;
     let setup = setup_of(made, address, setting.options.bounds);
     let (watchdog, news) = watchdog_of(rt, alloc, made, setting, news, outlet, setup, gauges)?;
     Ok(Begun {

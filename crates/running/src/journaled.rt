@@ -4,6 +4,7 @@ ghost use Rattle.std.specs.Prelude.{◌≡◌, ◌≤◌, IfOk, IfErr};
 ghost use Rattle.running.specs.Journaled.{IsCatalogueOf, IsJournaled, IsSetupOf};
 ghost use Rattle.running.specs.Run.{EndsSetUp};
 
+use crate::registered::warn_of_entries;
 use crate::run::set_up;
 use crate::run_failure::{RunFailure, journal_failure, script_failure};
 use chronicle::wall_micros;
@@ -32,7 +33,7 @@ pub fn set_up_over<'r, 'a, R, P: Probe, M: Maker<P>>(
     expectations: &Arc<Expectations>,
 ) -> Result<SetUpHall<P, FileStore<'r, R, Attendance>>, RunFailure<'a>>
 where
-    R: Files<File = File> + AllocGlobal + Clock + Wait,
+    R: Files<File = File> + AllocGlobal + Clock + Wait + Eprint,
     requires some { 1 ≤ seats }
     requires not_too_many { seats ≤ 1024 }
     ensures ok { IfOk result (IsJournaled bytes.now seats) }
@@ -42,6 +43,7 @@ where
     let attendance = Attendance::new(micros, expectations.clone()?);
     let journal = journal_at(rt, alloc, maker, bytes, path, attendance, catalogue)?;
     journal.tell(expectations.chronicle(), micros);
+    warn_of_entries(rt, alloc, bytes, journal.entries())?;
     match journal.into_hall(rt, alloc, max, maker, seats) {
         Ok(made) => Ok(made),
         Err(fault) => Err(journal_failure(path, fault)),

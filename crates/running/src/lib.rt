@@ -33,6 +33,8 @@
 
 pub mod begun;
 pub mod bounds;
+pub mod byte_order_mark;
+pub mod check;
 pub mod expected;
 pub mod files;
 pub mod journal_cause;
@@ -40,9 +42,11 @@ pub mod journaled;
 pub mod listening;
 pub mod listening_lines;
 pub mod loops;
+pub mod registered;
 pub mod run;
 pub mod run_failure;
 pub mod run_options;
+pub mod signalled;
 pub mod supervisor;
 pub mod tallies;
 pub mod terminal;

@@ -12,16 +12,20 @@ ghost use Rattle.running.specs.Run.{AreMadeAlone, EndsSetUp, IsSetUpBy, IsWholly
 
 use crate::begun::{Begun, Setting, begin};
 use crate::bounds::{Bounds, MAX_LOOPS};
+use crate::byte_order_mark::without_mark;
 use crate::expected::{entries_of, expected_in, first_failure};
 use crate::files::{bounds_within, reserved};
 use crate::journaled::set_up_over;
 use crate::listening_lines::print_line;
+use crate::registered::warn_of_script;
 use crate::run_failure::{RunFailure, failure_by, script_failure};
 use crate::run_options::{RunOptions, Source};
+use crate::signalled::serve_signalled;
 use crate::supervisor::Supervisor;
 use chronicle::{Who, wall_micros};
 use control_server::SESSION_SEATS;
 use desk_core::{Keep, KeepAll, KeepMany};
+use handover::StopSignals;
 use live_run::{Counters, LoopsFault, Ran, RefusedLine, SessionPlaces, first_refused, run_live};
 use live_server::{EventServer, News};
 use open_files::open_files;
@@ -90,13 +94,15 @@ fn run_from_script<'a, R, P: Probe + Send, M: Maker<P> + Sync>(
 ) -> Result<(), RunFailure<'a>>
 where
     R: Print
+        + Eprint
         + AllocGlobal
-        + Files
+        + Files<File = File>
         + Clock
         + Wait
         + Threads
         + Sync
         + Net<Listener = TcpListener, Stream = TcpStream>,
+    R::Dir: Send + Sync,
     requires some { 1 ≤ loops }
     requires few { loops ≤ 64 }
     requires served { loops ≤ options.bounds.connections }
@@ -104,6 +110,7 @@ where
     let alloc = rt.alloc();
     let (made, expected) = set_up_expecting(rt, alloc, maker, bytes, seats_for(loops))?;
     let expectations = new_expectations(alloc)?;
+    warn_of_script(rt, alloc, bytes)?;
     let chronicle = expectations.chronicle();
     chronicle.note_all(entries_of(&made), wall_micros(rt), Who::Setup);
     let setting = Setting {
@@ -128,6 +135,7 @@ fn run_from_journal<'a, R, P: Probe + Send, M: Maker<P> + Sync>(
 ) -> Result<(), RunFailure<'a>>
 where
     R: Print
+        + Eprint
         + AllocGlobal
         + Files<File = File>
         + Clock
@@ -155,7 +163,7 @@ where
 }
 
 /// A hall that the script has set up, with so many seats, and what it expects. What was refused first is the failure.
-fn set_up_expecting<'a, R: Wait, P: Probe, M: Maker<P>>(
+pub(crate) fn set_up_expecting<'a, R: Wait, P: Probe, M: Maker<P>>(
     rt: &R,
     alloc: Global,
     maker: &M,
@@ -208,12 +216,13 @@ fn run_set_up<'a, R, P: Probe + Send, K: Keep + Send, M: Maker<P> + Sync>(
 ) -> Result<(), RunFailure<'a>>
 where
     R: Print
-        + Files
+        + Files<File = File>
         + Clock
         + Wait
         + Threads
         + Sync
         + Net<Listener = TcpListener, Stream = TcpStream>,
+    R::Dir: Send + Sync,
     requires set_up { (calls : List (Option Call)) × IsWhollySetUp calls made }
     requires some { 1 ≤ setting.loops }
     requires enough { setting.loops < made.hall.seats }
@@ -232,7 +241,8 @@ fn serve_begun<'a, R, P: Probe + Send, K: Keep + Send, M: Maker<P> + Sync>(
     begun: Begun,
 ) -> Result<(), RunFailure<'a>>
 where
-    R: Print + Files + Clock + Wait + Threads + Sync,
+    R: Print + Files<File = File> + Clock + Wait + Threads + Sync,
+    R::Dir: Send + Sync,
     requires set_up { (calls : List (Option Call)) × IsWhollySetUp calls made }
     requires some { 1 ≤ vec_len begun.servers }
     requires enough { vec_len begun.servers < made.hall.seats }
@@ -244,7 +254,10 @@ where
         places,
         counters,
     } = begun;
-    let ran = serve_to_end(rt, alloc, made, servers, places, maker, &counters, &news)?;
+    let signals = StopSignals::of_process(rt, alloc)?;
+    let ran = serve_signalled(
+        rt, alloc, made, servers, places, maker, &counters, &news, &signals,
+    )?;
     tell_end(rt, alloc, ran, &news)
 }
 
@@ -331,6 +344,7 @@ fn processors<R: Threads>(rt: &R) -> u16
     }
 }
 
+/// The bytes of a script, without a byte order mark.
 pub fn script_bytes<'a, R: Input + Files>(
     rt: &R,
     alloc: Global,
@@ -344,7 +358,7 @@ pub fn script_bytes<'a, R: Input + Files>(
         },
     };
     match read {
-        Ok(bytes) => Ok(bytes),
+        Ok(bytes) => Ok(without_mark(bytes)),
         Err(error) => Err(failure_by(error, |cause| RunFailure::Read(source, cause))),
     }
 }

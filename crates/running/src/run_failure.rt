@@ -7,6 +7,7 @@ ghost use Rattle.running.specs.RunFailure.{IsScriptFailure};
 use crate::journal_cause::JournalCause;
 use crate::run_options::Source;
 use control::{Cause, Place};
+use desk_core::{Refusal, Reply};
 use durable::OpeningFault;
 use live_run::RefusedLine;
 use script::{ScriptFault, changed_text, explain};
@@ -23,7 +24,7 @@ pub enum RunFailure<'a> {
     /// The fault of the script, and what is told of it.
     #[error("{1}")]
     Script(ScriptFault, String),
-    #[error("script line {}: {}", .0.number, changed_text(.0.answer))]
+    #[error("script line {}: {}{}", .0.number, changed_text(.0.answer), advice_on(.0.answer))]
     Refused(RefusedLine),
     #[error("bind {0}: {1}")]
     Bind(Place<'a>, Cause),
@@ -67,6 +68,17 @@ impl<T: Drop> From<AllocFailed<T>> for RunFailure<'_> {
 
     fn from(_error: AllocFailed<T>) -> Self {
         RunFailure::OutOfMemory
+    }
+}
+
+/// What is said of a change beside its answer: which rules there are, where its own is none.
+fn advice_on(answer: Result<Reply, Refusal>) -> &'static str {
+    match answer {
+        Err(Refusal::BadRule) => {
+            ": a threshold has counts from 1 to 1000, and a service depends on services that stand \
+                further left in the catalogue"
+        }
+        _ => "",
     }
 }
 

@@ -9,6 +9,9 @@ use std::fmt;
 use std::net::SocketAddr;
 use std::str::FromStr;
 
+/// The longest path of a socket, in bytes.
+const MAX_PATH_LEN: usize = 107;
+
 /// Where the script of a run is read from.
 #[derive(Clone, Copy, Debug, PartialEq, Eq)]
 pub enum Source<'a> {
@@ -71,14 +74,14 @@ impl fmt::Display for BadOption<'_> {
                 f,
                 "invalid value '{text}' for '--plain <ADDR>': not an address and a port"
             ),
-            BadOption::Control(text) => write!(
-                f,
-                "invalid value '{text}' for '--control <PLACE>': not a loopback address and a port, and no path of a socket that begins with '/'"
-            ),
-            BadOption::Report(text) => write!(
-                f,
-                "invalid value '{text}' for '--report <PLACE>': not a loopback address and a port, and no path of a socket that begins with '/'"
-            ),
+            BadOption::Control(text) => {
+                let why = why_no_place(text);
+                write!(f, "invalid value '{text}' for '--control <PLACE>': {why}")
+            }
+            BadOption::Report(text) => {
+                let why = why_no_place(text);
+                write!(f, "invalid value '{text}' for '--report <PLACE>': {why}")
+            }
             BadOption::Watches {
                 watches,
                 connections,
@@ -202,5 +205,14 @@ fn bounds_in<'a>(matches: &ArgMatches<'_>) -> Result<Bounds, BadOption<'a>>
             watches: watches.unwrap_or(0),
             connections,
         }),
+    }
+}
+
+/// Why a text is no place for sessions.
+fn why_no_place(text: &str) -> &'static str {
+    if text.starts_with('/') && text.len() > MAX_PATH_LEN {
+        "longer than 107 bytes, the most that the path of a socket may have"
+    } else {
+        "not a loopback address and a port, and no path of a socket that begins with '/'"
     }
 }

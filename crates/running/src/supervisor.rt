@@ -1,6 +1,6 @@
 use handover::{HandedOver, Notifier};
 use log_lines::Outlet;
-use std::rt::Env;
+use std::rt::{Env, Files};
 
 /// What a supervisor such as systemd, or a shell, hands a run, and is told by it.
 #[derive(Drop)]
@@ -15,13 +15,13 @@ pub struct Supervisor {
 impl Supervisor {
     /// What the environment says to the process of this id, which has opened nothing yet. Where it names no socket to be told, nobody
     /// is told.
-    pub fn from_env<R: Env>(rt: &R, process_id: u32) -> Supervisor {
+    pub fn from_env<R: Env + Files>(rt: &R, process_id: u32) -> Supervisor {
         // The sockets are looked for before anything else is opened, which would have the number of one.
         let sockets = HandedOver::from_env(rt, process_id);
         Supervisor {
             sockets,
             notifier: Notifier::from_env(rt).unwrap_or_else(|_| Notifier::nobody()),
-            outlet: Outlet::standard_error(),
+            outlet: Outlet::standard_error(rt),
         }
     }
 

@@ -25,18 +25,21 @@ pub fn gauges_of(
     })
 }
 
-/// What tells plain requests of a server: of a history of at most so many entries, what these gauges are of, and what is expected.
+/// What tells plain requests of a server: when it was started, in seconds since 1970, of a history of at most so many entries, what these
+/// gauges are of, and what is expected.
 pub fn counters_of(
     alloc: Global,
+    started: u64,
     most: u32,
     gauges: &Gauges,
     expectations: &Arc<Expectations>,
 ) -> Result<Arc<Counters>, AllocError> {
     let counters = Counters {
+        started,
         most,
         calls: same_tallies(alloc, &gauges.calls)?,
         sessions: same_tallies(alloc, &gauges.sessions)?,
-        expectations: Some(expectations.clone()?),
+        expectations: expectations.clone()?,
     };
     Ok(Arc::new(alloc, counters)?)
 }

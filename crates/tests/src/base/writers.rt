@@ -5,6 +5,7 @@ use log_lines::{Outlet, Writer};
 const CLOSED: Outlet = Outlet {
     descriptor: 1_000_000,
     is_shared: true,
+    is_journal: false,
 };
 
 #[test]

@@ -4,7 +4,7 @@ ghost use Rattle.std.specs.Prelude.{◌≤◌, length};
 
 use crate::names::catalogue;
 use crate::same::holds;
-use chronicle::Who;
+use chronicle::{StoreFault, Who};
 use desk_core::{Call, Desk, Entry};
 use entry_record::Stored;
 use journal_store::{Preface, Witness};
@@ -112,6 +112,10 @@ impl Witness for Sessions {
     fn witness(&self, seat: u16) -> (u64, Who) {
         (u64::from(seat) * 100_000, Who::Session(u32::from(seat)))
     }
+
+    fn stored(&self) {}
+
+    fn not_stored(&self, _fault: StoreFault) {}
 }
 
 /// These entries as a file has them.

@@ -4,9 +4,10 @@ ghost use Rattle.std.specs.Prelude.{◌≡◌, ◌++◌, ◌∷◌, [], ℕ, Lis
 ghost use Rattle.record_log.specs.Log.{IsReady, blocks};
 ghost use Rattle.record_log.specs.MemoryView.{memory_bytes, memory_may_leave};
 
+use chronicle::StoreFault;
 use journal_store::Medium;
 use record_log::{DeviceError, Memory, RecordLog};
-use std::alloc::Global;
+use std::alloc::{AllocError, Global};
 use std::process::Abort;
 
 /// Whether a file is put in the place of another, or that fails, with the old file there or the new one.
@@ -29,13 +30,32 @@ pub(crate) struct Spare {
 pub(crate) const OPENING: usize = 3;
 
 impl Spare {
-    ghost use Rattle.std.specs.Prelude.{IsErr};
+    ghost use Rattle.std.specs.Prelude.{◌≡◌, ◌++◌, ◌∷◌, [], ℕ, List, IfOk, IsErr};
+    ghost use Rattle.record_log.specs.Log.{IsReady, blocks};
+    ghost use Rattle.record_log.specs.MemoryView.{memory_bytes, memory_may_leave};
 
     pub(crate) fn of(rt: &impl Abort, alloc: Global, file: &[u8]) -> Spare {
         Spare {
             alloc,
             file: file.to_vec(alloc).expect(rt, "memory"),
             replacing: Replacing::Works,
+        }
+    }
+
+    /// A log of the file that is put in the place of the other, where that works.
+    fn replaced(
+        &mut self,
+        old: RecordLog<Memory>,
+        file: &[u8],
+    ) -> Result<RecordLog<Memory>, DeviceError>
+        requires whole { (records : List (List ℕ)) × (file.now ≡ blocks records ++ 0 ∷ []) }
+        ensures ready { (records : List (List ℕ)) → file.now ≡ blocks records ++ 0 ∷ []
+            → IfOk result (λ log. IsReady memory_bytes memory_may_leave log records) }
+    {
+        match self.replacing {
+            Replacing::Works => log_over(self.alloc, file),
+            Replacing::LeavesOld => self.failed(old.device.bytes()),
+            Replacing::LeavesNew => self.failed(file),
         }
     }
 
@@ -55,28 +75,43 @@ impl Medium for Spare {
 
     type Device = Memory;
 
+    fn fault(&self, _device: &Memory) -> Option<StoreFault> {
+        None
+    }
+
+    fn is_in_place(&self, _device: &Memory) -> bool {
+        true
+    }
+
     fn hold(&mut self, _device: Memory) {}
 
-    fn reopen(&mut self) -> Result<Memory, DeviceError> {
+    fn reopen(&mut self) -> Result<Memory, StoreFault> {
         self.replacing = Replacing::Works;
-        Ok(Memory::new(self.alloc, self.file.as_slice().to_vec(self.alloc)?)?)
+        match device_of(self.alloc, &self.file) {
+            Ok(device) => Ok(device),
+            Err(_) => Err(StoreFault::Unknown),
+        }
     }
 
     fn replace(
         &mut self,
         old: RecordLog<Memory>,
         file: &[u8],
-    ) -> Result<RecordLog<Memory>, DeviceError>
+    ) -> Result<RecordLog<Memory>, StoreFault>
         requires whole { (records : List (List ℕ)) × (file.now ≡ blocks records ++ 0 ∷ []) }
         ensures ready { (records : List (List ℕ)) → file.now ≡ blocks records ++ 0 ∷ []
             → IfOk result (λ log. IsReady memory_bytes memory_may_leave log records) }
     {
-        match self.replacing {
-            Replacing::Works => log_over(self.alloc, file),
-            Replacing::LeavesOld => self.failed(old.device.bytes()),
-            Replacing::LeavesNew => self.failed(file),
+        match self.replaced(old, file) {
+            Ok(log) => Ok(log),
+            Err(_) => Err(StoreFault::Unknown),
         }
     }
+}
+
+/// A device that has this file.
+fn device_of(alloc: Global, file: &[u8]) -> Result<Memory, AllocError> {
+    Memory::new(alloc, file.to_vec(alloc)?)
 }
 
 /// A log of a file in memory.

@@ -1,5 +1,5 @@
 use Rattle.std.proofs.Common.{ap, arith, refl, sym, ◌∙◌}
-use Rattle.control.specs.declared.terms.Terms.{Terms}
+use Rattle.control.specs.declared.session_terms.SessionTerms.{SessionTerms}
 use Rattle.control.specs.Rights.{unknown_line}
 use Rattle.control.specs.Meeting.IsLineMet.{IsTooLong, IsSkipped, IsNoText, IsNoRequest, IsUnread}
 use Rattle.control.proofs.BesideLemmas.{met_beside}
@@ -15,7 +15,7 @@ returns-then-is_empty-clause-met g c =
     IsSkipped (omega arith) (sym (rw c.in-Ok.ensures.cases.0 at c.without_cr-content.ensures) ∙ found_empty _ _ c.is_empty.ensures c.if-is_empty.true) refl
 
 pub returns-in_default-clause-met : goal.returns-in_default-clause-met
-returns-in_default-clause-met g c = IsNoText (omega arith) c.in_default.ensures.cases.0 _ (c.unknown_line.ensures ∙ ap (λ (t : Terms). unknown_line t.rights) c.terms.ensures) refl
+returns-in_default-clause-met g c = IsNoText (omega arith) c.in_default.ensures.cases.0 _ (c.unknown_line.ensures ∙ ap (λ (t : SessionTerms). unknown_line t.place.rights) c.terms.ensures) refl
 
 pub returns-in-Ok-Some-clause-met : goal.returns-in-Ok-Some-clause-met
 returns-in-Ok-Some-clause-met g c =
@@ -29,7 +29,7 @@ returns-in-Ok-None-clause-met g c =
     IsNoRequest
     (record { short = omega arith; text = c.in-Ok.ensures.cases.1; some = found_some _ _ _ (sym (rw c.in-Ok.ensures.cases.0 at c.without_cr-content.ensures)) c.is_empty.ensures c.if-is_empty.false })
     (rw (c.in-Ok-None.field-0-is, c.catalogue.ensures, c.without_cr-content.ensures, c.in-Ok.ensures.cases.0) at c.in-Ok-None.ensures)
-    _ (c.unknown_line-in-Ok-None.ensures ∙ ap (λ (t : Terms). unknown_line t.rights) c.terms-in-Ok-None.ensures) refl
+    _ (c.unknown_line-in-Ok-None.ensures ∙ ap (λ (t : SessionTerms). unknown_line t.place.rights) c.terms-in-Ok-None.ensures) refl
 
 pub returns-in-Err-clause-met : goal.returns-in-Err-clause-met
 returns-in-Err-clause-met g c =

@@ -168,6 +168,7 @@ fn play<R: Wait + Abort>(rt: &R, alloc: Global, end: &PipeWriter, steps: &[Step]
     let outlet = Outlet {
         descriptor: end.as_raw_fd(),
         is_shared: true,
+        is_journal: false,
     };
     let setup = Setup {
         address: "127.0.0.1:8080".parse().expect(rt, "an address"),

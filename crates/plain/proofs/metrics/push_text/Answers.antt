@@ -1,7 +1,7 @@
 use Rattle.std.proofs.Common.{refl}
 use Rattle.plain.specs.Metrics.{escaped_byte, label_text}
 use Rattle.plain.proofs.MetricLemmas.{flat_pushed, flat_whole}
-use Rattle.plain.proofs.metrics.push_label.Goals as goal
+use Rattle.plain.proofs.metrics.push_text.Goals as goal
 
 pub loop-c-preserved : goal.loop-c-preserved
 loop-c-preserved c =

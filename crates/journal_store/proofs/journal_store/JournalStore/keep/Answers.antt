@@ -4,7 +4,7 @@ use Rattle.journal_store.specs.Held.{Held}
 use Rattle.journal_store.specs.Kept.{Kept}
 use Rattle.journal_store.proofs.FoundLemmas.{is_nothing}
 use Rattle.journal_store.proofs.KeptLemmas.{IsStored, behind_same, journal_asked, leaves_alone, leaves_both, next_limit, nothing_behind, of_failed, of_both, on_err, opened_asked, same_left, stands_behind, stays, untouched}
-use Rattle.journal_store.proofs.journal_store.JournalStoreKeep.store.Goals as goal
+use Rattle.journal_store.proofs.journal_store.JournalStore.keep.Goals as goal
 
 pub returns-then-not-may_open-clause-crash : goal.returns-then-not-may_open-clause-crash
 returns-then-not-may_open-clause-crash g c = λ journal is.
@@ -112,3 +112,19 @@ pub returns-clause-limit : goal.returns-clause-limit
 returns-clause-limit g c = λ is_open.
     let was : c.reopen.new.self ≡ c.args.self.now = c.reopen.ensures.same (ap (λ (h : Held). h.is_open) c.may_open.ensures ∙ is_open) ∙ c.may_open.ensures in
     next_limit c.args.self.now c.reopen.new.self c.append.new.self c.write_anew_if_long.new.self was c.append.ensures.limit.0 c.append.ensures.limit.1 c.write_anew_if_long.ensures.limit
+
+pub returns-then-not-may_take-clause-crash : goal.returns-then-not-may_take-clause-crash
+returns-then-not-may_take-clause-crash g c = λ journal is.
+    let old = c.may_open.new.self.kept in
+    let same : old ≡ c.args.self.now.kept = ap (λ (h : Held). h.kept) c.may_open.ensures in
+    let new = c.reopen.new.self.kept in
+    behind_same old c.args.self.now.kept new.left journal c.args.entries.now same is (of_both old new new c.args.entries.now c.in_ok-reopen.ensures.ok (inl refl))
+
+pub returns-then-not-may_take-clause-refused : goal.returns-then-not-may_take-clause-refused
+returns-then-not-may_take-clause-refused g c = λ journal is.
+    stays c.args.self.now.kept c.may_open.new.self.kept c.reopen.new.self.kept journal c.args.entries.now (ap (λ (h : Held). h.kept) c.may_open.ensures) is c.in_ok-reopen.ensures.ok
+
+pub returns-then-not-may_take-clause-opened : goal.returns-then-not-may_take-clause-opened
+returns-then-not-may_take-clause-opened g c = λ is_open front.
+    let was : c.reopen.new.self ≡ c.args.self.now = c.reopen.ensures.same (ap (λ (h : Held). h.is_open) c.may_open.ensures ∙ is_open) ∙ c.may_open.ensures in
+    ap (λ (h : Held). h.kept.opened) was

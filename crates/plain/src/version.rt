@@ -1,0 +1,2 @@
+/// The version of the program.
+pub const VERSION: &str = "0.1.0";
