@@ -1,10 +1,9 @@
 # shellcheck shell=sh disable=SC2154
 # What the examples share: a server of their own, and commands that are shown. `here` is the folder of the example.
 set -eu
-if [ -z "${HEALTHD-}" ]; then
-  HEALTHD=$(command -v healthd) || HEALTHD=${here:?}/../../healthd
-fi
-work=$(mktemp -d)
+# shellcheck source=examples/program.sh
+. "${here:?}/../program.sh"
+work=$(mktemp -d "${TMPDIR:-/tmp}/healthd.XXXXXX")
 server=
 trap 'status=$?; [ -z "$server" ] || kill "$server" 2>/dev/null || true; rm -rf "$work"; exit "$status"' EXIT
 
@@ -27,13 +26,13 @@ show() { # COMMAND WORD..
   case $command in
     ask) echo "$ healthd ask --port 8080 $*" && set -- ask --port "$port" "$@" ;;
     report) echo "$ healthd tell --control /run/healthd/report $*" && set -- tell --control "$work/report" "$@" ;;
-    *) echo "$ healthd $command --control /run/healthd/control $*" && set -- "$command" --control "$work/control" "$@" ;;
+    *) echo "$ healthd $command --control /run/healthd/control${*:+ $*}" && set -- "$command" --control "$work/control" "$@" ;;
   esac
   "$HEALTHD" "$@" || echo "exit status $?"
 }
 
 stop() { # stops the server, which has to end well
-  show tell stop
+  show stop
   wait "$server"
   server=
 }

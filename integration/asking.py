@@ -43,7 +43,7 @@ with socket.create_server(("127.0.0.1", 0)) as silent:
     measured("ask --timeout 1 at a silent server", seconds, 5)
 
     # `run` where its address is in use.
-    found = ran("run", "--listen", f"127.0.0.1:{port}", "--connections", "10", input="catalogue -\n")
+    found = ran("run", "--listen", f"127.0.0.1:{port}", "--connections", "10", input="catalogue -\nregister - manual\n")
     holds("run tells that its address is in use", found == (1, "", f"healthd: bind 127.0.0.1:{port}: address in use\n"), str(found))
 
 def answering(act, *options):
@@ -109,13 +109,15 @@ holds("ask gives up where a server reads nothing", found == (1, "", GIVEN_UP), s
 holds("and not before its time is up where a server reads nothing", seconds >= 1, f"{seconds} s")
 measured("ask --timeout 1 where a server reads nothing", seconds, 5)
 found, seconds = unread("tell", 65_000, lambda port: ran("tell", "--control", f"127.0.0.1:{port}", "--timeout", "1", input="a" * 65_000))
-holds("tell gives up where a server reads nothing", found == (1, "", "healthd: timed out, the change may still be made\n"), str(found))
+TIMED_OUT = "healthd: timed out, the change may still be made"
+holds("tell gives up where a server reads nothing", found[:2] == (1, "") and found[2].startswith(f"{TIMED_OUT}; is 127.0.0.1:"), str(found))
 holds("and not before its time is up where its line is not read", seconds >= 1, f"{seconds} s")
 measured("tell --timeout 1 where a server reads nothing", seconds, 5)
 
 # `run` where a change of its script is refused.
+RULES = "a threshold has counts from 1 to 1000, and a service depends on services that stand further left in the catalogue"
 found = ran("run", "--listen", "127.0.0.1:0", "--connections", "10", input="catalogue a -\nregister a threshold 0\n")
-holds("run tells which line of its script is refused", found == (1, "", "healthd: script line 2: refused bad rule\n"), str(found))
+holds("run tells which line of its script is refused", found == (1, "", f"healthd: script line 2: refused bad rule: {RULES}\n"), str(found))
 
 
 class Place:
@@ -162,7 +164,7 @@ def later(client):
     client.sendall(b"done\n")
 
 
-LATE = (1, "", "healthd: timed out, the change may still be made\n")
+LATE = (1, "", f"{TIMED_OUT}\n")
 for name, answer in (("sends a part of an answer", part), ("sends an answer byte by byte", bytewise)):
     place = Place(answer)
     found, seconds = timed(ran, "tell", "--control", place.path, "--timeout", "1", "check", "-")
@@ -179,6 +181,13 @@ place.close()
 holds("tell has the time of each line for its answer", found == (0, "done\n" * 3, ""), str(found))
 holds("each line was told once, in its order", place.lines == [b"up a\n", b"up b\n", b"pass c\n"], str(place.lines))
 server = Server()
+found = ran("tell", "--control", f"127.0.0.1:{server.port}", "--timeout", "1", "check", "a")
+holds("tell asks whether it was sent to a port for calls, where it was",
+      found == (1, "", f"{TIMED_OUT}; is 127.0.0.1:{server.port} a port for calls, and no control place?\n"), str(found))
+for command in ("status", "history"):
+    found = ran(command, "--control", f"127.0.0.1:{server.port}", "--timeout", "1")
+    holds(f"so does {command}, which changes nothing",
+          found == (1, "", f"healthd: timed out; is 127.0.0.1:{server.port} a port for calls, and no control place?\n"), str(found))
 slowly = subprocess.Popen([HEALTHD, "tell", "--control", server.control, "--timeout", "4"], text=True,
                           stdin=subprocess.PIPE, stdout=subprocess.PIPE, stderr=subprocess.PIPE)
 for _ in range(3):
@@ -192,7 +201,9 @@ server.stop()
 time.sleep(max(0.0, started + 12 - time.monotonic()))
 giving_up.join(20)
 holds("tell gives up after ten seconds where it is told no time",
-      ended and ended[0] >= 10 and (limited.returncode, limited.stderr.read()) == (1, LATE[2]), f"{ended}")
+      ended and ended[0] >= 10 and limited.returncode == 1, f"{ended}")
+said = limited.stderr.read()
+holds("and asks whether a port where nobody answers is one for calls", said == f"{TIMED_OUT}; is 127.0.0.1:{MUTE} a port for calls, and no control place?\n", said)
 measured("tell without --timeout at a silent server", ended[0], 15)
 holds("ask waits for good where it is told no time", waiting.poll() is None, f"{waiting.returncode}")
 waiting.kill()

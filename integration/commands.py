@@ -1,6 +1,7 @@
 """Which command lines the program takes, how it refuses the others, and what its commands print where they need no server, or one
 that says what it is told to."""
 import fcntl
+import json
 import os
 import pty
 import re
@@ -24,7 +25,7 @@ def ran(*words, control=None, before=(), **options):
     options.setdefault("stdout", subprocess.PIPE)
     env = {**PLAIN, "HEALTHD_CONTROL": control} if control is not None else PLAIN
     done = subprocess.run([*before, HEALTHD, *words], stderr=subprocess.PIPE, cwd=folder, env=env, timeout=60, **options)
-    return done.returncode, (done.stdout or b"").decode(), done.stderr.decode()
+    return done.returncode, (done.stdout or b"").decode(errors="replace"), done.stderr.decode(errors="replace")
 
 
 def shown(words):
@@ -63,7 +64,7 @@ TAKEN = [
     (["serve", "--port", "65535", "--workers", "64", "--calls", "1000"], (1, "", "healthd: script line 1\n")),
     (ASK, (1, "", "healthd: connect\n")), ([*ASK, "--name", "-", "--watch", "4294967295"], (1, "", "healthd: connect\n")),
     *(([*ASK, *options], (1, "", "healthd: connect 127.0.0.1:1: connection refused\n")) for options in (
-        ["--timeout", "1"], ["--expect", "SERVICE_UNKNOWN"], ["--expect", "serving"],
+        ["--timeout", "1"], ["--expect", "SERVICE_UNKNOWN"], ["--expect", "serving"], ["--expect", "Serving"],
         ["--host", "127.0.0.1", "--timeout", "3600", "--expect", "SERVING"])),
     *((["tell", "--control", NONE, *words], (1, "", f"healthd: connect {NONE}: not found\n")) for words in (
         [], ["check", "-"], ["--timeout", "3600", "stop"])),
@@ -133,9 +134,8 @@ REFUSED = [
     ([*ASK, "--expect"], "a value is required for '--expect <STATUS>' but none was supplied\n"),
     ([*ASK, "--host", "localhost"], "invalid value 'localhost' for '--host <ADDR>': not an IP address\n"),
     (["tell"], MISSING + "--control <PLACE>\n"), (["tell", "check", "-"], MISSING + "--control <PLACE>\n"),
-    (["tell", "--control"], unsupplied("--control <PLACE>")),
-    (["tell", "--control", "/s", "--timeout", "0"], wrong(0, "--timeout <S>", 1, 3600)),
-    (["tell", "--control", "/s", "--timeout", "3601"], wrong(3601, "--timeout <S>", 1, 3600)),
+    (["tell", "--control"], unsupplied("--control <PLACE>")), (["stop"], MISSING + "--control <PLACE>\n"),
+    *(([command, "--control", "/s", "--timeout", text], wrong(text, "--timeout <S>", 1, 3600)) for command in ("tell", "stop") for text in ("0", "3601")),
     (["tell", "--control", "/run/healthd", "up a\nup b"], "invalid value for '[WORD]...': a line feed within a word\n"),
     (["status"], MISSING + "--control <PLACE>\n"), (["status", "--control", "/s", "db"], "unexpected argument 'db' found\n"),
     (["history"], MISSING + "--control <PLACE>\n"), (["history", "--control", "/s", "--last"], unsupplied("--last <N>")),
@@ -146,6 +146,7 @@ REFUSED = [
 # Those of `run` and `observe` that clap takes: the first of two that are wrong counts.
 ADDRESS, NO_PLACE = "not an address and a port\n", "not a loopback address and a port, and no path of a socket that begins with '/'\n"
 NOWHERE = "invalid value '{}' for '--control <PLACE>': not a loopback address and a port, nor the path of a socket\n"
+TOO_LONG = "longer than 107 bytes, the most that the path of a socket may have\n"
 SECONDS = "not a number of seconds from 0.001 to 86400\n"
 REFUSED += [
     *((["run", "--listen", text], f"invalid value '{text}' for '--listen <ADDR>': {ADDRESS}") for text in ("8080", "localhost:8080", "[::1]", "")),
@@ -153,15 +154,21 @@ REFUSED += [
     (["run", "--control", "-", "--plain", ""], f"invalid value '' for '--plain <ADDR>': {ADDRESS}"),
     *((["run", "--control", text], f"invalid value '{text}' for '--control <PLACE>': {NO_PLACE}")
       for text in (
-          # addresses that other machines reach, or that a socket would have on all networks; no port, no number, a name; no path of a socket,
-          # for which the system has 108 bytes with a NUL
+          # addresses that other machines reach, or that a socket would have on all networks; no port, no number, a name; no path of a socket
           "0.0.0.0:8081", "10.0.0.1:8081", "[::]:8081", "[::ffff:127.0.0.1]:8081", "128.0.0.1:8081", "127.0.0.1", "127.0.0.1:65536",
-          "localhost:8081", "run/healthd", "", "/" + "a" * 107)),
+          "localhost:8081", "run/healthd", "")),
+    *((["run", f"--{place}", path], f"invalid value '{path}' for '--{place} <PLACE>': {TOO_LONG}") for place in ("control", "report")
+      for path in ("/" + "a" * 107, "/" + "\u00e4" * 54)),
+    *(([*words, "--control", "/" + "a" * 107], f"invalid value '/{'a' * 107}' for '--control <PLACE>': {TOO_LONG}")
+      for words in (["tell"], ["stop"], ["status"], ["history"], ["observe", "db=tcp://a:1"])),
+    # It is the bytes of a path that count, and a text that begins with no '/' is none.
+    *(([*words, "--control", text], f"invalid value '{text}' for '--control <PLACE>': {TOO_LONG}" if text[0] == "/" else NOWHERE.format(text))
+      for words in (["tell"], ["stop"], ["status"], ["history"], ["observe", "db=tcp://a:1"]) for text in ("/" + "\u00e4" * 54, "a" * 200)),
     *((["run", "--report", text], f"invalid value '{text}' for '--report <PLACE>': {NO_PLACE}") for text in ("0.0.0.0:8081", "run/healthd")),
     (["run", "--report", "", "--control", "-"], f"invalid value '-' for '--control <PLACE>': {NO_PLACE}"),
     (["run", "--watches", "10001"], "invalid value '10001' for '--watches <W>': more than the 10000 connections\n"),
     (["run", "--connections", "4", "--watches", "5"], "invalid value '5' for '--watches <W>': more than the 4 connections\n"),
-    *(([command, "--control", "nowhere"], NOWHERE.format("nowhere")) for command in ("status", "history")),
+    *(([command, "--control", "nowhere"], NOWHERE.format("nowhere")) for command in ("stop", "status", "history")),
     (["observe", "--control", "run/healthd", "db=tcp://a:1"], NOWHERE.format("run/healthd")),
     (["observe", "--control", "/a", "--every", "0", "db=tcp://a:1"], f"invalid value '0' for '--every <S>': {SECONDS}"),
     (["observe", "--control", "/a", "--timeout", "1 s", "db=tcp://a:1"], f"invalid value '1 s' for '--timeout <S>': {SECONDS}"),
@@ -180,6 +187,18 @@ REFUSED += [
 for words, begin in REFUSED:
     is_refused(words, begin)
 
+# A command that asks a server says what may name its place, where nothing does.
+TIP = "healthd: HEALTHD_CONTROL in the environment may name PLACE too\n"
+for words in (["tell", "list"], ["stop"], ["status"], ["history", "--json"], ["observe", "--once"], ["status", "--control", "nowhere"], ["ask"], ["journal"]):
+    status, out, err = ran(*words)
+    lacks = words[0] not in ("ask", "journal") and "--control" not in words
+    holds(f"{shown(words)} says so only where it lacks its place", (status, out, err.endswith(TIP)) == (2, "", lacks), err)
+
+# What a place is refused for stands over the usage of its own command.
+for command in ("tell", "stop", "status", "history"):
+    _, _, err = ran(command, "--control", "nowhere")
+    holds(f"{command} at no place tells how {command} is used", f"\nUsage: healthd {command} " in err and err.count("Usage: ") == 1, err)
+
 # `tell` tells no other machine, whether the place is given or the environment has it.
 for text in ("192.0.2.7:80", "localhost:8081", "run/healthd", ""):
     is_refused(["tell", "--control", text], NOWHERE.format(text))
@@ -190,30 +209,30 @@ for text in ("127.0.0.1:1", "[::1]:1", NONE):
 
 # What the help of a command has to say: each option with its example, and each line of a script.
 HELP = {
-    "run": ["--listen <ADDR>", "e.g. 0.0.0.0:8080 or [::1]:8080", "--plain <ADDR>", "e.g. 0.0.0.0:8082", "--report <PLACE>",
+    "run": ["--listen <ADDR>", "e.g. 0.0.0.0:8080 or [::1]:8080", "--plain <ADDR>", "e.g. 0.0.0.0:8081", "--report <PLACE>",
             "its owner's group may open too", "--script <FILE>", "e.g. /etc/healthd/services", "--threads <T>", "1 to 64, e.g. 4",
             "no more than connections", "--connections <C>", "1 to 1000000, e.g. 500", "--watches <W>", "0 to C, e.g. 400",
             "told its status and ended", "register NAME threshold F [R [unknown]]", "register NAME manual", "register NAME depends NAME..",
-            "retire NAME", "pass NAME, fail NAME", "up NAME, down NAME", "expect NAME S", "shutdown", "resume",
+            "stands further left in the", "retire NAME", "pass NAME, fail NAME", "up NAME, down NAME", "expect NAME S", "shutdown", "resume",
             "begins with # is a comment", "max N", "not answered done or replaced"],
     "ask": ["--port <P>", "e.g. 8080", "--host <ADDR>", "e.g. 192.0.2.7 or ::1", "--name <NAME>", "e.g. my.package.Service", "--watch [<N>]",
             "1 to 4294967295, e.g. 3", "--timeout <S>", "1 to 3600, e.g. 5", "--expect <STATUS>", "exit status 3",
             "UNKNOWN, SERVING, NOT_SERVING, SERVICE_UNKNOWN"],
-    "tell": ["--control <PLACE>", "e.g. 127.0.0.1:8081", "e.g. /run/healthd", "e.g. fail db", "standard input", "exit status is 3",
-             "refused .., missing, wrong kind, ignored", "--timeout <S>", "1 to 3600, e.g. 2"],
-    "status": ["--control <PLACE>", "e.g. 127.0.0.1:8081", "--timeout <S>", "--json", "NO_COLOR", "healthd status --control /run/healthd.sock"],
+    "tell": ["--control <PLACE>", "e.g. 127.0.0.1:8082", "e.g. /run/healthd", "e.g. fail db", "standard input", "exit status is 3",
+             "refused .., missing, wrong kind, ignored", "--timeout <S>", "1 to 3600, e.g. 2", "Standard error says what is wrong"],
+    "status": ["--control <PLACE>", "e.g. 127.0.0.1:8082", "--timeout <S>", "--json", "NO_COLOR", "healthd status --control /run/healthd/control"],
     "history": ["--control <PLACE>", "--timeout <S>", "--last <N>", "0 to 4294967295, e.g. 20", "--follow",
-                "exit status 0 when the server stops", "healthd history --control /run/healthd.sock --last 20"],
+                "exit status 0 when the server stops", "healthd history --control /run/healthd/control --last 20"],
     "journal": ["<PATH>", "--json", "also while a server writes", "healthd journal /var/lib/healthd/journal"],
-    "serve": ["--port <P>", "--workers <W>", "--calls <N>"],
+    "serve": ["--port <P>", "--workers <W>", "--calls <N>"], "replay": ["no comments", "healthd run --check"],
 }
 for command, parts in HELP.items():
     status, out, err = ran(command, "--help")
     lost = [part for part in parts if part not in out]
     holds(f"{command} --help says all that it has to", (status, err, lost) == (0, "", []), f"{status} {err} {lost}")
 # And what each option comes to that is not given. One that is not here comes to nothing.
-DEFAULTS = {"run": ["127.0.0.1:8080", "10000"], "ask": ["127.0.0.1"], "tell": ["10"], "status": ["10"], "history": ["10"], "observe": ["5", "2"]}
-for command in ("body", "replay", "serve", "run", "ask", "tell", "status", "history", "journal", "observe"):
+DEFAULTS = {"run": ["127.0.0.1:8080", "10000"], "ask": ["127.0.0.1"], "tell": ["10"], "stop": ["30"], "status": ["10"], "history": ["10"], "observe": ["5", "2"]}
+for command in ("body", "replay", "serve", "run", "ask", "tell", "stop", "status", "history", "journal", "observe"):
     found = re.findall(r"\[default: ([^\]]*)\]", ran(command, "--help")[1])
     holds(f"{command} has its defaults alone", found == DEFAULTS.get(command, []), str(found))
 
@@ -342,6 +361,7 @@ holds("a replay of 65,536 bytes", found == (0, ORDERED + "done\n" * sevens + "no
 opened = os.open("/", os.O_RDONLY)
 holds("a replay of what can't be read", ran("replay", stdin=opened) == (1, "", "healthd: read\n"))
 
+RULES = "a threshold has counts from 1 to 1000, and a service depends on services that stand further left in the catalogue"
 # `run`: what is said of a script that sets nothing up. Comments and empty lines have numbers, a line may end in CR LF, and the first of two
 # counts.
 SCRIPTS = [
@@ -355,6 +375,11 @@ SCRIPTS = [
     (b"catalogue a -\nmax 1\nregister a manual\n\nregister - manual\n", "script line 5: refused full"),
     (b"catalogue a -\nregister b manual\n", "script line 2: refused not listed"),
     (b"catalogue a -\nmax 9\nregister a manual\npass a\nretire -\n", "script line 4: wrong kind"),
+    (b"catalogue a b -\nregister a depends b\n", f"script line 2: refused bad rule: {RULES}"),
+    # a byte order mark is passed over, at the beginning and once
+    (b"\xef\xbb\xbfcatalogue a -\npass a\n", "script line 2: missing"), (b"\xef\xbb\xbf", "no catalogue line"),
+    (b"\xef\xbb\xbf\xef\xbb\xbfcatalogue a -\n", 'script line 1: "\ufeffcatalogue a -": expected catalogue and the names'),
+    (b"\xef\xbb\xbf" + b"#" * 65_534, "script too long"), (b"\xef\xbb\xbf" + b"#" * 65_533, "no catalogue line"), (b"\xef\xbb", "script not text"),
 ]
 for script, said in SCRIPTS:
     ends_run([], said, f"a run of {script!r}", input=script)
@@ -482,6 +507,10 @@ def answering(answer):
     return serve
 
 
+# What somebody else says, and how it is printed: nothing in it moves the cursor, begins a line, or turns the text after it around.
+HOSTILE = "a\x1b[2J\x07\x7f\x9bm\u202e\u2066ü\u200bé".encode() + b"\xff\xc2z\x1b\xc3\xbc\xff"
+SAFE = r"a\u{1b}[2J\u{7}\u{7f}\u{9b}m\u{202e}\u{2066}" + "ü\u200bé" + r"\xff\xc2z\u{1b}ü\xff"
+
 # `ask` at a server of this check's own: what it asks for, and what is no answer.
 HEAD = b"HTTP/1.1 200 OK\r\ncontent-type: application/grpc-web+proto\r\nconnection: close\r\ncontent-length: %d\r\n\r\n"
 ANSWERED = HEAD % len(SERVING) + SERVING
@@ -499,6 +528,9 @@ TRAILERS = [
     (b"GRPC-Message: x\r\na:b\r\ngrpc-status:\t7", "grpc-status 7 x\n"), (b"grpc-status :3\r\ngrpc-status:2\r\ngrpc-message:a", "grpc-status 2 a\n"),
     (b"grpc-message:\t a b: c \t\r\nGrpc-Status: \t14 \r\n", "grpc-status 14 a b: c\n"), (b"grpc-message:a\r\ngrpc-status:000000007", "grpc-status 7 a\n"),
     (b"grpc-message:a\r\ngrpc-status:999999999", "grpc-status 999999999 a\n"), (b"grpc-status: 0\r\n", "grpc-status 0\n"),
+    # what cannot be printed stands there by its number
+    (b"grpc-status:2\r\ngrpc-message:" + HOSTILE, f"grpc-status 2 {SAFE}\n"),
+    (b"grpc-status:2\r\ngrpc-message:a\nSERVING", "grpc-status 2 a\\u{a}SERVING\n"),
     # the text stands behind a space, also where there is none, and behind another code than 0 alone
     (b"grpc-status:13", "grpc-status 13 \n"), (b"grpc-status:0\r\ngrpc-message:fine", "grpc-status 0\n"), *((block, None) for block in (
         b"", b"\r\n", b"grpc-status:0\r\nab", b"grpc-status:0\r\n\r\n", b"grpc-message:x", b"grpc-status:x", b"grpc-status:", b"grpc-status:+1",
@@ -591,7 +623,23 @@ TELLS = [
     (b"pass db\n", b"done\n", (0, "done\n", "")), (b"check -", b"serving\n", (0, "serving\n", "")), (b"", b"", (0, "", "")),
     (b"up a\n\n\r\nup b\n", b"done\ndone\n", (0, "done\ndone\n", "")),
     (b"up a\nup b\n", b"missing\ndone\n", (3, "missing\ndone\n", "")), (b"retire a\n", b"refused full\n", (3, "refused full\n", "")),
-    (b"walk\n", b"bad line\n", (3, "bad line\n", "")), (b"up a\n", b"wrong kind\n", (3, "wrong kind\n", "")),
+    *((line + b"\n", answer + b"\n", (3, answer.decode() + "\n", f"healthd: {advice}\n")) for line, answer, advice in (
+        (b"walk", b"bad line", "no such line, healthd help tell lists those that there are"), (b"stop now", b"bad line", "expected stop alone"),
+        (b"why a b\r", b"bad line", "expected why NAME"),
+        *((word, b"bad line", f"expected {word.decode()} NAME") for word in (b"retire", b"pass", b"fail", b"up", b"down", b"check", b"why", b"status")),
+        *((word + b" now", b"bad line", f"expected {word.decode()} alone") for word in (b"shutdown", b"resume", b"list", b"board", b"stats")),
+        (b"up  a", b"bad line", "an empty word, expected one space between words"), (b"up a ", b"bad line", "an empty word, expected one space between words"),
+        (b"up \xff", b"bad line", "a line is UTF-8"), (b"entry x", b"bad line", "expected entry N, a number from 0 to 4294967295"),
+        (b"expect a 86401", b"bad line", "expected expect NAME SECONDS, 86400 seconds at most"),
+        (b"register a treshold 1", b"bad line", "expected register NAME and then threshold F, threshold F R, threshold F R unknown, "
+         "manual or depends and names of the catalogue"),
+        (b"up a", b"wrong kind", "up is for a manual service"), (b"down a", b"wrong kind", "down is for a manual service"),
+        *((word + b" a", b"wrong kind", f"{word.decode()} is for a service with a threshold") for word in (b"pass", b"fail")),
+        (b"expect a 5", b"wrong kind", "expect is for a service with a threshold"), (b"register a threshold 0", b"refused bad rule", RULES))),
+    (b"walk\nup\n", b"bad line\nbad line\n", (3, "bad line\nbad line\n", "healthd: no such line, healthd help tell lists those that there are\n"
+                                              "healthd: expected up NAME\n")),
+    (b"retire a\n", b"wrong kind\n", (3, "wrong kind\n", "")), (b"up a\n", b"HTTP/1.0 bad line\n", (1, "", "healthd: PLACE answers HTTP, and is no control place\n")),
+    (b"list\n", HOSTILE + b"\n", (0, SAFE + "\n", "")),
     (b"pass a\n", b"ignored\n", (3, "ignored\n", "")),
     (b"stop\ncheck a\n", b"not allowed\nserving\n", (3, "not allowed\nserving\n", "")),
     (b"stop\nup a\n", b"stopping\n", (1, "stopping\n", "healthd: no answer\n")), (b"up a\n", b"done", (1, "", "healthd: no answer\n")),
@@ -603,6 +651,7 @@ for lines, answers, expected in TELLS:
     place, scripted = at_place(saying(answers))
     found = ran("tell", "--control", place, input=lines)
     said = [line for line in scripted.end().splitlines() if line]
+    found = (*found[:2], found[2].replace(place, "PLACE"))
     holds(f"tell {lines[:40]!r} is answered {answers[:40]!r}", found == expected, f"{found}, and not {expected}")
     told = [line for line in lines.splitlines() if line and len(line) < 1_000]
     holds(f"and each line of {lines[:40]!r} was told once, in its order", said == told, f"{said}, and not {told}")
@@ -650,6 +699,28 @@ with open("/dev/full", "w") as full:
 scripted.end()
 holds("tell where nothing can be printed", found == (1, "", "healthd: write: no storage space\n"), str(found))
 
+# What `status`, `history` and `observe` are answered.
+NAME, SAFE_NAME = HOSTILE.partition(b"\xff")[0].decode(), SAFE.partition("\\xff")[0]
+SHOWN = [
+    (["status"], f"{NAME}=serving\nsince 1 {NAME} reported - - expected - serving: {NAME}\nentries 1 kept 1 -\n", f"{SAFE_NAME}  serving  {SAFE_NAME}  {SAFE_NAME}  -         -\n", ""),
+    (["history"], f"entries 1 kept 1 -\n0 {NAME} setup up {NAME}: done\n", f"0 {SAFE_NAME} setup up {SAFE_NAME}: done\n", ""),
+    (["status"], f"{NAME}\n", "", f"PLACE answered {SAFE_NAME}"), (["history"], f"{NAME}\n", "", f"PLACE answered {SAFE_NAME}"),
+    (["status"], "HTTP/1.1 400 Bad Request\n", "", "PLACE answers HTTP, and is no control place"),
+    (["history"], "HTTP/1.1 400 Bad Request\n", "", "PLACE answers HTTP, and is no control place"),
+    (["observe", "--once", "a=tcp://127.0.0.1:1"], f"refused {NAME}\n", "a fail: refused\n", f"PLACE answered refused {SAFE_NAME} to reports of a"),
+]
+for (command, *others), answers, printed, said in SHOWN:
+    place, scripted = at_place(saying(answers.encode()))
+    found = ran(command, "--control", place, *others)
+    scripted.end()
+    holds(f"{command} prints nothing of {answers[:12]!r}.. that a terminal would not show",
+          (found[1].endswith(printed), found[2].replace(place, "PLACE")) == (True, f"healthd: {said}\n" if said else "") and not set(found[1]) & set(NAME) - set(SAFE_NAME), str(found))
+for command, answers, read in (("status", SHOWN[0][1], lambda out: json.loads(out)[0]["name"]), ("history", SHOWN[1][1], lambda out: json.loads(out)["call"][3:])):
+    place, scripted = at_place(saying(answers.encode()))
+    _, out, _ = ran(command, "--control", place, "--json")
+    scripted.end()
+    holds(f"{command} --json neither, and its JSON has the name", read(out) == NAME and not set(out) & set(NAME) - set(SAFE_NAME), out)
+
 # `journal`: what it can't print, and what it can where nobody reads it.
 journal = f"{folder}/journal"
 server = Server("--journal", journal)
@@ -659,6 +730,13 @@ open(f"{folder}/empty", "wb").close()
 says(["journal", folder], (1, "", f"healthd: journal {folder}: not a file\n"))
 says(["journal", secret], (1, "", f"healthd: journal {secret}: damaged at byte 0\n"))
 says(["journal", f"{folder}/empty"], (0, "", ""))
+server = Server("--journal", f"{folder}/hostile", script=f"catalogue {NAME} -\nregister {NAME} manual\nregister - manual\n")
+server.stop()
+for options in ((), ("--json",)):
+    _, out, _ = ran("journal", f"{folder}/hostile", *options)
+    lines = [json.loads(line)["call"] for line in out.splitlines()] if options else [line.split(" ", 3)[3].rpartition(": ")[0] for line in out.splitlines()]
+    holds(f"journal {' '.join(options)} prints nothing that a terminal would not show",
+          lines == [f"register {NAME if options else SAFE_NAME} manual", "register - manual"] and not set(out) & set(NAME) - set(SAFE_NAME), out)
 with open("/dev/full", "w") as full:
     found = ran("journal", journal, stdout=full)
 holds("journal where nothing can be printed", found == (1, "", "healthd: write: no storage space\n"), str(found))

@@ -2,8 +2,9 @@
 import os
 import re
 import subprocess
+import tempfile
 
-from servers import HEALTHD, HERE, Server, holds
+from servers import HEALTHD, HERE, PLAIN, holds
 
 ROOT = os.path.realpath(f"{HERE}/..")
 
@@ -32,13 +33,17 @@ def is_shown(name, begin, end, file):
 
 
 is_shown("location of nginx", "location /grpc", "}", "integration/nginx.conf")
+is_shown("plain check of HAProxy", "option httpchk GET", "default-server check", "integration/haproxy-httpchk.cfg")
 is_shown("check of HAProxy", "tcp-check connect port", "server web2", "integration/haproxy.cfg")
+
+def heads_of(text):
+    """What a link to a head of the page names."""
+    return {re.sub(r"[^\w\- ]", "", head.lower()).strip().replace(" ", "-") for head in re.findall(r"(?m)^#+ (.*)$", text)}
+
 
 lost = []
 for page in PAGES:
-    text = whole(page)
-    heads = {re.sub(r"[^\w\- ]", "", head.lower()).strip().replace(" ", "-") for head in re.findall(r"(?m)^#+ (.*)$", text)}
-    for target in re.findall(r"\]\(([^)\s]+)\)", text):
+    for target in re.findall(r"\]\(([^)\s]+)\)", whole(page)):
         path, _, part = target.partition("#")
         if "://" in target:
             continue
@@ -46,39 +51,39 @@ for page in PAGES:
         if not os.path.exists(f"{ROOT}/{to}"):
             lost.append(f"{page}: {target}")
         elif part and to.endswith(".md"):
-            heads = {re.sub(r"[^\w\- ]", "", head.lower()).strip().replace(" ", "-") for head in re.findall(r"(?m)^#+ (.*)$", whole(to))}
-            lost += [f"{page}: {target}"] * (part not in heads)
+            lost += [f"{page}: {target}"] * (part not in heads_of(whole(to)))
 holds("each link of the documents leads somewhere", not lost, "; ".join(lost))
 
-words = len(whole("README.md").split())
-holds("README.md has fewer than 900 words", words < 900, str(words))
+README = whole("README.md")
+shown = README.rstrip("\n").split("\n")
+holds("README.md has 120 lines at most, of 100 columns", len(shown) <= 120 and max(map(len, shown)) <= 100, str(len(shown)))
+first = [at for at, line in enumerate(shown) if line.startswith("    ") and at < 40]
+holds("its first command and what that prints are in the first forty", shown[first[0]].startswith("    make demo") and "Ctrl-C" in shown[first[-1]])
 
 names = [line.split()[0] for line in subprocess.check_output([HEALTHD, "help"], text=True).split("Commands:\n")[1].split("\n\n")[0].split("\n")]
 told = {word for page in PAGES for word in re.findall(r"(?m)(?:^ {4}\$?|`)(?:\./)?healthd ([a-z]+)\b", whole(page))}
 unknown = sorted(told - {*names, "help"})
 holds("each command that a document names is one", not unknown, str(unknown))
-kit = re.search(r"`(rattle-kit-\w+)`", whole("README.md"))
-holds("README.md names the toolchain", kit is not None)
+holds("README.md names the toolchain", re.search(r"`rattle-kit-\w+ logic \w+`, as `rt\nversion`", README) is not None)
 
-# The README's run: its script, and each row of its table, in their order. Times differ.
-README = whole("README.md")
-server = Server(script=re.search(r"(?s)<<END\n(.*?)\n    END", README)[1].replace("\n    ", "\n").strip() + "\n")
-rows = re.findall(r"(?m)^\| `healthd ([^`]+)` \| (.*) \|$", README)
-holds("README.md has a run", len(rows) > 9, str(rows))
+# What README.md has to be pasted, and what it prints; the port and times differ.
+paste, prints = [re.sub(r"(?m)^    ", "", block).strip("\n") for block in re.findall(r"(?m)(?:^    .*\n)+", README) if "healthd stop\n" in block or "stopping\n" in block]
 
 
 def timeless(text):
     return re.sub(r"\d{4}-\d\d-\d\dT[\d:.]+Z", "TIME", text)
 
 
-wrong = []
-for words, prints in rows:
-    told = words.replace("8080", str(server.port)).split()
-    ran = subprocess.run([HEALTHD, *told], capture_output=True, text=True, timeout=30, env={**os.environ, "HEALTHD_CONTROL": server.control})
-    shown = re.findall(r"`([^`]*)`", prints)
-    first = (ran.stdout.splitlines() or [""])[0]
-    ends = 3 if "exit status 3" in prints else 0
-    if (ran.returncode, ran.stderr) != (ends, "") or shown and timeless(shown[0]) != timeless(first):
-        wrong.append(f"healthd {words}: {ran.returncode} {first!r} {ran.stderr!r}, and not {prints}")
-holds("README.md's run prints what it says", not wrong, "; ".join(wrong))
-holds("README.md's run ends as it says", server.ended() == (0, re.search(r"`(journal \d+)`", rows[-1][1])[1]))
+def pasted(top):
+    """What a shell in the folder `top` prints for the paste, and then the last line of the run."""
+    port = subprocess.check_output(["/usr/bin/python3", "-I", f"{HERE}/free_port.py"], text=True).strip()
+    words = paste.replace("8080", port).replace("healthd run ", f"healthd run --listen 127.0.0.1:{port} ") + "\nwait\ncat log >&2\ntail -n 1 out\n"
+    return subprocess.run(["bash"], input=words, cwd=top, capture_output=True, text=True, timeout=60, env={**PLAIN, "TMPDIR": top})
+
+
+with tempfile.TemporaryDirectory() as top:
+    os.mkdir(f"{top}/out")
+    os.symlink(HEALTHD, f"{top}/out/healthd")
+    ran = pasted(top)
+    found, expected = timeless(ran.stdout), timeless(f"{prints}\njournal 5\n")
+    holds("what README.md has to be pasted prints what it says", found == expected, f"{found} {ran.stderr}")

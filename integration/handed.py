@@ -99,8 +99,7 @@ def exporting(lines):
 
 # What is handed over, and what the environment has to say for it.
 with socket.create_server(("127.0.0.1", 0)) as fresh:
-    one = Server(socket_of=fresh, before=exporting("exec 4<&-; export LISTEN_FDS=2"))
-    holds("of two numbers of which one is open, that is taken", (one.port, len(one.lines)) == (fresh.getsockname()[1], 2), str(one.lines))
+    one = Server(socket_of=fresh)
     flags = {flag & (os.O_NONBLOCK | os.O_CLOEXEC) for flag in flags_of(one, fresh) if flag & os.O_CLOEXEC}
     holds("the socket does not wait, and is closed at exec", flags == {os.O_NONBLOCK | os.O_CLOEXEC}, str(flags_of(one, fresh)))
     one.stop()
@@ -154,6 +153,19 @@ with socket.socket(socket.AF_UNIX, socket.SOCK_DGRAM) as full:
     measured("a Check beside a supervisor that has no room", seconds, 5)
     _, seconds = timed(telling.stop)
     measured("`stop` beside a supervisor that has no room", seconds, 10)
+for count, number in ((1, 3), (2, 4)):
+    wrong = Server(socket_of=(listener,), before=exporting(f"exec {number}<&-; export LISTEN_FDS={count}"), starts=False)
+    holds(f"number {number} of LISTEN_FDS={count}, which is closed, is refused", (wrong.process.returncode, wrong.said())
+          == (1, f"healthd: LISTEN_FDS: descriptor {number} is no listening TCP socket\n"), wrong.said())
+with socket.create_server(("127.0.0.1", 0)) as second:
+    three = Server(socket_of=(listener, second), before=exporting("exec 5<&-; export LISTEN_FDS=3"))
+    holds("a third one that is closed is left alone", (three.port, three.plain) == (port, second.getsockname()[1]), str(three.lines))
+    three.stop()
+with socket.create_server(("127.0.0.1", 0)) as second, socket.create_server(("127.0.0.1", 0)) as third:
+    # The first socket's own copy gets the number that is free.
+    wrong = Server(socket_of=(listener, second, third), before=exporting("exec 4<&-"), starts=False)
+    holds("a second one that is closed is refused before a third one that is open", (wrong.process.returncode, wrong.said())
+          == (1, "healthd: LISTEN_FDS: descriptor 4 is no listening TCP socket\n"), wrong.said())
 for name in ("", "@", "/", "notify", "vsock:2:1234", "/" + "x" * 107, "/" + "x" * 300):
     telling = Server(env={"NOTIFY_SOCKET": name})
     holds(f"a run goes on where NOTIFY_SOCKET is {name[:20]!r} of {len(name)} bytes", telling.check().endswith(OK))

@@ -226,14 +226,19 @@ COLOURS = (("serving", 32), ("not_serving", 31), ("unknown", 33), ("absent", 2))
 coloured = TABLE
 for word, colour in COLOURS:
     coloured = coloured.replace(f"  {word} ", f"  \x1b[{colour}m{word}\x1b[0m ")
-is_given("four services", TOLD, TABLE, "status")
-found = given(TOLD, lambda place: on_terminal(PLAIN, place)).replace("\r\n", "\n")
+# Over a table it says where the journal can't be written, by the last number of `stats`. A server without that number may write.
+COUNTED = "entries 4 kept 4 connections 0 watches 0 sessions 1 calls 0 given_up 0 behind 0 gone 0 expired 0 left 9 writable"
+NOT_WRITABLE = "journal not writable: no change takes effect\n"
+for name, counted, first in (("four services", f"{COUNTED} 1", ""), ("four services that can't be changed", f"{COUNTED} 0", NOT_WRITABLE),
+                             ("four services of a server that does not say", COUNTED.rpartition(" ")[0], "")):
+    is_given(name, [*TOLD, counted], first + TABLE, "status")
+found = given([*TOLD, f"{COUNTED} 1"], lambda place: on_terminal(PLAIN, place)).replace("\r\n", "\n")
 holds("and on a terminal the same with colours, in the same columns", found == coloured, repr(found))
 # Times of another form are left as they are.
 is_given("times of another form", [
     "a=serving b=serving c=serving 健康=serving", "since 1 2026-11-26T01:45:09Z reported 1 noon expected - serving",
     "since 1 TZ reported 1 2026-11-26T01:45:09 expected - serving", "since 1 2026Z reported 1 - expected - serving: ",
-    "since 1 - reported - - expected - serving: 健康"], """NAME  STATUS   SINCE                 WHY  EXPECTED  REPORTED
+    "since 1 - reported - - expected - serving: 健康", f"{COUNTED} 1"], """NAME  STATUS   SINCE                 WHY  EXPECTED  REPORTED
 a     serving  2026-11-26 01:45:09Z  -    -         noon
 b     serving  TZ                    -    -         2026-11-26T01:45:09
 c     serving  2026Z                 -    -         entry 1

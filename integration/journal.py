@@ -8,7 +8,7 @@ import tempfile
 import time
 import zlib
 
-from servers import HEALTHD, SCRIPT, Server, ask_line, holds, timed, until
+from servers import HEALTHD, SCRIPT, Server, ask_line, connect, holds, rest_of, timed, until
 
 folder = tempfile.mkdtemp(prefix="healthd-journal-")
 journal = f"{folder}/journal"
@@ -353,6 +353,130 @@ holds("the file has grown by these changes", data.startswith(long) and added == 
 server.kill()
 os.rmdir(f"{one}.new")
 os.remove(one)
+
+# A server whose journal was moved away leaves the file alone that is at its path by then.
+MOVED = "journal not written: its file was moved"
+NOT_WRITABLE = "journal not writable: no change takes effect"
+
+
+def shown(server):
+    """What `status` says first."""
+    return subprocess.run([HEALTHD, "status", "--control", server.control], capture_output=True, text=True, timeout=30).stdout.splitlines()[0]
+
+
+def others(name):
+    """A server at the path, whose file is another by now, and the entries of that file."""
+    other = start(path=one)
+    holds(f"another server begins {name}", other.tell("down", "a")[0] == "done")
+    return other, kept(one)[1]
+
+
+def intact(name, other, entries):
+    """The other's file has what was told to it, and no more."""
+    holds(f"the file at the path is the other's {name}", kept(one)[1] == entries, f"{kept(one)[1][-1:]} and not {entries[-1:]}")
+    holds(f"nothing is left beside it {name}", not os.path.exists(f"{one}.new"))
+    holds(f"which goes on {name}", other.tell("up", "a")[0] == "done" and len(kept(one)[1]) == len(entries) + 1)
+    other.stop()
+    os.remove(one)
+
+
+one, away = f"{folder}/moved", f"{folder}/moved-away"
+shutil.copyfile(path, one)
+server = Server("--journal", one, "--plain", "127.0.0.1:0")
+os.rename(one, away)
+told = server.tell("pass", "db")
+holds("a change is refused that has a file written anew where none is", told == ("refused not stored", 3), str(told))
+holds("and no file is made there", not os.path.exists(one) and not os.path.exists(f"{one}.new"))
+other, found = others("where a journal was moved away")
+for again in range(3):
+    told = server.tell("pass", "db")
+    holds("a change is refused that has a moved file written anew", told == ("refused not stored", 3), str(told))
+
+
+def numbers_at(place):
+    """The lines of /metrics at a plain place."""
+    with connect(place) as client:
+        client.sendall(b"GET /metrics HTTP/1.1\r\nhost: localhost\r\n\r\n")
+        return rest_of(client).decode().splitlines()
+
+
+holds("`stats` says so", server.stats()["writable"] == 0, str(server.stats()))
+figures = [line for line in numbers_at(server.plain) if line.startswith(("healthd_journal_writable ", "healthd_refused_total{"))]
+holds("so does /metrics, whose counts have each of these changes by its cause", figures == ["healthd_journal_writable 0", *(
+    f'healthd_refused_total{{cause="{cause}"}} {4 if cause == "not stored" else 0}' for cause in ("bad rule", "full", "no memory", "not listed", "not stored"))],
+      str(figures))
+holds("and `status`, first of all", shown(server) == NOT_WRITABLE, shown(server))
+until("and the log", lambda: any(line.endswith(f" WARN  {MOVED}\n") for line in server.written()), True)
+intact("where a journal was moved away", other, found)
+os.rename(away, one)
+holds("once the file is back a change is stored", server.tell("pass", "db") == ("done", 0))
+holds("the file is written anew", os.path.getsize(one) < 3 << 20, str(os.path.getsize(one)))
+holds("`stats` says so too", server.stats()["writable"] == 1, str(server.stats()))
+figures = numbers_at(server.plain)
+holds("and /metrics, whose counts stay", "healthd_journal_writable 1" in figures and 'healthd_refused_total{cause="not stored"} 4' in figures, str(figures))
+holds("and `status` nothing more", shown(server) != NOT_WRITABLE, shown(server))
+until("the log says that it is over", lambda: any(line.endswith(" INFO  journal written again\n") for line in server.written()), True)
+server.stop()
+os.remove(one)
+
+
+# It is moved while it is written anew: a server that has made the new file is stopped before it puts it in place.
+def stopped_while_written_anew():
+    for _ in range(50):
+        shutil.copyfile(path, one)
+        server = start(path=one)
+        before = os.stat(one).st_ino
+        with server.session(timeout=20) as session:
+            session.sendall(b"pass db\n")
+            while not os.path.exists(f"{one}.new") and os.stat(one).st_ino == before:
+                pass
+            server.process.send_signal(signal.SIGSTOP)
+            os.waitpid(server.process.pid, os.WUNTRACED)
+            if os.stat(one).st_ino == before:
+                break
+            server.process.send_signal(signal.SIGCONT)
+        server.stop()
+    holds("a server is stopped while it writes its journal anew", os.stat(one).st_ino == before)
+    return server
+
+
+def goes_on_without(server):
+    """Lets it put the new file in place, where it finds that the journal was moved, and go on."""
+    server.process.send_signal(signal.SIGCONT)
+    until("the server goes on", lambda: server.stats()["writable"], 1)
+
+
+# Where it was stopped between its look at the path and the rename that follows at once, it puts the file there: so once more.
+for _ in range(5):
+    server = stopped_while_written_anew()
+    os.rename(one, away)
+    goes_on_without(server)
+    if not os.path.exists(one):
+        break
+    server.stop()
+holds("a journal that was moved while it was written anew is not put where none is",
+      not os.path.exists(one) and not os.path.exists(f"{one}.new"), str(os.listdir(folder)))
+told = server.tell("pass", "db")
+holds("the next change of a server whose journal was moved meanwhile is refused", told == ("refused not stored", 3), str(told))
+server.stop()
+holds("no change is at the path then", not os.path.exists(one) or kept(one) == (0, [], ""))
+if os.path.exists(one):
+    os.remove(one)
+for _ in range(5):
+    server = stopped_while_written_anew()
+    os.rename(one, away)
+    other, found = others("where a journal was moved while it was written anew")
+    before = os.stat(one).st_ino
+    goes_on_without(server)
+    if os.stat(one).st_ino == before:
+        break
+    server.stop()
+    other.kill()
+told = server.tell("pass", "db")
+holds("its next change is refused", told == ("refused not stored", 3), str(told))
+intact("where a journal was moved while it was written anew", other, found)
+server.stop()
+os.remove(away)
 server, seconds = timed(start, SCRIPT, path)
 print(f"measured journal a start with {count} entries: {seconds:.2f} s", flush=True)
 holds("a long journal is read", server.stats()["entries"] == count and server.tell("list")[0].startswith("a=not_serving" if count % 2 == 0 else "a=serving"))
@@ -400,6 +524,8 @@ holds("there is a change", server.tell("down", "a")[0] == "done")
 limit(server.process, os.path.getsize(path))
 told = server.tell("up", "a")
 holds("a change that can't be stored is refused", told == ("refused not stored", 3), str(told))
+holds("`stats` says that nothing is stored", server.stats()["writable"] == 0, str(server.stats()))
+holds("and `status`, first of all", shown(server) == NOT_WRITABLE, shown(server))
 told = server.tell("up", "a")
 holds("and the next, for which the file is opened anew", told == ("refused not stored", 3), str(told))
 holds("it is none", server.tell("list")[0].startswith("a=not_serving") and server.stats()["entries"] == 4, str(server.stats()))
@@ -408,6 +534,7 @@ holds("nobody else has the file meanwhile", refused(path=path) == (1, f"healthd:
 limit(server.process, resource.RLIM_INFINITY)
 time.sleep(1.1)
 holds("once there is room the next change is stored", server.tell("up", "a")[0] == "done")
+holds("`stats` says that it is", server.stats()["writable"] == 1, str(server.stats()))
 holds("nor behind it", refused(path=path) == (1, f"healthd: journal {path}: in use"))
 holds("and no other", [line.split(" ", 2)[2].split(" ", 2)[-1] for line in kept(path)[1]][-2:] == ["down a: done", "up a: done"], str(kept(path)))
 

@@ -23,7 +23,7 @@ ROWS = [("down a", "done"), ("list", "a=not_serving b=absent -=serving"), ("up a
         *((line, "bad line") for line in ("why", "why a b", "status", "status a b", "entry", "entry x", "entry 4294967296", "entry 1 2")),
         # the longest line
         ("x" * 1_024, "bad line")]
-COUNTED = "entries 7 kept 7 connections 1 watches 1 sessions 2 calls 2 given_up 0 behind 0 gone 1 expired 0 left 9993"
+COUNTED = "entries 7 kept 7 connections 1 watches 1 sessions 2 calls 2 given_up 0 behind 0 gone 1 expired 0 left 9993 writable 1"
 server = Server("--threads", "2", script=SCRIPT)
 holds("a Check is answered", server.check().endswith(OK))
 with server.connect() as leaving:
@@ -111,7 +111,7 @@ REPORTS = [("check a", "serving", []), ("fail a", "done", [2]), ("fail a", "done
            (b"\xff", "not allowed", []),
            ("list", "a=serving -=absent", []), ("board", str((5 << 32) + 1), []), ("why a", "serving", []),
            ("status -", "since - - reported - - expected - absent: never registered", []), ("entry 5", "none yet", [])]
-BOTH = "entries 5 kept 5 connections 1 watches 1 sessions 1 calls 0 given_up 0 behind 0 gone 0 expired 0 left 5"
+BOTH = "entries 5 kept 5 connections 1 watches 1 sessions 1 calls 0 given_up 0 behind 0 gone 0 expired 0 left 5 writable 1"
 server = Server("--threads", "2", "--report", REPORT, script="catalogue a -\nmax 10\nregister a threshold 1\n")
 watcher = server.watcher()
 holds("a Watch of who is reported", watcher.next() == 1)

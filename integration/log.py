@@ -47,6 +47,15 @@ lasting = Server("--connections", "2", "--watches", "2",
 lasted = time.monotonic()
 held = [*(lasting.watch() for _ in range(2)), *(lasting.session() for _ in range(SESSIONS))]
 
+# A journal that takes no more, which a fail is refused for each second. The limit is for the log's file too, which is shorter.
+JOURNAL = f"/tmp/healthd-log-journal-{os.getpid()}"
+stuck = Server("--journal", JOURNAL, before=["/usr/bin/env", "--ignore-signal=XFSZ"])
+with stuck.session() as session, session.makefile() as answers:
+    session.sendall(b"up a\n" * 600)
+    holds("a journal grows", all(answers.readline() == "done\n" for _ in range(600)))
+resource.prlimit(stuck.process.pid, resource.RLIMIT_FSIZE, (os.path.getsize(JOURNAL), resource.RLIM_INFINITY))
+holds("a service is expected whose fails find no room", stuck.tell("expect", "db", "1")[0] == "done")
+
 logs.told = 0
 server = Server("--connections", "3", "--watches", "2")
 logs(server, f"INFO  serving on 127.0.0.1:{server.port}, 3 services, 3 entries")
@@ -378,11 +387,29 @@ told(single, "expect", "-", "1")
 logs(single, "WARN  -: not heard from for 1 s, 1 fail made, entry 2", "WARN  -: serving -> not_serving, entry 2 (expiry: fail -)")
 told(single, "resume")
 logs(single, "INFO  -: not_serving -> unknown, entry 3 (session 3: resume)")
-time.sleep(1.1)
-with single.session() as session, session.makefile("rb") as answers:
-    session.sendall(b"up nobody\n" * 101)
-    holds("101 changes are refused", [answers.readline() for _ in range(101)] == [b"refused not listed\n"] * 101)
-logs(single, *["WARN  a change of session 4 was refused: not listed"] * 100, "WARN  1 line left out")
+
+
+def told_of(lines):
+    """How many lines these are, with those that were left out."""
+    left = [re.fullmatch(r"WARN  (\d+) lines? left out", line) for line in lines]
+    return sum(int(found[1]) if found else 1 for found in left)
+
+
+# A hundred lines are written in a second: where the changes and their lines take longer than half of one, they come once more.
+for number in range(4, 14):
+    time.sleep(1.1)
+    with single.session() as session, session.makefile("rb") as answers:
+        begins = time.monotonic()
+        session.sendall(b"up nobody\n" * 101)
+        holds("101 changes are refused", [answers.readline() for _ in range(101)] == [b"refused not listed\n"] * 101)
+    while len(lines(single)) < logs.told + 100 and time.monotonic() - begins < 0.5:
+        time.sleep(0.01)
+    if time.monotonic() - begins < 0.5 or number == 13:
+        break
+    while told_of(lines(single)[logs.told:]) < 101 and time.monotonic() - begins < 20:
+        time.sleep(0.02)
+    logs.told = len(lines(single))
+logs(single, *[f"WARN  a change of session {number} was refused: not listed"] * 100, "WARN  1 line left out")
 single.stop()
 
 # Names of other letters, and of control characters.
@@ -479,6 +506,24 @@ near, far = socket.socketpair()
 far.setsockopt(socket.SOL_SOCKET, socket.SO_SNDBUF, PIPE)
 pours("a socket", near.detach(), far.detach(), True)
 
+# Where the journal of systemd reads the log, each line has its priority before it, by which `journalctl -p warning` finds it; and not where the
+# variable of another's journal is there.
+JOURNALED = [("<6>", "INFO"), ("<4>", "WARN"), ("<4>", "WARN"), ("<6>", "INFO")]
+STREAMS = [("its own stream", "{0}:{1}", True), ("another file's", "{0}:1", False), ("another device's", "1:{1}", False), ("no number", "{0}:x", False),
+           ("one number", "{1}", False), ("more than a number", "{0}:{1} ", False), ("a longer text", "{0}:" + "0" * 40 + "{1}", False), ("nothing", "", False)]
+for name, text, is_journal in STREAMS:
+    near, far = socket.socketpair()
+    stream = os.fstat(far.fileno())
+    journaled = Server(err=far.fileno(), env={"JOURNAL_STREAM": text.format(stream.st_dev, stream.st_ino)})
+    told(journaled, "down", "a")
+    journaled.stop()
+    far.close()
+    read = read_until(near.fileno(), b"", lambda text: text.endswith("ended: stopped\n")).decode()
+    near.close()
+    found = [re.match(r"(<\d>|)\d{4}-\S+Z (\w+) ", line) for line in read.splitlines() if not line.startswith("healthd: ")]
+    holds(f"lines have their priority alone where JOURNAL_STREAM has their stream: {name}",
+          [line and line.groups() for line in found] == [(front if is_journal else "", level) for front, level in JOURNALED], read)
+
 # Where the pipe takes no more and nobody reads, its last line is whole too.
 reader, writer = narrow_pipe()
 whole = Server(err=writer)
@@ -541,15 +586,24 @@ for name in ("a full disk", "a pipe whose reader is gone", "a pipe whose reader 
 time.sleep(max(0.0, lasted + MINUTE + 6 - time.monotonic()))
 
 
-def told_at(line):
-    return [seconds_of(text.split()[0]) for text in lasting.written() if text.endswith(f"Z {line}\n")]
+def told_at(line, server=lasting):
+    return [seconds_of(text.split()[0]) for text in server.written() if text.endswith(f"Z {line}\n")]
 
 
+def told_each_minute(line, server=lasting):
+    until(f"it is told again that {line.split('  ')[1]}", lambda: len(told_at(line, server)) > 1, True, 20)
+    found = told_at(line, server)
+    holds(f"it is told once a minute that {line.split('  ')[1]}", MINUTE - 0.1 < found[1] - found[0] < MINUTE + 20, str(found))
+
+
+told_each_minute("WARN  journal not written: file too large", stuck)
+resource.prlimit(stuck.process.pid, resource.RLIMIT_FSIZE, (resource.RLIM_INFINITY, resource.RLIM_INFINITY))
+until("it is told that the journal is written again", lambda: len(told_at("INFO  journal written again", stuck)), 1, 20)
+stuck.stop()
+os.remove(JOURNAL)
 for line in ("WARN  all 2 connections are taken", "WARN  all 2 watches are taken", f"WARN  all {SESSIONS} sessions are taken",
              "WARN  a change of expiry was refused: full"):
-    until(f"it is told again that {line.split('  ')[1]}", lambda: len(told_at(line)) > 1, True, 20)
-    found = told_at(line)
-    holds(f"it is told once a minute that {line.split('  ')[1]}", MINUTE - 0.1 < found[1] - found[0] < MINUTE + 20, str(found))
+    told_each_minute(line)
 line = "WARN  all 2 entries are made"
 holds(f"its log has {line}, once", lines(lasting).count(line) == 1, str(lines(lasting)))
 for client in held:

@@ -14,7 +14,7 @@ import tempfile
 import threading
 import time
 
-HEALTHD = os.environ.get("HEALTHD", os.path.join(os.path.dirname(os.path.abspath(__file__)), "..", "healthd"))
+HEALTHD = os.environ.get("HEALTHD", os.path.join(os.path.dirname(os.path.abspath(__file__)), "..", "out", "healthd"))
 FRAME = b"\0\0\0\0\3\x0a\1a"
 CHANGES, CHECKS, OPENED, WATCHES = 1000, 3000, 200, 20
 

@@ -30,6 +30,7 @@ CHECKED = b"\0\0\0\0\2\x08\1" + OK
 # The first message of a Watch of what is serving, in its chunk.
 FIRST = MESSAGE + bytes([SERVING]) + b"\r\n"
 OUT_OF_MEMORY = "healthd: out of memory\n"
+UNREGISTERED = "healthd: d is in the catalogue, but not registered\n"
 REFUSED = "refused no memory"
 NOT_STORED = "refused not stored"
 
@@ -380,7 +381,7 @@ def starts(memory, folder, *options):
         if all(lines):
             stop(f"{folder}/place")
         out, err = process.communicate(timeout=20)
-        return [line.partition(" ")[0] for line in lines], out, err, process.returncode
+        return [line.partition(" ")[0] for line in lines], out, err.removeprefix(UNREGISTERED), process.returncode
 
     said = re.compile("healthd: (script line [2-6]: refused no memory|too few threads|out of memory)\n")
     refusals = memory.in_turn(

@@ -28,11 +28,16 @@ ENTRIES = SCRIPT.count("\n") - 2
 TEXT = ("content-type: text/plain; charset=utf-8", "cache-control: no-store")
 CHECK_PATH, WATCH_PATH = "/grpc.health.v1.Health/Check", "/grpc.health.v1.Health/Watch"
 NUMBERS = {"serving": 1, "not_serving": 0, "unknown": -1, "absent": -1}
-# The numbers of /metrics, each with its type and its name in a session's `stats`.
+# The numbers of /metrics that a session's `stats` has too, each with its type and its name there.
 FIGURES = {"entries_total": ("counter", "entries"), "entries_left": ("gauge", "left"), "connections": ("gauge", "connections"),
            "watches": ("gauge", "watches"), "sessions": ("gauge", "sessions"), "calls_total": ("counter", "calls"),
            "given_up_total": ("counter", "given_up"), "gone_total": ("counter", "gone"), "behind_total": ("counter", "behind"),
-           "expired_total": ("counter", "expired")}
+           "expired_total": ("counter", "expired"), "journal_writable": ("gauge", "writable")}
+# What it does not have: numbers of the server, of each service, and of each cause.
+OTHERS = {"build_info": "gauge", "start_time_seconds": "gauge", "watches_refused_total": "counter", "refused_total": "counter",
+          "last_report_timestamp_seconds": "gauge", "expected_seconds": "gauge"}
+SERVICES = ("service_status", "last_report_timestamp_seconds", "expected_seconds")
+CAUSES = ("bad rule", "full", "no memory", "not listed", "not stored")
 
 
 def sent(port, request, timeout=10):
@@ -105,15 +110,19 @@ def metrics():
 
 
 def samples(text):
-    """The numbers by their names, and those of services by the service's name."""
-    found = {}
+    """The numbers of services by metric and the service's name, those of causes by theirs, and the others by their names."""
+    services, causes, others = {name: {} for name in SERVICES}, {}, {}
     for family in text_string_to_metric_families(text):
         for sample in family.samples:
-            key = sample.labels["service"] if "service" in sample.labels else sample.name.removeprefix("healthd_")
-            holds_quietly((family.name, key) not in found, f"{sample.name} {key} stands twice")
-            found[family.name == "healthd_service_status", key] = sample.value
-    return ({key: value for (is_service, key), value in found.items() if is_service},
-            {key: value for (is_service, key), value in found.items() if not is_service})
+            name = sample.name.removeprefix("healthd_")
+            into, key = others, name
+            if "service" in sample.labels:
+                into, key = services[name], sample.labels["service"]
+            elif "cause" in sample.labels:
+                into, key = causes, sample.labels["cause"]
+            holds_quietly(key not in into, f"{sample.name} {key} stands twice")
+            into[key] = sample.value
+    return services, others, causes
 
 
 server = Server("--threads", "3", "--plain", "127.0.0.1:0", script=SCRIPT)
@@ -169,10 +178,13 @@ holds("HEAD /services has a length and no body", (line, body) == ("HTTP/1.1 200 
       and f"content-length: {length}" in fields, str(fields))
 text = metrics()
 lines = text.split("\n")
-by_service, figures = samples(text)
-holds("/metrics has each service", by_service == {name: NUMBERS[status] for name, status in NAMES.items()}, str(by_service))
-holds("/metrics has each number", sorted(figures) == sorted(FIGURES), str(sorted(figures)))
-for name, kind in [("service_status", "gauge")] + [(name, kind) for name, (kind, _) in FIGURES.items()]:
+by_service, figures, causes = samples(text)
+holds("/metrics has each service", by_service["service_status"] == {name or "-": NUMBERS[status] for name, status in NAMES.items()}, str(by_service))
+for name in SERVICES[1:]:
+    holds(f"healthd_{name} has each service, of which nothing is known yet", by_service[name] == {name or "-": 0 for name in NAMES}, str(by_service))
+holds("/metrics has each number", sorted(figures) == sorted([*FIGURES, *OTHERS][:-3]), str(sorted(figures)))
+holds("and each cause of a refusal", causes == {cause: 0 for cause in CAUSES}, str(causes))
+for name, kind in [("service_status", "gauge"), *OTHERS.items(), *((name, kind) for name, (kind, _) in FIGURES.items())]:
     at = lines.index(f"# TYPE healthd_{name} {kind}") if f"# TYPE healthd_{name} {kind}" in lines else 0
     holds(f"healthd_{name} is a {kind}, with a line of help before and its numbers behind", at > 0
           and lines[at - 1].startswith(f"# HELP healthd_{name} ")
@@ -190,10 +202,23 @@ with server.session() as session:
     until("both are Watches", lambda: samples(metrics())[1]["watches"], 2)
     connect(server.plain).close()
     ask_line(session, "expect db 1")
+    until("it is expected", lambda: samples(metrics())[0]["expected_seconds"]["db"], 1)
     until("a service that is not heard from is not serving", lambda: parted(sent(server.plain, asking("/status/db"))),
           status("db", "not_serving"))
     ask_line(session, "expect db 0")
     until("it is counted", lambda: samples(metrics())[1]["expired_total"], 1)
+    # What would take it down as one, and the status of the whole server beside it, does so by then.
+    time.sleep(0.3)
+    reports = samples(metrics())[0]["last_report_timestamp_seconds"]
+    holds("a fail for silence is no report", (reports["db"], reports["-"]) == (0, 0), str(reports))
+    reported = int(time.time())
+    ask_line(session, "fail db")
+    until("a report has its time", lambda: reported <= samples(metrics())[0]["last_report_timestamp_seconds"]["db"] <= time.time(), True)
+    holds("another service has none", samples(metrics())[0]["last_report_timestamp_seconds"]["job"] == 0)
+    for line, cause in (("register web1 depends zwölf", "bad rule"), ("up nobody", "not listed")):
+        before = samples(metrics())[2]
+        holds(f"a change is refused: {cause}", ask_line(session, line) == f"refused {cause}")
+        holds(f"it is counted as refused: {cause}", samples(metrics())[2] == {**before, cause: before[cause] + 1}, str(samples(metrics())[2]))
     until("the looks before are over", lambda: stats_by(session)["connections"], 2)
     before = stats_by(session)
     figures = samples(metrics())[1]
@@ -207,6 +232,48 @@ with server.session() as session:
     for watch in watches:
         watch.close()
     ask_line(session, "pass db")
+    # Those times are whole seconds.
+    first = samples(metrics())[0]["last_report_timestamp_seconds"]["db"]
+
+    def is_later():
+        ask_line(session, "pass db")
+        return samples(metrics())[0]["last_report_timestamp_seconds"]["db"] > first
+
+    until("a later report has a later time", is_later, True)
+    # The numbers of a service that stands late in the catalogue.
+    for line in ("register gone threshold 1", "expect gone 3600"):
+        holds(f"`{line}` is done", ask_line(session, line) == "done")
+    until("a service at a late place is expected", lambda: samples(metrics())[0]["expected_seconds"]["gone"], 3600)
+    holds("and was not reported yet", samples(metrics())[0]["last_report_timestamp_seconds"]["gone"] == 0)
+    reported = int(time.time())
+    ask_line(session, "pass gone")
+    until("its report has its time", lambda: reported <= samples(metrics())[0]["last_report_timestamp_seconds"]["gone"] <= time.time(), True)
+    holds("it is gone again", ask_line(session, "retire gone") == "done")
+
+# A Watch that finds no place is told its status, and ends.
+few = Server("--watches", "1", "--plain", "127.0.0.1:0")
+kept = few.watcher()
+holds("a Watch finds a place", kept.next() == 1)
+
+
+def refused_watches():
+    return samples(parted(sent(few.plain, asking("/metrics")))[2].decode())[1]["watches_refused_total"]
+
+
+for count in (1, 2):
+    holds("another is told its status, and ends", few.watcher().to_end() == [1])
+    # The loop tells its counts once it has seen to all of its connections.
+    until(f"it is counted: {count}", refused_watches, count)
+kept.close()
+until("the place is free again", lambda: few.stats()["watches"], 0)
+kept = few.watcher()
+holds("another Watch finds it", kept.next() == 1)
+few.tell("down", "a")
+holds("and is told what comes", kept.next() == 2)
+until("it is held", lambda: few.stats()["watches"], 1)
+holds("neither it nor the end of the one before is counted as refused", refused_watches() == 2, str(refused_watches()))
+kept.close()
+few.stop()
 
 # Services are told at one point of the history: beside changes the number of entries says what web1 is, and with it the server.
 base = dict(services())["entries"]
@@ -460,8 +527,8 @@ with socket.create_server(("127.0.0.1", 0)) as first, socket.create_server(("127
 with socket.create_server(("127.0.0.1", 0)) as there:
     port = there.getsockname()[1]
     refused = Server("--plain", f"127.0.0.1:{port}", script=SCRIPT, starts=False)
-    holds("a place that is taken is refused", (refused.process.returncode, refused.said())
-          == (1, f"healthd: bind 127.0.0.1:{port}: address in use\n"), refused.said())
+    holds("a place that is taken is refused", (refused.process.returncode, refused.said().splitlines()[-1:])
+          == (1, [f"healthd: bind 127.0.0.1:{port}: address in use"]), refused.said())
 refused = Server("--plain", "nowhere", script=SCRIPT, starts=False)
 holds("a place that is none is a refused command line", refused.process.returncode == 2, refused.said())
 server = Server(script=SCRIPT)

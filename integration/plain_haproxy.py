@@ -10,6 +10,7 @@ from balancer import Balancer, Load, Web
 from servers import Server, freeze, holds, until
 
 SCRIPT = "catalogue web1 web2 -\nregister web1 manual\nregister web2 manual\nregister - depends web1 web2\n"
+OF_ONE = "catalogue -\nregister - manual\n"
 DOWN = ("DOWN", "L7STS")
 # The checks are made more often than the configurations have them, so that there is time for more of them.
 FASTER = [("inter 1s ", "inter 300ms ")]
@@ -19,8 +20,8 @@ def becomes(name, balancer, server, expected):
     until(name, lambda: balancer.state(server), expected)
 
 
-def takes_out(kind, configuration, pairs, server, servers, connects):
-    """Takes web1 out of HAProxy and puts it back while requests run, by telling its service, and then ends healthd. Where
+def takes_out(kind, configuration, pairs, server, service, servers, connects):
+    """Takes web1 out of HAProxy and puts it back while requests run, by telling its service there, and then ends healthd. Where
     HAProxy connects to the web server too, it sees that this one is gone."""
     is_up = "UP", "L4OK" if connects else "L7OK"
     folder = tempfile.mkdtemp(prefix="haproxy-", dir=os.environ.get("WORK", "/tmp"))
@@ -35,7 +36,7 @@ def takes_out(kind, configuration, pairs, server, servers, connects):
     load = Load(balancer.port)
     until(f"{kind} shares the requests", lambda: all(load.since(0).count(web) > 50 for web in webs), True)
 
-    server.tell("down", "web1")
+    server.tell("down", service)
     becomes(f"{kind} has web1 DOWN after tell down", balancer, "web1", DOWN)
     until(f"{kind} was told so by the number of the answer", lambda: balancer.stats()["web1"]["check_code"], "503")
     down = time.monotonic()
@@ -45,7 +46,7 @@ def takes_out(kind, configuration, pairs, server, servers, connects):
     holds(f"{kind} asks web2 alone meanwhile", asked == {"web2"}, str(asked))
     # One check of it may have been late, which is not the next.
     becomes(f"{kind} has web2 UP meanwhile", balancer, "web2", is_up)
-    server.tell("up", "web1")
+    server.tell("up", service)
     becomes(f"{kind} has web1 UP after tell up", balancer, "web1", is_up)
     up = time.monotonic()
     until(f"{kind} asks both again", lambda: all(load.since(up).count(web) > 50 for web in webs), True)
@@ -58,9 +59,9 @@ def takes_out(kind, configuration, pairs, server, servers, connects):
         becomes(f"{kind} has web1 DOWN while it takes no connections", balancer, "web1", ("DOWN", "L4CON"))
         webs["web1"].open()
         becomes(f"{kind} has web1 UP when it does", balancer, "web1", is_up)
-    server.tell("retire", "web1")
+    server.tell("retire", service)
     until(f"{kind} has web1 DOWN where it is absent", lambda: (balancer.state("web1"), balancer.stats()["web1"]["check_code"]), (DOWN, "404"))
-    server.tell("register", "web1", "manual")
+    server.tell("register", service, "manual")
     becomes(f"{kind} has web1 UP where it is registered", balancer, "web1", is_up)
     freeze(server.process)
     until(f"{kind} has web1 DOWN while healthd is frozen", lambda: balancer.state("web1")[0], "DOWN")
@@ -79,14 +80,14 @@ def for_both(kind, change=()):
     """One healthd for both web servers."""
     server = Server("--plain", "127.0.0.1:0", "--threads", "2", script=SCRIPT)
     takes_out(kind, "haproxy-plain.cfg", [("addr 192.0.2.10 port 8081\n", f"addr 127.0.0.1 port {server.plain}\n"), *change],
-              server, [server], True)
+              server, "web1", [server], True)
 
 
 def beside_each(kind):
     """A healthd beside each web server, at the same port."""
-    first = Server("--plain", "127.0.0.1:0", "--threads", "2", script=SCRIPT)
-    second = Server("--plain", f"127.0.0.2:{first.plain}", "--threads", "1", script=SCRIPT)
-    takes_out(kind, "haproxy-httpchk.cfg", [("port 8081 ", f"port {first.plain} ")], first, [first, second], False)
+    first = Server("--plain", "127.0.0.1:0", "--threads", "2", script=OF_ONE)
+    second = Server("--plain", f"127.0.0.2:{first.plain}", "--threads", "1", script=OF_ONE)
+    takes_out(kind, "haproxy-httpchk.cfg", [("port 8081 ", f"port {first.plain} ")], first, "-", [first, second], False)
 
 
 class Probe:

@@ -11,7 +11,7 @@ import threading
 import time
 
 HERE = os.path.dirname(os.path.realpath(__file__))
-HEALTHD = os.environ.get("HEALTHD", f"{HERE}/../healthd")
+HEALTHD = os.environ.get("HEALTHD", f"{HERE}/../out/healthd")
 CHECK = os.path.splitext(os.path.basename(sys.argv[0]))[0]
 # The environment, where it does not say which server is asked.
 PLAIN = {name: value for name, value in os.environ.items() if name != "HEALTHD_CONTROL"}
@@ -216,7 +216,7 @@ class Server:
         """What `healthd tell` prints, and its exit status."""
         ran = subprocess.run([HEALTHD, "tell", "--control", place or self.control, *words],
                              capture_output=True, text=True, timeout=30)
-        return (ran.stdout + ran.stderr).strip(), ran.returncode
+        return (ran.stdout or ran.stderr).strip(), ran.returncode
 
     def ask(self, *options):
         ran = subprocess.run([HEALTHD, "ask", "--host", "127.0.0.1", "--port", str(self.port), "--timeout", "5", *options],

@@ -1,12 +1,16 @@
 """A server that is told to stop ends soon, and answers what was accepted."""
 import fcntl
+import os
+import signal
 import socket
 import struct
+import subprocess
+import tempfile
 import termios
 import threading
 import time
 
-from servers import ENDED, OK, REQUEST, SERVING, Server, ask_line, head, holds, measured, read_all, rest_of, timed, until
+from servers import ENDED, HEALTHD, OK, REQUEST, SERVING, Server, ask_line, freeze, head, holds, measured, read_all, rest_of, timed, until
 
 
 def stopped(server):
@@ -255,3 +259,108 @@ holds("it is given up, and the server ends", ended == (0, f"journal {CHANGES + 1
 holds("one that takes nothing is kept for close to thirty seconds", kept > 25, f"{kept} s")
 until("and is given up behind them", lambda: counted(server), [0, 2, 1, 0], 3)
 server.stop()
+
+
+# The command `stop`.
+def stop_command(server, *options, place=None, env=None):
+    words = [] if env else ["--control", place or server.control]
+    ran = subprocess.run([HEALTHD, "stop", *words, *options], capture_output=True, text=True, timeout=60, env={**os.environ, **(env or {})})
+    return ran.returncode, ran.stdout, ran.stderr
+
+
+for control in (True, "127.0.0.1:0"):
+    where = "a Unix socket" if control is True else "an address"
+    server = Server(control=control)
+    watch = server.watcher()
+    holds(f"a Watch of a server whose control place is {where}", watch.next() == 1)
+    found, seconds = timed(lambda: stop_command(server, env=None if control is True else {"HEALTHD_CONTROL": server.control}))
+    holds(f"`healthd stop` at {where} prints the answer", found == (0, "stopping\n", ""), str(found))
+    measured(f"`healthd stop` at {where}", seconds, 2)
+    found = stop_command(server)
+    said = f"healthd: connect {server.control}: "
+    holds(f"nobody listens at {where} then", found[:2] == (1, "") and found[2].startswith(said), str(found))
+    holds("the Watch was ended", watch.to_end() == [])
+    ended = server.ended()
+    holds(f"the server that `stop` ended at {where} ended well", ended == (0, "journal 3"), str(ended))
+server = Server(control="127.0.0.1:0")
+half = server.connect(20)
+half.sendall(head("Check"))
+until("a request is begun", lambda: server.stats()["connections"], 1)
+found, seconds = timed(stop_command, server)
+holds("`stop` returns once nobody is let in, though a request may still be made whole", found == (0, "stopping\n", "") and seconds < 8, f"{found} {seconds}")
+half.sendall(REQUEST)
+holds("which is answered", rest_of(half).endswith(OK))
+server.ended()
+
+server = Server("--report", f"/tmp/healthd-report-{os.getpid()}")
+found = stop_command(server, place=f"/tmp/healthd-report-{os.getpid()}")
+holds("`stop` at the report place is not allowed", found == (3, "not allowed\n", ""), str(found))
+freeze(server.process)
+found, seconds = timed(stop_command, server, "--timeout", "1")
+holds("a server that is frozen is waited for as long as it was told", found == (3, "", "healthd: timed out, the server may still stop\n"), str(found))
+measured("`stop --timeout 1` at a frozen server", seconds, 2)
+server.process.send_signal(signal.SIGCONT)
+# What was sent is answered once it goes on.
+holds("it stops once it goes on", server.process.wait(20) == 0)
+server.ended()
+
+
+class Stubborn:
+    """A control place that does the same with each session, and goes on."""
+
+    def __init__(self, serve):
+        self.folder = tempfile.mkdtemp(prefix="healthd-stubborn-")
+        self.control = f"{self.folder}/control"
+        self.listener = socket.socket(socket.AF_UNIX)
+        self.listener.bind(self.control)
+        self.listener.listen()
+        self.serve = serve
+        threading.Thread(target=self.run, daemon=True).start()
+
+    def run(self):
+        while True:
+            client, _ = self.listener.accept()
+            with client:
+                self.serve(client)
+
+
+def answering(answer, later=0):
+    """What answers a session, so many seconds later, and leaves it open."""
+    def serve(client):
+        time.sleep(later)
+        say_late(client, answer)
+        rest_of(client)
+
+    return serve
+
+
+def ending(client):
+    """Ends a session once it has read a line of it."""
+    client.makefile("rb").readline()
+
+
+def leaving(client):
+    """Ends a session whose line it has not read."""
+    client.recv(1, socket.MSG_PEEK)
+
+
+found, seconds = timed(stop_command, Stubborn(answering(b"stopping\n")), "--timeout", "1")
+holds("one that goes on listening is waited for as long as it was told",
+      found == (3, "stopping\n", "healthd: timed out, the server may still stop\n"), str(found))
+measured("`stop --timeout 1` at a server that goes on", seconds, 2)
+found = stop_command(Stubborn(answering(b"bad line\n")))[:2]
+holds("one that does not take the line is not waited for", found == (3, "bad line\n"), str(found))
+found, seconds = timed(stop_command, Stubborn(ending), "--timeout", "1")
+holds("one that ends the session without an answer may be stopping before, and is waited for",
+      found == (3, "", "healthd: timed out, the server may still stop\n"), str(found))
+measured("`stop --timeout 1` at a server that ends the session", seconds, 2)
+for does, serve, said in (("has too many sessions", answering(b"too many sessions\n"), "too many sessions"),
+                          ("answers HTTP", answering(b"HTTP/1.0 bad line\n"), "PLACE answers HTTP, and is no control place"),
+                          ("leaves without reading the line", leaving, "read PLACE: connection reset")):
+    server = Stubborn(serve)
+    found = stop_command(server)
+    holds(f"one that {does} is not waited for", found == (1, "", f"healthd: {said.replace('PLACE', server.control)}\n"), str(found))
+# The time is that of the answer and of the end together.
+found, seconds = timed(stop_command, Stubborn(answering(b"stopping\n", later=0.8)), "--timeout", "1")
+holds("one that answers late and goes on is given up", (found[0], found[2]) == (3, "healthd: timed out, the server may still stop\n"), str(found))
+measured("`stop --timeout 1` at a server that answers late", seconds, 1.5)

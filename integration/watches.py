@@ -84,7 +84,7 @@ holds("the Watch is told each registration and retirement that shows", watcher.t
 stopped(server, [watcher], 2 + 2 * TIMES)
 
 # As many Watches as may be open, at whichever loop, which `stats` counts.
-COUNTED = "entries 3 kept 3 connections 200 watches 200 sessions 1 calls 0 given_up 0 behind 0 gone 0 expired 0 left 9997"
+COUNTED = "entries 3 kept 3 connections 200 watches 200 sessions 1 calls 0 given_up 0 behind 0 gone 0 expired 0 left 9997 writable 1"
 THEN = "entries 3 kept 3 connections 0 watches 0 sessions 1 calls 200 given_up 0 behind 0"
 server = Server("--threads", "2", "--connections", "200", "--watches", "200", script=SCRIPT)
 watchers = [server.watcher() for _ in range(200)]
@@ -178,6 +178,8 @@ holds("it is told the first statuses, which its socket held, in their order, and
 until("it is counted as behind", counted, [KEPT, 1, 1, 1, 0, 1])
 with connect(server.plain) as asking:
     asking.sendall(b"GET /metrics HTTP/1.1\r\nhost: localhost\r\n\r\n")
-    holds("/metrics has it as behind", b"\nhealthd_behind_total 1\n" in rest_of(asking))
+    found = rest_of(asking)
+holds("/metrics has it as behind, and not as one that found no place",
+      b"\nhealthd_behind_total 1\n" in found and b"\nhealthd_watches_refused_total 0\n" in found, str(found))
 session.close()
 server.stop()

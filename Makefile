@@ -1,0 +1,13 @@
+# `make demo` shows healthd to whoever has not seen it; `make` proves and builds it. CONTRIBUTING.md has the rest.
+PREFIX = /usr/local
+INTEGRATION = yes
+BENCH = 3
+
+build: ; @scripts/build
+demo: ; @{ [ -x out/healthd ] || scripts/try; } && exec examples/demo/run
+try: ; @scripts/try
+check: ; @INTEGRATION='$(INTEGRATION)' scripts/check
+install: ; @DESTDIR='$(DESTDIR)' scripts/install '$(PREFIX)'
+package: ; @scripts/package
+bench: ; @HEALTHD='$(CURDIR)/out/healthd' integration/measure.py $(BENCH)
+.PHONY: build demo try check install package bench
