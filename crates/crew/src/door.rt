@@ -122,10 +122,11 @@ impl<'a, R: Wait, P: Probe, K: Keep> Door for HallDoor<'a, R, P, K> {
 }
 
 impl<'a, R: Wait, P: Probe, K: Keep> Registrar<P> for HallDoor<'a, R, P, K> {
-    ghost use Rattle.std.specs.Prelude.{◌≡◌, ◌-◌, ◌↔◌, Some, IfSome, IfOk, IsErr, IsTrue, IsFalse, length};
+    ghost use Rattle.std.specs.Prelude.{◌≡◌, ◌-◌, ◌↔◌, Some, IfSome, IfOk, IfErr, IsTrue, length};
     ghost use Rattle.std.specs.Option.{option_map};
     ghost use Rattle.desk_core.specs.Changes.{Shows};
     ghost use Rattle.desk_core.specs.Mutation.{rule_of};
+    ghost use Rattle.desk_core.specs.Refusal.{refused_effect};
     ghost use Rattle.desk_core.specs.Order.{IsListed};
     ghost use Rattle.crew.specs.HallDoor.{door_hall, door_seat, CarriesOut};
 
@@ -146,7 +147,7 @@ impl<'a, R: Wait, P: Probe, K: Keep> Registrar<P> for HallDoor<'a, R, P, K> {
         ensures answered { CarriesOut self.old self.new call result.result }
         ensures shows { IfOk result.result (λ reply.
             IsTrue result.shows ↔ Shows (door_seat self.new).seen) }
-        ensures refused { IsErr result.result → IsFalse result.shows }
+        ensures refused { IfErr result.result (λ refusal. result ≡ refused_effect refusal) }
         ensures placed { IfOk result.result (λ reply.
             result.at ≡ Some (length (door_seat self.new).seen - 1)) }
     {

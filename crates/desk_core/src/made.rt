@@ -41,11 +41,12 @@ impl<P: Probe> Made<P> {
 }
 
 impl Effect {
-    ghost use Rattle.std.specs.Prelude.{◌≡◌, Err, None, false};
+    ghost use Rattle.std.specs.Prelude.{◌≡◌};
+    ghost use Rattle.desk_core.specs.Refusal.{refused_effect};
 
-    /// A change that was refused, which shows nothing.
+    /// A change that was refused.
     pub fn of_refusal(refusal: Refusal) -> Effect
-        ensures { result ≡ record { result = Err refusal; shows = false; at = None } }
+        ensures { result ≡ refused_effect refusal }
     {
         Effect {
             result: Err(refusal),

@@ -14,7 +14,7 @@ use probe_core::Probe;
 /// `names` are those of its catalogue, `seen` is the history that it has seen, the newest entry first, and `answers` says how it comes
 /// out of a change with a reply or a refusal.
 pub trait Registrar<P: Probe> {
-    ghost use Rattle.std.specs.Prelude.{◌≡◌, ◌-◌, ◌↔◌, ℕ, List, Option, Result, Some, IfSome, IfOk, IsErr, IsTrue, IsFalse, length};
+    ghost use Rattle.std.specs.Prelude.{◌≡◌, ◌-◌, ◌↔◌, ℕ, List, Option, Result, Some, IfSome, IfOk, IfErr, IsTrue, length};
     ghost use Rattle.std.specs.Option.{option_map};
     ghost use Rattle.desk_core.specs.declared.call.Call.{Call};
     ghost use Rattle.desk_core.specs.declared.entry.Entry.{Entry};
@@ -22,6 +22,7 @@ pub trait Registrar<P: Probe> {
     ghost use Rattle.desk_core.specs.declared.reply.Reply.{Reply};
     ghost use Rattle.desk_core.specs.Changes.{Shows};
     ghost use Rattle.desk_core.specs.Mutation.{rule_of};
+    ghost use Rattle.desk_core.specs.Refusal.{refused_effect};
     ghost use Rattle.desk_core.specs.Order.{IsListed};
 
     ghost names: { Self → List (List ℕ) };
@@ -41,7 +42,7 @@ pub trait Registrar<P: Probe> {
         ensures answered { answers self.old self.new call result.result }
         ensures shows { IfOk result.result (λ reply.
             IsTrue result.shows ↔ Shows (seen self.new)) }
-        ensures refused { IsErr result.result → IsFalse result.shows }
+        ensures refused { IfErr result.result (λ refusal. result ≡ refused_effect refusal) }
         ensures placed { IfOk result.result (λ reply.
             result.at ≡ Some (length (seen self.new) - 1)) };
 }

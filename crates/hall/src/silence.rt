@@ -10,13 +10,14 @@ use std::sync::Wait;
 
 /// Each of these waits for the seat's turn.
 impl<P: Probe, K: Keep> Hall<P, K> {
-    ghost use Rattle.std.specs.Prelude.{◌≡◌, ◌↔◌, ◌++◌, ◌-◌, ◌<◌, Some, true, false, take, drop, length, IfSome, IfNone, IfOk, IsTrue, IsFalse};
+    ghost use Rattle.std.specs.Prelude.{◌≡◌, ◌↔◌, ◌++◌, ◌-◌, ◌<◌, Some, true, false, take, drop, length, IfSome, IfNone, IfOk, IfErr, IsTrue, IsFalse};
     ghost use Rattle.std.specs.Vec.{vec_len, vec_capacity};
     ghost use Rattle.desk_core.specs.declared.call.Call.TheVariants as calls;
     ghost use Rattle.desk_core.specs.declared.call.Finding.TheVariants.{Fail};
     ghost use Rattle.desk_core.specs.Changes.{Shows};
     ghost use Rattle.desk_core.specs.Past.{past};
     ghost use Rattle.desk_core.specs.Present.{rule_at};
+    ghost use Rattle.desk_core.specs.Refusal.{refused_effect};
     ghost use Rattle.desk_core.specs.Silence.{is_to_fail};
     ghost use Rattle.hall.specs.Seats.{GoesOn, IsCarriedOut, IsOf, own_calls};
     ghost use Rattle.hall.specs.Silence.{seen_before};
@@ -85,6 +86,8 @@ impl<P: Probe, K: Keep> Hall<P, K> {
             IsTrue effect.shows ↔ Shows seat.new.seen)) }
         ensures placed { IfSome result (λ effect. IfOk effect.result (λ reply.
             effect.at ≡ Some (length seat.new.seen - 1))) }
+        ensures refused { IfSome result (λ effect. IfErr effect.result (λ refusal.
+            effect ≡ refused_effect refusal)) }
     {
         let number = seat.number;
         let shared = &self.table.shared;

@@ -100,10 +100,11 @@ impl<P: Probe> Run<P> {
 }
 
 impl<P: Probe> Registrar<P> for Run<P> {
-    ghost use Rattle.std.specs.Prelude.{◌≡◌, ◌-◌, ◌↔◌, Some, IfSome, IfOk, IsErr, IsTrue, IsFalse, length};
+    ghost use Rattle.std.specs.Prelude.{◌≡◌, ◌-◌, ◌↔◌, Some, IfSome, IfOk, IfErr, IsTrue, length};
     ghost use Rattle.std.specs.Option.{option_map};
     ghost use Rattle.desk_core.specs.Changes.{Shows};
     ghost use Rattle.desk_core.specs.Mutation.{rule_of};
+    ghost use Rattle.desk_core.specs.Refusal.{refused_effect};
     ghost use Rattle.script.specs.Run.{IsChanged};
 
     ghost names = { λ run. run.names };
@@ -122,7 +123,7 @@ impl<P: Probe> Registrar<P> for Run<P> {
         ensures answered { IsChanged self.old self.new call result.result }
         ensures shows { IfOk result.result (λ reply.
             IsTrue result.shows ↔ Shows self.new.entries) }
-        ensures refused { IsErr result.result → IsFalse result.shows }
+        ensures refused { IfErr result.result (λ refusal. result ≡ refused_effect refusal) }
         ensures placed { IfOk result.result (λ reply.
             result.at ≡ Some (length self.new.entries - 1)) }
     {

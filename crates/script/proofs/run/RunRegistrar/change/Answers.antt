@@ -13,7 +13,7 @@ pub returns-in_default-clause-shows : goal.returns-in_default-clause-shows
 returns-in_default-clause-shows g c = rw c.of_refusal.ensures tt
 
 pub returns-in_default-clause-refused : goal.returns-in_default-clause-refused
-returns-in_default-clause-refused g c = rw c.of_refusal.ensures (λ is. refl)
+returns-in_default-clause-refused g c = rw c.of_refusal.ensures refl
 
 pub returns-in_default-clause-placed : goal.returns-in_default-clause-placed
 returns-in_default-clause-placed g c = rw c.of_refusal.ensures tt
@@ -35,7 +35,7 @@ pub returns-in-Ok-clause-shows : goal.returns-in-Ok-clause-shows
 returns-in-Ok-clause-shows g c = rw c.effect.ensures c.in-Ok.ensures.shows
 
 pub returns-in-Ok-clause-refused : goal.returns-in-Ok-clause-refused
-returns-in-Ok-clause-refused g c = rw c.effect.ensures (λ is. cc)
+returns-in-Ok-clause-refused g c = rw c.effect.ensures tt
 
 pub invariant_of-self-2 : goal.invariant_of-self-2
 invariant_of-self-2 g c = c.in-Err.ensures.answered.stored.same ∙ c.self.invariant
@@ -51,7 +51,7 @@ pub returns-clause-shows : goal.returns-clause-shows
 returns-clause-shows g c = rw c.of_refusal-in-Err.ensures tt
 
 pub returns-clause-refused : goal.returns-clause-refused
-returns-clause-refused g c = rw c.of_refusal-in-Err.ensures (λ is. refl)
+returns-clause-refused g c = rw c.of_refusal-in-Err.ensures refl
 
 pub returns-clause-placed : goal.returns-clause-placed
 returns-clause-placed g c = rw c.of_refusal-in-Err.ensures tt
