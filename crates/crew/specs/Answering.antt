@@ -79,7 +79,7 @@ pub record IsUnread {D : Type 0} (old new : Moment D) (fault : ExchangeFault) : 
 -- an allocation failed for the head, the body or the response, and nothing was written
 pub record IsStarved {R P K : Type 0} (old new : Moment (HallDoor R P K)) (fault : ExchangeFault) : Type 0 where
   pub frames : fault.frames ≡ 0
-  pub starves : Starves seen_by IsOlder old.door new.door old.input.bytes new.input.bytes
+  pub starves : Starves false seen_by IsOlder old.door new.door old.input.bytes new.input.bytes
   pub output : new.output ≡ old.output
   pub bell : new.bell ≡ old.bell
   pub reads : new.input.failed ≡ old.input.failed

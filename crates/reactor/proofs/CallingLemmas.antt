@@ -15,15 +15,14 @@ use Rattle.web_call.specs.declared.intake.Reading.TheVariants as readings
 use Rattle.web_call.specs.declared.outcome.Outcome.{Outcome}
 use Rattle.web_call.specs.declared.outcome.Outcome.TheVariants.{Behind, Watched}
 use Rattle.web_call.specs.Answer.{Source}
-use Rattle.web_call.specs.declared.outgoing.Outgoing.{Outgoing}
-use Rattle.web_call.specs.Past.{Carries, CarriesFor, Past, StandsAt, with_asked, with_received, with_sent}
+use Rattle.web_call.specs.Past.{Carries, CarriesFor, Past, with_asked, with_received, with_sent}
 use Rattle.web_call.specs.Reading as reading
 use Rattle.web_call.specs.Stages.{answers, asks, ending_of, ends_watch, ends_with, is_answered, is_open, is_starved, is_watching, is_whole, may_ask, opens, starves, waits, watches}
 use Rattle.web_call.specs.Walk.{AsksDoor}
 use Rattle.web_call.proofs.WalkLemmas.{AsksDoor-none}
 use Rattle.reactor.specs.Calling.{DoorHasServed, HasTaken, IsFrom, IsNotEnded, ahead, taken_by}
 use Rattle.reactor.specs.CallingLaws.{stands_as, taken_none}
-use Rattle.reactor.specs.Moved.{Moved, only_read, only_sent, only_stepped}
+use Rattle.reactor.specs.Moved.{only_read, only_sent, only_stepped}
 
 none_some : {X : Type 0} (outcome : Outcome) → None ≡ Some outcome → X
 none_some outcome e = absurd (grind (arith, ap is_some e))
@@ -202,66 +201,38 @@ was_sent call call_now bytes carries ending watching reads = record {
   lasts = λ messages is. sym ending ∙ is;
 }
 
--- what nothing is answered of yet stands over any source
-stands_anywhere : (source other : Source) (past : Past) (stage : CallStage) (outgoing : Outgoing) → answers stage ≡ false → StandsAt source past stage outgoing
-    → StandsAt other past stage outgoing
-stands_anywhere source other past (stages.Reading intake) outgoing none stands = stands
-stands_anywhere source other past (stages.Watching watch) outgoing none stands = absurd (true≢false none)
-stands_anywhere source other past (stages.Ending outcome) outgoing none stands = absurd (true≢false none)
-stands_anywhere source other past stages.Starved outgoing none stands = stands
-
-whole_is_unanswered : (stage : CallStage) → waits stage ≡ true → answers stage ≡ false
-whole_is_unanswered (stages.Reading intake) is = refl
-whole_is_unanswered (stages.Watching watch) is = absurd (true≢false (sym is))
-whole_is_unanswered (stages.Ending outcome) is = absurd (true≢false (sym is))
-whole_is_unanswered stages.Starved is = absurd (true≢false (sym is))
-
-starved_is_unanswered : (stage : CallStage) → starves stage ≡ true → answers stage ≡ false
-starved_is_unanswered (stages.Reading intake) is = refl
-starved_is_unanswered (stages.Watching watch) is = absurd (true≢false (sym is))
-starved_is_unanswered (stages.Ending outcome) is = absurd (true≢false (sym is))
-starved_is_unanswered stages.Starved is = refl
-
-carries_anywhere : (source other : Source) (call call_now : Call) (more : Past → Past) → answers call.stage ≡ false → answers call_now.stage ≡ false
-    → CarriesFor source call call_now more → CarriesFor other call call_now more
-carries_anywhere source other call call_now more before after carries past stands =
-    stands_anywhere source other (more past) call_now.stage call_now.outgoing after
-    (carries past (stands_anywhere other source past call.stage call.outgoing before stands))
-
--- what carries a call over its source, and over any where no step was taken, carries it over whatever source it is from
-carries_from : (source other : Source) (call call_now : Call) (more : Past → Past) (moved : Moved) → CarriesFor source call call_now more
-    → (moved.steps ≡ [] → (any : Source) → CarriesFor any call call_now more) → IsFrom source other moved → CarriesFor other call call_now more
-carries_from source other call call_now more moved ours anywhere (inl same) = subst (λ s. CarriesFor s call call_now more) (sym same) ours
-carries_from source other call call_now more moved ours anywhere (inr none) = anywhere none other
-
-pub one_step : (from source : Source) → from ≡ source → All (λ step. step ≡ source) (from ∷ [])
+one_step : (from source : Source) → from ≡ source → All (λ step. step ≡ source) (from ∷ [])
 one_step from source same = All-cons (λ step. step ≡ source) from [] same (All-nil (λ step. step ≡ source))
 
-pub no_step : {X : Type 0} (from : Source) → from ∷ [] ≡ [] → X
-no_step from none = absurd (omega (arith, ap length none))
+-- what a step carries over its source it carries over each source that the step is from
+carries_from : (source other from : Source) (call call_now : Call) (more : Past → Past)
+    → CarriesFor source call call_now more → IsFrom source other (only_stepped from)
+    → CarriesFor other call call_now more
+carries_from source other from call call_now more carries (inl same) =
+    subst (λ s. CarriesFor s call call_now more) (sym same) carries
+carries_from source other from call call_now more carries (inr none) =
+    absurd (omega (arith, ap length none))
 
 module _ {D : Type 0} {source : Source} {seen : D → List Entry} {names : D → List (List ℕ)} {follows : List Entry → List Entry → Type 0} {stays : D → D → Type 0} where
   -- a door was asked for a call
-  served_asked : (turn : Turn) (steps : List Source) {door door_now : D} {call call_now : Call} {asked : List (List Entry)} → AsksDoor seen follows door door_now asked
-      → CarriesFor source call call_now (with_asked asked) → (steps ≡ [] → (any : Source) → CarriesFor any call call_now (with_asked asked))
-      → All (λ step. step ≡ source) steps → names door_now ≡ names door → stays door door_now
+  served_asked : (turn : Turn) (from : Source) → from ≡ source → {door door_now : D} {call call_now : Call} {asked : List (List Entry)} → AsksDoor seen follows door door_now asked
+      → CarriesFor source call call_now (with_asked asked) → names door_now ≡ names door → stays door door_now
       → (turn ≡ End → length asked + may_ask call_now ≤ may_ask call) → (turn ≡ Look → IsNotEnded call call_now) → is_open call_now ≡ false
-      → length steps + ahead call_now ≤ length asked + ahead call
-      → DoorHasServed source seen names follows stays turn door door_now call call_now (record { read = []; behind = 0; sent = []; steps = steps; ends = 0 }) asked
-  served_asked turn steps {call = call} {call_now = call_now} {asked = asked} asks carries anywhere by same_names same_door once lasts shut made = record {
+      → 1 + ahead call_now ≤ length asked + ahead call
+      → DoorHasServed source seen names follows stays turn door door_now call call_now (only_stepped from) asked
+  served_asked turn from same {call = call} {call_now = call_now} {asked = asked} asks carries same_names same_door once lasts shut made = record {
     has_grown = record {
       received = [];
       behind = [];
       is_read = refl;
       is_behind = refl;
-      carries = λ other from past h. stands_as other call_now past.received (past.received ++ []) past.sent (past.sent ++ []) (past.asked ++ asked) (past.asked ++ asked)
-          (sym (append-nil past.received)) (sym (append-nil past.sent)) refl
-          (carries_from source other call call_now (with_asked asked) (record { read = []; behind = 0; sent = []; steps = steps; ends = 0 }) carries anywhere from past h);
+      carries = λ other is past h. stands_as other call_now past.received (past.received ++ []) past.sent (past.sent ++ []) (past.asked ++ asked) (past.asked ++ asked)
+          (sym (append-nil past.received)) (sym (append-nil past.sent)) refl (carries_from source other from call call_now (with_asked asked) carries is past h);
       whole = λ some. absurd (omega (arith, some));
       no_end = refl;
       closed = λ is. (refl, refl, shut);
     };
-    by = by;
+    by = one_step from source same;
     asks = asks;
     same_names = same_names;
     same_door = same_door;
@@ -271,18 +242,15 @@ module _ {D : Type 0} {source : Source} {seen : D → List Entry} {names : D →
   }
 
   -- it was asked for the request
-  pub was_answered : (turn : Turn) (steps : List Source) → length steps ≤ 1 → All (λ step. step ≡ source) steps → {door door_now : D} {call call_now : Call}
-      → (steps ≡ [] → is_starved call_now ≡ true) → is_whole call ≡ true → (asked : List (List Entry)) → length asked ≤ 1
+  pub was_answered : (turn : Turn) (from : Source) → from ≡ source → {door door_now : D} {call call_now : Call} → is_whole call ≡ true → (asked : List (List Entry)) → length asked ≤ 1
       → AsksDoor seen follows door door_now asked → CarriesFor source call call_now (with_asked asked) → names door_now ≡ names door → stays door door_now
       → is_answered call_now ≡ not (is_starved call_now) → ends_watch (ending_of call_now) ≡ false
-      → DoorHasServed source seen names follows stays turn door door_now call call_now (record { read = []; behind = 0; sent = []; steps = steps; ends = 0 }) asked
-  was_answered turn steps one by {call = call} {call_now = call_now} starved whole asked few asks carries same_names same_door ready no_end =
+      → DoorHasServed source seen names follows stays turn door door_now call call_now (only_stepped from) asked
+  was_answered turn from same {call = call} {call_now = call_now} whole asked few asks carries same_names same_door ready no_end =
       let over = by_end (is_starved call_now) refl in
-      served_asked turn steps asks carries
-      (λ none any. carries_anywhere source any call call_now (with_asked asked) (whole_is_unanswered call.stage whole) (starved_is_unanswered call_now.stage (starved none)) carries)
-      by same_names same_door (λ ends. omega (arith, few, over.0, (whole_may_ask call.stage whole).0))
+      served_asked turn from same asks carries same_names same_door (λ ends. omega (arith, few, over.0, (whole_may_ask call.stage whole).0))
       (λ looks messages is. absurd (true≢false (sym (ap ends_watch is) ∙ no_end))) over.1
-      (omega (arith, one, over.0, (whole_may_ask call.stage whole).0, one_at_most (is_watching call_now)))
+      (omega (arith, over.0, (whole_may_ask call.stage whole).0, one_at_most (is_watching call_now)))
     where
       by_end : (s : Bool) → is_starved call_now ≡ s → (may_ask call_now ≡ 0) × (is_open call_now ≡ false)
       by_end true s = (starved_asks_no_more call_now.stage s, starved_is_closed call_now.stage s)
@@ -294,7 +262,7 @@ module _ {D : Type 0} {source : Source} {seen : D → List Entry} {names : D →
       → (is_watching call_now ≡ false → (messages : ℕ) × (ending_of call_now ≡ Some (Behind messages))) → length asked ≡ 1
       → DoorHasServed source seen names follows stays Look door door_now call call_now (only_stepped from) asked
   has_looked from same {call = call} {call_now = call_now} {asked = asked} watching asks carries same_names same_door is behind single =
-      served_asked Look (from ∷ []) asks carries (λ none. no_step from none) (one_step from source same) same_names same_door (λ ends. absurd (look_is_no_end ends))
+      served_asked Look from same asks carries same_names same_door (λ ends. absurd (look_is_no_end ends))
       (λ looks. by_watching (is_watching call_now) refl)
       (answered_is_closed call_now.stage is)
       (omega (arith, single, answered_asks_no_more call_now.stage is, one_at_most (is_watching call_now), ap from_bool watching))
@@ -314,8 +282,8 @@ module _ {D : Type 0} {source : Source} {seen : D → List Entry} {names : D →
       → (messages : ℕ) × (ending_of call_now ≡ Some (Watched messages))
       → DoorHasServed source seen names follows stays End door door call call_now (only_stepped from) []
   has_ended from same {call = call} {call_now = call_now} watching carries kept is ending =
-      served_asked End (from ∷ []) AsksDoor-none (λ past h. stands_as source call_now past.received past.received past.sent past.sent past.asked (past.asked ++ []) refl refl
-      (sym (append-nil past.asked)) (carries source past h)) (λ none. no_step from none) (one_step from source same) refl kept
+      served_asked End from same AsksDoor-none (λ past h. stands_as source call_now past.received past.received past.sent past.sent past.asked (past.asked ++ []) refl refl
+      (sym (append-nil past.asked)) (carries source past h)) refl kept
       (λ ends. omega (arith, answered_asks_no_more call_now.stage is)) (λ looks. absurd (end_is_no_look looks))
       (answered_is_closed call_now.stage is)
       (omega (arith, answered_asks_no_more call_now.stage is, ap from_bool watching, ap from_bool (ending_watches_none call_now.stage (Watched ending.0) ending.1)))

@@ -65,7 +65,8 @@ pub record DoorHasServed {D : Type 0} (source : Source) (seen : D → List Entry
   pub same_names : names door_now ≡ names door
   pub same_door : stays door door_now
   pub once : turn ≡ End → length asked + may_ask call_now ≤ may_ask call
-  -- each step has answered the request, or asked the door, or ended the Watch
+  -- each step has answered the request, or found no memory for that, or asked the door, or ended the
+  -- Watch
   pub made : length moved.steps + ahead call_now ≤ length asked + ahead call
   pub lasts : turn ≡ Look → IsNotEnded call call_now
 

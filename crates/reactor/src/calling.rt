@@ -110,15 +110,13 @@ impl<D: Door> Host<Call> for D {
 
     ghost spans = { λ a b m n x. IsTransitive D.follows → (asked : List (List Entry)) × HasSpanned (source_of (D.names a) D.kept D.is_plain) D.seen D.names D.follows a b m n x asked };
 
+    /// A call that starves as it is answered has gone on by that; the next step says that it starved.
     fn step(&mut self, alloc: Global, call: &mut Call, then: Turn) -> Step {
         if call.wanted() > 0 {
             return Step::Wants;
         }
         if call.is_whole() {
             call.answer(alloc, self);
-            if call.is_starved() {
-                return Step::Starved;
-            }
             return Step::Went;
         }
         if call.is_starved() {

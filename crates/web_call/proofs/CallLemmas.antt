@@ -1,5 +1,5 @@
 -- How a call stands after a step.
-use Rattle.std.proofs.Common.{◌≡◌, ◌≤◌, ◌⊎◌, ℕ, Option, Some, None, false, List, [], ◌∷◌, ◌++◌, length, flat_map, refl, ap, sym, ◌∙◌, subst, true, append-nil, inl, inr, arith}
+use Rattle.std.proofs.Common.{◌≡◌, ◌≤◌, ◌⊎◌, ℕ, Bool, Option, Some, None, false, List, [], ◌∷◌, ◌++◌, length, flat_map, refl, ap, sym, ◌∙◌, subst, true, append-nil, inl, inr, arith}
 use Rattle.std.specs.Fmt.{digits}
 use Rattle.grpc_frame.specs.declared.code.Code.{Code}
 use Rattle.health_wire.specs.declared.serving.Serving.{Serving}
@@ -9,6 +9,8 @@ use Rattle.desk_core.specs.Catalogue.{slot_of}
 use Rattle.desk_core.specs.Changes.{changes_of}
 use Rattle.desk_core.specs.Status.{shown, status_map}
 use Rattle.desk_core.specs.Watch.{IsBehind, WatchState, answer_of, opened, stepped, told}
+use Rattle.plain.specs.Answer.{IsInquiryOf}
+use Rattle.plain.specs.Inquiry.{Asked as AskedPlainly}
 use Rattle.web_call.specs.declared.call.Call.{Call}
 use Rattle.web_call.specs.declared.call.CallStage.{CallStage}
 use Rattle.web_call.specs.declared.call.CallStage.TheVariants.{Reading, Watching, Ending, Starved}
@@ -21,10 +23,11 @@ use Rattle.web_call.specs.declared.outcome.Outcome.TheVariants.{Status, Watched,
 use Rattle.web_call.specs.declared.outgoing.Outgoing.{Outgoing}
 use Rattle.web_call.specs.declared.text.Text.{Text}
 use Rattle.web_call.specs.Answer.{Asking, Asks, IsOfCall, IsWatch, Sends, Source, Tells, IsStarvedAt, check_code, told_pieces}
+use Rattle.web_call.specs.Answer.IsStarvedAt.{Plain as StarvedPlain}
 use Rattle.web_call.specs.Answer.Sends.{Check, WatchBehind, WatchEnd}
 use Rattle.web_call.specs.Answer.Tells.{First, Step}
 use Rattle.web_call.specs.Ask.{Asked as WhatIsAsked, IsAsked, Checked, Watched as WatchesName}
-use Rattle.web_call.specs.Head.{IsHeaded}
+use Rattle.web_call.specs.Head.{IsHeaded, is_too_large}
 use Rattle.web_call.specs.HeadAnswer.{HeadAnswer, Asked}
 use Rattle.web_call.specs.InputHead.{IsHead}
 use Rattle.web_call.specs.Intake.{HasHead, HasRead, body_len}
@@ -38,7 +41,7 @@ use Rattle.web_call.specs.Text.{text_bytes, IsTextOf}
 use Rattle.web_call.specs.ResponseTexts.{check_pieces, crlf, message_chunk, message_frame, watch_end, watch_head_text}
 use Rattle.web_call.specs.Walk.{told_by, watch_after}
 use Rattle.desk_core.proofs.WatchLemmas.{step_tells}
-use Rattle.web_call.proofs.HeadLemmas.{one_answer}
+use Rattle.web_call.proofs.HeadLemmas.{one_answer, plain_asks_no_body}
 use Rattle.web_call.proofs.OutgoingLemmas.{all_sent, frames_sent, frames_whole}
 use Rattle.web_call.proofs.PieceLemmas.{frames_of}
 use Rattle.web_call.proofs.WalkLemmas.{KeepsUp-snoc, frames_of-told, tells_all, watch_after-snoc}
@@ -192,7 +195,7 @@ left_behind source past watch old new next messages behind none count goes s =
 
 -- a call that ends with this text, or for which an allocation failed
 pub ends : (source : Source) (received head body : List ℕ) (asked : List (List Entry)) (part : List Piece) (outcome : Outcome) (call : Call)
-    → IsRequested head body received → Sends (record { source = source; asked = asked; head = head; body = body }) [] part (Some outcome) → IsStarvedAt asked received
+    → IsRequested head body received → Sends (record { source = source; asked = asked; head = head; body = body }) [] part (Some outcome) → IsStarvedAt source.is_plain asked received
     → ((call.stage ≡ Ending outcome) × GoesOut call.outgoing [] part []) ⊎ ((call.stage ≡ Starved) × GoesOut call.outgoing [] [] [])
     → Stands source (record { received = received; sent = []; asked = asked }) call
 ends source received head body asked part outcome call requested sends starved (inl (is, goes)) =
@@ -203,11 +206,19 @@ ends source received head body asked part outcome call requested sends starved (
     (record { silent = record { none_sent = refl; goes_out = goes }; starved = starved })
 
 -- a call for which an allocation failed
-pub starves_so : (source : Source) (received : List ℕ) (asked : List (List Entry)) (call : Call) → IsStarvedAt asked received → call.stage ≡ Starved
+pub starves_so : (source : Source) (received : List ℕ) (asked : List (List Entry)) (call : Call) → IsStarvedAt source.is_plain asked received → call.stage ≡ Starved
     → GoesOut call.outgoing [] [] [] → Stands source (record { received = received; sent = []; asked = asked }) call
 starves_so source received asked call starved is goes =
     subst (λ stage. StandsAt source (record { received = received; sent = []; asked = asked }) stage call.outgoing) (sym is)
     (record { silent = record { none_sent = refl; goes_out = goes }; starved = starved })
+
+-- a plain request for whose answer an allocation failed
+pub starves_plainly : {is_plain : Bool} (head received : List ℕ) (what : AskedPlainly) (seen : List Entry)
+    → is_plain ≡ true → IsRequested head [] received → is_too_large head ≡ false → IsInquiryOf head what
+    → IsStarvedAt is_plain (seen ∷ []) received
+starves_plainly {is_plain} head received what seen answers requested within asked =
+    subst (λ bytes. IsStarvedAt is_plain (seen ∷ []) bytes) (sym (requested.is ∙ append-nil head))
+    (StarvedPlain what seen answers requested.is_head within asked refl)
 
 -- a call that was not answered before
 pub answers_first : (source : Source) (past : Past) (intake : Intake) (outgoing : Outgoing) (asked : List (List Entry)) (call : Call)
@@ -280,6 +291,17 @@ no_body past intake outgoing answer whole none reads headed =
     nothing : (bytes : List ℕ) → length bytes ≡ 0 → bytes ≡ []
     nothing [] is = refl
     nothing (x ∷ bytes) is = absurd (omega (arith, is))
+
+-- a whole request that is plain
+pub plain_alone : (past : Past) (intake : Intake) (outgoing : Outgoing) (what : AskedPlainly)
+    → is_whole intake.reading ≡ true → IsReading past intake outgoing
+    → is_too_large intake.head.items ≡ false → IsInquiryOf intake.head.items what
+    → IsRequested intake.head.items [] past.received
+plain_alone past intake outgoing what whole reads within asked =
+    let bytes = intake.head.items in
+    let head = whole_head intake.reading bytes intake.body.items whole reads.has_read.read in
+    let none = plain_asks_no_body bytes what head.answer within asked head.is_headed in
+    (no_body past intake outgoing head.answer whole none reads head.is_headed).1
 
 -- a chunk has bytes
 has_bytes : {X : Type 0} (front back : List ℕ) → (front ++ crlf) ++ back ≡ [] → X

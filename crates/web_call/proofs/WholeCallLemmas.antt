@@ -1,5 +1,5 @@
 -- What a call has sent for what it was given, by how it stands.
-use Rattle.std.proofs.Common.{◌≡◌, ◌+◌, ◌<◌, ℕ, Option, true, false, nat_eq, if◌then◌else◌, Some, None, List, [], ◌∷◌, ◌++◌, length, refl, ap, sym}
+use Rattle.std.proofs.Common.{◌≡◌, ◌+◌, ◌<◌, ℕ, Bool, Option, true, false, nat_eq, if◌then◌else◌, Some, None, List, [], ◌∷◌, ◌++◌, length, refl, ap, sym}
 use Rattle.std.proofs.Common.{◌∙◌, subst, append-nil, inl, inr, is_some, ◌⊎◌, arith, rules}
 use Rattle.std.specs.Io.KnownBytes.{Appends}
 use Rattle.desk_core.specs.declared.entry.Entry.{Entry}
@@ -55,8 +55,8 @@ pub read_cut : (source : Source) (past : Past) (call : Call) → is_open call �
 read_cut source past call o h = cut_at source past call.stage call.outgoing o h
 
 -- a call for which an allocation failed
-starved_read : (r : HowFar) (head body bytes : List ℕ) (asked : List (List Entry)) → reading.starves r ≡ true → bytes ≡ head ++ body → AreRead r head body → asked ≡ []
-    → IsStarvedAt asked bytes
+starved_read : {is_plain : Bool} (r : HowFar) (head body bytes : List ℕ) (asked : List (List Entry)) → reading.starves r ≡ true → bytes ≡ head ++ body → AreRead r head body → asked ≡ []
+    → IsStarvedAt is_plain asked bytes
 starved_read readings.Head head body bytes asked s is read none = absurd (grind arith)
 starved_read (readings.Body left) head body bytes asked s is read none = absurd (grind arith)
 starved_read readings.Whole head body bytes asked s is read none = absurd (grind arith)
@@ -64,13 +64,13 @@ starved_read readings.Starved head body bytes asked s is read none =
     Head (subst IsHead (sym (is ∙ ap (λ rest. head ++ rest) read.1 ∙ append-nil head)) read.0.1.is_head) none
 
 starved_stage : (source : Source) (past : Past) (stage : CallStage) (outgoing : Outgoing) → starves stage ≡ true → StandsAt source past stage outgoing
-    → IsStarvedAt past.asked past.received
+    → IsStarvedAt source.is_plain past.asked past.received
 starved_stage source past (Reading intake) outgoing s h = starved_read intake.reading intake.head.items intake.body.items past.received past.asked s h.has_read.is h.has_read.read h.none_asked
 starved_stage source past (Watching watch) outgoing s h = absurd (grind arith)
 starved_stage source past (Ending outcome) outgoing s h = absurd (grind arith)
 starved_stage source past Starved outgoing s h = h.starved
 
-pub starved_at : (source : Source) (past : Past) (call : Call) → is_starved call ≡ true → Stands source past call → IsStarvedAt past.asked past.received
+pub starved_at : (source : Source) (past : Past) (call : Call) → is_starved call ≡ true → Stands source past call → IsStarvedAt source.is_plain past.asked past.received
 starved_at source past call s h = starved_stage source past call.stage call.outgoing s h
 
 -- a call that has ended

@@ -87,8 +87,9 @@ pub data Sends (asking : Asking) : List Piece → List Piece → Option Outcome 
       → Sends asking [] (refusal_pieces http) (Some (Http http))
   EndedByHead : (code : Code) (text : List ℕ) → IsOfCall asking.source.is_plain asking.head → IsHeaded asking.head (Ended code text) → asking.body ≡ [] → asking.asked ≡ []
       → Sends asking [] (status_pieces code text) (Some (Status code))
-  -- a plain request gets its text, from the one history that was asked
-  ToldPlainly : (seen : List Entry) (text : List ℕ) → IsPlainly asking.source seen asking.head text → asking.asked ≡ seen ∷ []
+  -- a plain request, which has no body, gets its text, from the one history that was asked
+  ToldPlainly : (seen : List Entry) (text : List ℕ) → IsPlainly asking.source seen asking.head text
+      → asking.body ≡ [] → asking.asked ≡ seen ∷ []
       → Sends asking [] (plain text ∷ []) (Some Plainly)
   -- a body that is refused gets its status, and nobody is asked
   RefusedByBody : (code : Code) (text : List ℕ) → Asks asking (RefusesBody code text) → asking.asked ≡ []
@@ -117,14 +118,18 @@ pub record IsAnswered (asking : Asking) (pieces : List Piece) (outcome : Outcome
   pub all : pieces ≡ done ++ part
   pub sends : Sends asking done part (Some outcome)
 
--- an allocation failed after these bytes of a request, for its body or for the answer. A Watch allocates nothing for its answer
-pub data IsStarvedAt (asked : List (List Entry)) (bytes : List ℕ) : Type 0 where
+-- an allocation failed after these bytes of a request, for its body or for the answer. The flag says
+-- whether plain requests are answered. A Watch allocates nothing for its answer
+pub data IsStarvedAt (is_plain : Bool) (asked : List (List Entry)) (bytes : List ℕ) : Type 0 where
   -- the bytes are a head
-  Head : IsHead bytes → asked ≡ [] → IsStarvedAt asked bytes
+  Head : IsHead bytes → asked ≡ [] → IsStarvedAt is_plain asked bytes
   Refusal : (head body : List ℕ) (method : Method) (code : Code) (text : List ℕ) → bytes ≡ head ++ body → IsHead head
-      → IsHeaded head (Asked method (length body)) → IsAsked method body (RefusesBody code text) → asked ≡ [] → IsStarvedAt asked bytes
+      → IsHeaded head (Asked method (length body)) → IsAsked method body (RefusesBody code text)
+      → asked ≡ [] → IsStarvedAt is_plain asked bytes
   Check : (head body : List ℕ) (method : Method) (name : List ℕ) (seen : List Entry) → bytes ≡ head ++ body → IsHead head
-      → IsHeaded head (Asked method (length body)) → IsAsked method body (ChecksName name) → asked ≡ seen ∷ [] → IsStarvedAt asked bytes
-  -- a plain request, which asks once
-  Plain : (head body : List ℕ) (what : AskedPlainly) (seen : List Entry) → bytes ≡ head ++ body → IsHead head → is_too_large head ≡ false → IsInquiryOf head what
-      → asked ≡ seen ∷ [] → IsStarvedAt asked bytes
+      → IsHeaded head (Asked method (length body)) → IsAsked method body (ChecksName name)
+      → asked ≡ seen ∷ [] → IsStarvedAt is_plain asked bytes
+  -- the bytes are the head of a plain request, which asks once, where such requests are answered
+  Plain : (what : AskedPlainly) (seen : List Entry) → is_plain ≡ true → IsHead bytes
+      → is_too_large bytes ≡ false → IsInquiryOf bytes what → asked ≡ seen ∷ []
+      → IsStarvedAt is_plain asked bytes

@@ -40,11 +40,13 @@ pub record ReadsCut (input input_now : Option (List ℕ)) : Type 0 where
   pub is_cut : IsCutRequest bytes
   pub has_read : Consumes input input_now bytes
 
--- an allocation failed: the first, before anything was read and anyone was asked, or one for these bytes of a request
-pub record Starves {D : Type 0} (seen : D → List Entry) (follows : List Entry → List Entry → Type 0) (door door_after : D)
+-- an allocation failed: the first, before anything was read and anyone was asked, or one for these
+-- bytes of a request. The flag says whether plain requests are answered
+pub record Starves {D : Type 0} (is_plain : Bool) (seen : D → List Entry)
+    (follows : List Entry → List Entry → Type 0) (door door_after : D)
     (input input_now : Option (List ℕ)) : Type 0 where
   pub bytes : List ℕ
   pub asked : List (List Entry)
-  pub at : ((bytes ≡ []) × (asked ≡ [])) ⊎ IsStarvedAt asked bytes
+  pub at : ((bytes ≡ []) × (asked ≡ [])) ⊎ IsStarvedAt is_plain asked bytes
   pub asks : AsksDoor seen follows door door_after asked
   pub has_read : Consumes input input_now bytes

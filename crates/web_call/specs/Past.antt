@@ -1,5 +1,5 @@
 -- What has happened to a call so far, and how it stands then. It is not stored: each step says what it makes of every past.
-use Rattle.std.specs.Prelude.{ℕ, ◌≡◌, Some, List, [], ◌∷◌, ◌++◌}
+use Rattle.std.specs.Prelude.{ℕ, ◌≡◌, Bool, Some, List, [], ◌∷◌, ◌++◌}
 use Rattle.desk_core.specs.declared.entry.Entry.{Entry}
 use Rattle.desk_core.specs.declared.watch.Watch.{Watch}
 use Rattle.desk_core.specs.Catalogue.{slot_of}
@@ -79,16 +79,16 @@ pub record IsReading (past : Past) (intake : Intake) (outgoing : Outgoing) : Typ
   pub none_asked : past.asked ≡ []
   pub has_read : HasRead intake past.received
 
--- the allocation for the answer failed
-pub record HasStarved (past : Past) (outgoing : Outgoing) : Type 0 where
+-- the allocation for the answer failed. The flag says whether plain requests are answered
+pub record HasStarved (is_plain : Bool) (past : Past) (outgoing : Outgoing) : Type 0 where
   pub silent : IsSilent outgoing past.sent
-  pub starved : IsStarvedAt past.asked past.received
+  pub starved : IsStarvedAt is_plain past.asked past.received
 
 abbrev pub StandsAt : Source → Past → CallStage → Outgoing → Type 0
 StandsAt source past (Reading intake) outgoing = IsReading past intake outgoing
 StandsAt source past (Watching watch) outgoing = IsSending source past (Watching watch) outgoing
 StandsAt source past (Ending outcome) outgoing = IsSending source past (Ending outcome) outgoing
-StandsAt source past Starved outgoing = HasStarved past outgoing
+StandsAt source past Starved outgoing = HasStarved source.is_plain past outgoing
 
 -- with this past the call stands so, over a door with this source
 abbrev pub Stands : Source → Past → Call → Type 0

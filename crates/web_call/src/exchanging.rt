@@ -224,7 +224,7 @@ pub fn exchange<R: Read, W: Write, D: Door, B: Bell>(
 
     // Memory was wanted for the head, before anything was read, for the body or for the response, and nothing was written.
     ensures no_memory { IfErr result (λ fault. fault.why ≡ Why.NoMemory → (fault.frames ≡ 0)
-        × Starves D.seen D.follows door.old door.new
+        × Starves D.is_plain D.seen D.follows door.old door.new
         (R.remaining (tap_inner reader.old)) (R.remaining (tap_inner reader.new))
         × (writer.new ≡ writer.old) × (bell.new ≡ bell.old)
         × (tap_failed reader.new ≡ tap_failed reader.old)) }

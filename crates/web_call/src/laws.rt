@@ -33,7 +33,7 @@ pub fn whole_calls()
     ensures waiting { (source : Source) (past : Past) (call : Call) → Stands source past call
         → is_whole call ≡ true → IsWholeRequest past }
     ensures starved { (source : Source) (past : Past) (call : Call) → Stands source past call
-        → is_starved call ≡ true → IsStarvedAt past.asked past.received }
+        → is_starved call ≡ true → IsStarvedAt source.is_plain past.asked past.received }
     ensures turns { (call : Call) → (is_open call ≡ true) ⊎ (is_whole call ≡ true)
         ⊎ (is_watching call ≡ true)
         ⊎ (is_starved call ≡ true) ⊎ (is_some (ending_of call) ≡ true) }

@@ -118,8 +118,8 @@ fn plain_of<'a, D: Door>(door: &D, head: &'a [u8]) -> Option<Inquiry<'a>>
 fn answer_plainly<D: Door>(alloc: Global, door: &mut D, inquiry: &Inquiry<'_>) -> Call
     requires { D.is_plain ≡ true }
     ensures asks { AsksDoor D.seen D.follows door.old door.new (D.seen door.new ∷ []) }
-    ensures stands { (head body received : List ℕ) → IsInquiryOf head (asked_of inquiry.now)
-        → is_too_large head ≡ false → IsRequested head body received
+    ensures stands { (head received : List ℕ) → IsInquiryOf head (asked_of inquiry.now)
+        → is_too_large head ≡ false → IsRequested head [] received
         → Stands (source_of (D.names door.old) D.kept D.is_plain)
         (record { received = received; sent = []; asked = D.seen door.new ∷ [] }) result }
     ensures ready { is_answered result ≡ not (is_starved result) }

@@ -53,7 +53,7 @@ returns-then-is_starved-clause-no_memory g c = λ _.
     let a = c.reply.ensures.asked in
     let source : Source = record { names = g.D.Door.names c.args.door.now; kept = g.D.Door.kept; is_plain = g.D.Door.is_plain } in
     let past = with_asked a.0 (with_received r.0 begun) in
-    let starves : Starves g.D.Door.seen g.D.Door.follows c.args.door.now c.reply.new.door (g.R.Read.remaining (tap_inner c.args.reader.now))
+    let starves : Starves g.D.Door.is_plain g.D.Door.seen g.D.Door.follows c.args.door.now c.reply.new.door (g.R.Read.remaining (tap_inner c.args.reader.now))
     (g.R.Read.remaining (tap_inner c.receive.new.reader)) = record {
       bytes = r.0;
       asked = a.0;

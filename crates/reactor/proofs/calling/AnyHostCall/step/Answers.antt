@@ -1,8 +1,7 @@
-use Rattle.std.proofs.Common.{[], ◌∷◌, ◌≡◌, refl, ap, sym, ◌∙◌, arith}
-use Rattle.std.proofs.lemmas.List.Elements.{All-nil}
+use Rattle.std.proofs.Common.{[], refl, ap, sym, ◌∙◌}
 use Rattle.web_call.specs.Answer.{source_of}
 use Rattle.reactor.specs.CallingLaws.{served_nowhere}
-use Rattle.reactor.proofs.CallingLemmas.{has_ended, no_step, one_step, was_answered}
+use Rattle.reactor.proofs.CallingLemmas.{has_ended, was_answered}
 use Rattle.reactor.proofs.calling.AnyHostCall.step.Goals as goal
 
 pub returns-then-wanted-gt0-clause-goes : goal.returns-then-wanted-gt0-clause-goes
@@ -14,25 +13,13 @@ returns-then-is_whole-clause-goes g c =
     let answer = c.answer.ensures in
     let asked = answer.asked in
     let from = source_of (g.D.Door.names c.answer.new.door) g.D.Door.kept g.D.Door.is_plain in
-    let same = ap (λ names. source_of names g.D.Door.kept g.D.Door.is_plain) answer.names in
-    let ours = source_of (g.D.Door.names c.args.self.now) g.D.Door.kept g.D.Door.is_plain in (
+    let same = ap (λ names. source_of names g.D.Door.kept g.D.Door.is_plain) answer.names in (
       asked.0,
-      was_answered c.args.then (from ∷ []) (omega arith) (one_step from ours same) (λ none. no_step from none)
-          (sym c.is_whole.ensures ∙ c.if-is_whole.true) asked.0 asked.1 asked.2 asked.3 answer.names answer.stays answer.ready answer.no_end,
+      was_answered c.args.then from same (sym c.is_whole.ensures ∙ c.if-is_whole.true) asked.0 asked.1 asked.2 asked.3 answer.names answer.stays answer.ready answer.no_end,
     )
 
 pub returns-then-is_starved-clause-goes : goal.returns-then-is_starved-clause-goes
 returns-then-is_starved-clause-goes g c =
-    let answer = c.answer.ensures in
-    let asked = answer.asked in
-    let ours = source_of (g.D.Door.names c.args.self.now) g.D.Door.kept g.D.Door.is_plain in (
-      asked.0,
-      was_answered c.args.then [] (omega arith) (All-nil (λ step. step ≡ ours)) (λ none. sym c.is_starved.ensures ∙ c.if-is_starved.true)
-          (sym c.is_whole.ensures ∙ c.if-is_whole.true) asked.0 asked.1 asked.2 asked.3 answer.names answer.stays answer.ready answer.no_end,
-    )
-
-pub returns-then-is_starved-2-clause-goes : goal.returns-then-is_starved-2-clause-goes
-returns-then-is_starved-2-clause-goes g c =
     ([], served_nowhere (source_of (g.D.Door.names c.args.self.now) g.D.Door.kept g.D.Door.is_plain) c.args.then c.args.self.now c.args.call.now (g.D.Door.stays_self c.args.self.now))
 
 pub returns-then-not-is_watching-clause-goes : goal.returns-then-not-is_watching-clause-goes

@@ -8,7 +8,7 @@ use Rattle.web_call.specs.Head.{IsHeaded, is_too_large}
 use Rattle.web_call.specs.HeadAnswer.{Refused, Ended, Asked}
 use Rattle.web_call.specs.Request.{IsRequested}
 use Rattle.web_call.specs.ResponseTexts.{refusal_pieces, status_pieces}
-use Rattle.web_call.proofs.CallLemmas.{answers_first, body_is, ends, no_body, requested}
+use Rattle.web_call.proofs.CallLemmas.{answers_first, body_is, ends, no_body, plain_alone, requested}
 use Rattle.web_call.proofs.WalkLemmas.{AsksDoor-none}
 use Rattle.web_call.proofs.call.asking.answer_request.Goals as goal
 
@@ -72,5 +72,6 @@ returns-in-Some-clause-asked g c =
       c.answer_plainly.ensures.asks,
       λ past outgoing reads.
           answers_first _ past c.args.intake.now outgoing (seen ∷ []) c.answer_plainly.result reads
-          (c.answer_plainly.ensures.stands c.args.intake.now.head.items _ past.received inquiry within (requested past c.args.intake.now outgoing c.requires reads)),
+          (c.answer_plainly.ensures.stands c.args.intake.now.head.items past.received inquiry within
+          (plain_alone past c.args.intake.now outgoing _ c.requires reads within inquiry)),
     )
