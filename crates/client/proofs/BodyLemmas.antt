@@ -18,7 +18,6 @@ use Rattle.client.specs.declared.http_framing.Framing.TheVariants.{Chunked, Leng
 use Rattle.client.specs.declared.response_body.Next.{Next}
 use Rattle.client.specs.declared.response_body.Next.TheVariants.{Line, Data, End, Last}
 use Rattle.client.specs.Chunks.{Chunk, IsChunk, chunk_text, AreChunks}
-use Rattle.client.specs.HttpFraming.{max_chunked_len}
 use Rattle.client.specs.ResponseBody.{IsInChunk, Stands, NoLine, LongLine, TooMuch, NoEnd, IsBadBody, max_line_len}
 
 -- more bytes behind chunks
@@ -72,15 +71,15 @@ may_come =
     (print_chunk_line line, line, (is_line, sym (append-nil (print_chunk_line line))))
 
 -- before the first chunk
-pub begun_chunks : Stands Chunked [] [] (Line []) max_chunked_len
-begun_chunks = record {
+pub begun_chunks : (most : ℕ) → Stands (Chunked most) [] [] (Line []) most
+begun_chunks most = record {
   comes = record {
     chunks = record { chunks = []; each = All-nil IsChunk; parts = refl; content_is = refl };
     none = no_line;
     may = may_come;
     short = omega arith;
   };
-  most = refl;
+  most = zero-add most;
   room = omega arith;
 }
 
@@ -118,10 +117,10 @@ whole_line part byte len size line none at =
 pub line_data : (framing : Framing) (bytes content part : List ℕ) (byte more len size : ℕ) (line : ChunkLine) → IsChunkLineAt (part ++ byte ∷ []) len size line
     → 0 < size → size ≤ more → Stands framing bytes content (Line part) more
     → Stands framing (bytes ++ byte ∷ []) (content ++ []) (Data size) more
-line_data Chunked bytes content part byte more len size line at some room stands =
+line_data (Chunked most) bytes content part byte more len size line at some room stands =
     let came = AreChunks-more bytes content part (byte ∷ []) stands.comes.chunks in
     let whole = whole_line part byte len size line stands.comes.none at in
-    content_stays Chunked _ content _ more (record {
+    content_stays (Chunked most) _ content _ more (record {
       comes = (
         record {
           before = content;
@@ -144,10 +143,10 @@ line_data (Length len) bytes content part byte more to size line at some room st
 pub line_last : (framing : Framing) (bytes content part : List ℕ) (byte more len size : ℕ) (line : ChunkLine) → IsChunkLineAt (part ++ byte ∷ []) len size line
     → size ≡ 0 → Stands framing bytes content (Line part) more
     → Stands framing (bytes ++ byte ∷ []) (content ++ []) (Last 0) more
-line_last Chunked bytes content part byte more len size line at none stands =
+line_last (Chunked most) bytes content part byte more len size line at none stands =
     let came = AreChunks-more bytes content part (byte ∷ []) stands.comes.chunks in
     let whole = whole_line part byte len size line stands.comes.none at in
-    content_stays Chunked _ content _ more (record {
+    content_stays (Chunked most) _ content _ more (record {
       comes = record {
         line = line;
         chunks = AreChunks-rest _ content _ _ whole came;
@@ -163,7 +162,7 @@ line_last (Length len) bytes content part byte more to size line at none stands 
 -- a chunk that is too much
 pub line_too_much : (framing : Framing) (bytes content part : List ℕ) (byte more len size : ℕ) (line : ChunkLine) → IsChunkLineAt (part ++ byte ∷ []) len size line
     → more < size → Stands framing bytes content (Line part) more → IsBadBody framing (bytes ++ byte ∷ [])
-line_too_much Chunked bytes content part byte more len size line at over stands =
+line_too_much (Chunked most) bytes content part byte more len size line at over stands =
     let came = AreChunks-more bytes content part (byte ∷ []) stands.comes.chunks in
     let whole = whole_line part byte len size line stands.comes.none at in
     TooMuch content line (AreChunks-rest _ content _ _ whole came) at.reads.0 (omega (arith, stands.most, at.size_is))
@@ -172,14 +171,14 @@ line_too_much (Length len) bytes content part byte more to size line at over sta
 -- bytes that are never a line
 pub line_never : (framing : Framing) (bytes content part : List ℕ) (byte more : ℕ) → NeverHasChunkLine (part ++ byte ∷ [])
     → Stands framing bytes content (Line part) more → IsBadBody framing (bytes ++ byte ∷ [])
-line_never Chunked bytes content part byte more never stands =
+line_never (Chunked most) bytes content part byte more never stands =
     NoLine content (part ++ byte ∷ []) (AreChunks-more bytes content part (byte ∷ []) stands.comes.chunks) never
 line_never (Length len) bytes content part byte more never stands = absurd stands.comes
 
 -- a line that is too long
 pub line_long : (framing : Framing) (bytes content part : List ℕ) (byte more : ℕ) → HasNoChunkLine (part ++ byte ∷ [])
     → max_line_len ≤ length (part ++ byte ∷ []) → Stands framing bytes content (Line part) more → IsBadBody framing (bytes ++ byte ∷ [])
-line_long Chunked bytes content part byte more none over stands =
+line_long (Chunked most) bytes content part byte more none over stands =
     LongLine content (part ++ byte ∷ []) (AreChunks-more bytes content part (byte ∷ []) stands.comes.chunks) none over
 line_long (Length len) bytes content part byte more none over stands = absurd stands.comes
 
@@ -217,7 +216,7 @@ chunk_behind bytes content part piece chunk = record {
 pub data_more : (framing : Framing) (bytes content piece : List ℕ) (left more : ℕ) → length piece < left → length piece ≤ more
     → Stands framing bytes content (Data left) more
     → Stands framing (bytes ++ piece) (content ++ piece) (Data (left - length piece)) (more - length piece)
-data_more Chunked bytes content piece left more fewer room stands = record {
+data_more (Chunked most) bytes content piece left more fewer room stands = record {
   comes = (chunk_more bytes content piece left (left - length piece) (omega arith) stands.comes.0, omega arith);
   most = omega (arith, length-append content piece, stands.most);
   room = omega (arith, stands.room);
@@ -228,7 +227,7 @@ data_more (Length len) bytes content piece left more fewer room stands = absurd 
 pub data_end : (framing : Framing) (bytes content piece : List ℕ) (left more : ℕ) → length piece ≡ left → length piece ≤ more
     → Stands framing bytes content (Data left) more
     → Stands framing (bytes ++ piece) (content ++ piece) (End []) (more - length piece)
-data_end Chunked bytes content piece left more all room stands = record {
+data_end (Chunked most) bytes content piece left more all room stands = record {
   comes = record { chunk = chunk_more bytes content piece left 0 (add-zero (length piece) ∙ all) stands.comes.0; short = omega arith };
   most = omega (arith, length-append content piece, stands.most);
   room = omega (arith, stands.room);
@@ -239,7 +238,7 @@ data_end (Length len) bytes content piece left more all room stands = absurd sta
 pub last_more : (framing : Framing) (bytes content piece : List ℕ) (left more : ℕ) → 0 < left → length piece ≤ left → length piece ≤ more
     → Stands framing bytes content (Last left) more
     → Stands framing (bytes ++ piece) (content ++ piece) (Last (left - length piece)) (more - length piece)
-last_more Chunked bytes content piece left more some within room stands = absurd (omega (arith, stands.comes.no_more))
+last_more (Chunked most) bytes content piece left more some within room stands = absurd (omega (arith, stands.comes.no_more))
 last_more (Length len) bytes content piece left more some within room stands = record {
   comes = record {
     content_is = ap (λ (all : List ℕ). all ++ piece) stands.comes.content_is;
@@ -252,8 +251,8 @@ last_more (Length len) bytes content piece left more some within room stands = r
 -- one byte behind the data of a chunk
 pub end_more : (framing : Framing) (bytes content part piece : List ℕ) (more : ℕ) → length (part ++ piece) < 2
     → Stands framing bytes content (End part) more → Stands framing (bytes ++ piece) (content ++ []) (End (part ++ piece)) more
-end_more Chunked bytes content part piece more short stands =
-    content_stays Chunked _ content _ more (record {
+end_more (Chunked most) bytes content part piece more short stands =
+    content_stays (Chunked most) _ content _ more (record {
       comes = record { chunk = chunk_behind bytes content part piece stands.comes.chunk; short = short };
       most = stands.most;
       room = omega arith;
@@ -263,20 +262,20 @@ end_more (Length len) bytes content part piece more short stands = absurd stands
 -- two other bytes behind the data of a chunk
 pub end_bad : (framing : Framing) (bytes content part piece : List ℕ) (more : ℕ) → length (part ++ piece) ≡ 2 → part ++ piece ≢ codes "\r\n"
     → Stands framing bytes content (End part) more → IsBadBody framing (bytes ++ piece)
-end_bad Chunked bytes content part piece more two other stands =
+end_bad (Chunked most) bytes content part piece more two other stands =
     NoEnd content (part ++ piece) (chunk_behind bytes content part piece stands.comes.chunk) two other
 end_bad (Length len) bytes content part piece more two other stands = absurd stands.comes
 
 -- CR LF behind the data of a chunk
 pub end_line : (framing : Framing) (bytes content part piece : List ℕ) (more : ℕ) → part ++ piece ≡ codes "\r\n"
     → Stands framing bytes content (End part) more → Stands framing (bytes ++ piece) (content ++ []) (Line []) more
-end_line Chunked bytes content part piece more is stands =
+end_line (Chunked most) bytes content part piece more is stands =
     let chunk = chunk_behind bytes content part piece stands.comes.chunk in
     let one : Chunk = record { line = chunk.line; payload = chunk.payload } in
     let is_one : IsChunk one = record { is_line = chunk.is_line; size = sym chunk.size ∙ add-zero (length chunk.payload); some = omega (arith, chunk.size, chunk.some) } in
     let came = AreChunks-next (bytes ++ piece) chunk.before one is_one
     (AreChunks-rest _ chunk.before _ _ (ap (λ (all : List ℕ). print_chunk_line chunk.line ++ chunk.payload ++ all) is) chunk.chunks) in
-    content_stays Chunked _ content _ more (record {
+    content_stays (Chunked most) _ content _ more (record {
       comes = record {
         chunks = subst (λ (all : List ℕ). AreChunks (bytes ++ piece) all []) (sym chunk.content_is) came;
         none = no_line;

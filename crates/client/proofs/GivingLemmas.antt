@@ -30,7 +30,7 @@ enough_none Check most some = refl
 enough_none Watch most some = grind (arith, nat_tests)
 
 -- a head with nothing behind it
-begun_on : (method : Method) (most : ℕ) (head : List ℕ) (framing : Framing) (next : Next) (more : ℕ) → 1 ≤ most → IsHead head → IsFramed head (Ok framing)
+begun_on : (method : Method) (most : ℕ) (head : List ℕ) (framing : Framing) (next : Next) (more : ℕ) → 1 ≤ most → IsHead head → IsFramed method head (Ok framing)
     → Stands framing [] [] next more → IsGoingOn method most head next more [] []
 begun_on method most head framing next more some is_head framed stands = record {
   reply = record {
@@ -51,15 +51,15 @@ begun_on method most head framing next more some is_head framed stands = record 
 
 -- the same where no status and no rest are told otherwise
 pub begun_from : (method : Method) (most : ℕ) (head : List ℕ) (framing : Framing) (next : Next) (more : ℕ) (statuses rest : List ℕ) → 1 ≤ most → IsHead head
-    → IsFramed head (Ok framing) → Stands framing [] [] next more → statuses ≡ [] → rest ≡ [] → IsGoingOn method most head next more statuses rest
+    → IsFramed method head (Ok framing) → Stands framing [] [] next more → statuses ≡ [] → rest ≡ [] → IsGoingOn method most head next more statuses rest
 begun_from method most head framing next more statuses rest some is_head framed stands none empty =
     subst (IsGoingOn method most head next more statuses) (sym empty)
     (subst (λ (all : List ℕ). IsGoingOn method most head next more all []) (sym none) (begun_on method most head framing next more some is_head framed stands))
 
 -- a response with a body that goes on
-pub reply_goes : (bytes piece : List ℕ) (next next_after : Next) (more more_after : ℕ) (statuses rest : List ℕ) → GoesOn next more piece next_after more_after
-    → IsReply bytes next more statuses rest → IsReply (bytes ++ piece) next_after more_after statuses (rest ++ content_of next piece)
-reply_goes bytes piece next next_after more more_after statuses rest goes reply = record {
+pub reply_goes : (method : Method) (bytes piece : List ℕ) (next next_after : Next) (more more_after : ℕ) (statuses rest : List ℕ) → GoesOn next more piece next_after more_after
+    → IsReply method bytes next more statuses rest → IsReply method (bytes ++ piece) next_after more_after statuses (rest ++ content_of next piece)
+reply_goes method bytes piece next next_after more more_after statuses rest goes reply = record {
   head = reply.head;
   body = reply.body ++ piece;
   framing = reply.framing;
@@ -91,11 +91,11 @@ pub around_on : (method : Method) (most : ℕ) (bytes piece : List ℕ) (next ne
     → IsGoingOn method most (bytes ++ piece) next_after more_after statuses rest
 around_on method most bytes piece next next_after more more_after statuses rest is goes going =
     let same : rest ++ content_of next piece ≡ rest = ap (λ (all : List ℕ). rest ++ all) (none_of next piece is) ∙ append-nil rest in
-    let reply = reply_goes bytes piece next next_after more more_after statuses rest goes going.reply in
+    let reply = reply_goes method bytes piece next next_after more more_after statuses rest goes going.reply in
     let len : length (going.reply.content ++ content_of next piece) ≡ length going.reply.content =
     ap (λ (all : List ℕ). length (going.reply.content ++ all)) (none_of next piece is) ∙ ap length (append-nil going.reply.content) in
     let as_many : more ≡ more_after = omega (arith, going.reply.stands.most, (goes going.reply.framing going.reply.body going.reply.content going.reply.stands).most, len) in record {
-      reply = subst (IsReply (bytes ++ piece) next_after more_after statuses) same reply;
+      reply = subst (IsReply method (bytes ++ piece) next_after more_after statuses) same reply;
       unfinished = going.unfinished;
       none = going.none;
       sound = subst (λ (n : ℕ). IsSoundFront n rest) as_many going.sound;
@@ -132,10 +132,10 @@ pub content_on : (method : Method) (most : ℕ) (bytes piece : List ℕ) (next n
 content_on method most bytes piece next next_after more more_after statuses rest is some within room goes going =
     let last = last_of piece some in
     let part = part_goes next more last.front is (omega (arith, last.shorter)) room in
-    let before = reply_goes bytes last.front next part.0 more part.1 statuses rest part.2 going.reply in
-    let reply = reply_goes bytes piece next next_after more more_after statuses rest goes going.reply in record {
+    let before = reply_goes method bytes last.front next part.0 more part.1 statuses rest part.2 going.reply in
+    let reply = reply_goes method bytes piece next next_after more more_after statuses rest goes going.reply in record {
       ends = record {
-        reply = subst (λ (all : List ℕ). IsReply (bytes ++ piece) next_after more_after statuses (rest ++ all)) (all_of next piece is) reply;
+        reply = subst (λ (all : List ℕ). IsReply method (bytes ++ piece) next_after more_after statuses (rest ++ all)) (all_of next piece is) reply;
         front = bytes ++ last.front;
         byte = last.byte;
         next_before = part.0;
@@ -143,7 +143,7 @@ content_on method most bytes piece next next_after more more_after statuses rest
         part = rest ++ last.front;
         bytes_are = ap (λ (all : List ℕ). bytes ++ all) last.is ∙ sym (append_assoc bytes last.front (last.byte ∷ []));
         rest_is = ap (λ (all : List ℕ). rest ++ all) last.is ∙ sym (append_assoc rest last.front (last.byte ∷ []));
-        before = subst (λ (all : List ℕ). IsReply (bytes ++ last.front) part.0 part.1 statuses (rest ++ all)) (all_of next last.front is) before;
+        before = subst (λ (all : List ℕ). IsReply method (bytes ++ last.front) part.0 part.1 statuses (rest ++ all)) (all_of next last.front is) before;
       };
       unfinished = going.unfinished;
     }

@@ -33,17 +33,17 @@ use Rattle.client.proofs.OneHeadLemmas.{one_framed, one_head, open_no_head}
 use Rattle.client.proofs.ReplyLemmas.{no_frame, sound_start}
 
 -- bytes are a head that frames a body, and bytes of that
-record HasBody (bytes : List ℕ) : Type 0 where
+record HasBody (method : Method) (bytes : List ℕ) : Type 0 where
   head : List ℕ
   body : List ℕ
   framing : Framing
   parts : bytes ≡ head ++ body
   is_head : IsHead head
-  framed : IsFramed head (Ok framing)
+  framed : IsFramed method head (Ok framing)
 
 -- all frames of the content, and what they mean; where that is nothing bad, each frame and the rest begin right
 record HasContent (method : Method) (most : ℕ) (bytes : List ℕ) (meaning : Meaning) : Type 0 where
-  has : HasBody bytes
+  has : HasBody method bytes
   content : List ℕ
   next : Next
   more : ℕ
@@ -55,8 +55,8 @@ record HasContent (method : Method) (most : ℕ) (bytes : List ℕ) (meaning : M
   sound : (meaning ≡ Bad) ⊎ (All HasFlag frames × IsSoundFront more rest)
 
 -- some frames of the content, behind which nothing right begins
-record IsUnsound (bytes : List ℕ) : Type 0 where
-  has : HasBody bytes
+record IsUnsound (method : Method) (bytes : List ℕ) : Type 0 where
+  has : HasBody method bytes
   content : List ℕ
   next : Next
   more : ℕ
@@ -77,14 +77,14 @@ fault_means NoMemory meaning = ⊥
 -- how bytes come to mean something
 data Cause (method : Method) (most : ℕ) (bytes : List ℕ) (meaning : Meaning) : Type 0 where
   ByOpenHead : IsOpenHead bytes → meaning ≡ Open → Cause method most bytes meaning
-  ByWholeHead : (fault : AskFault) → IsHead bytes → IsFramed bytes (Err fault) → fault_means fault meaning → Cause method most bytes meaning
-  ByChunks : (has : HasBody bytes) → IsBadBody has.framing has.body → meaning ≡ Bad → Cause method most bytes meaning
+  ByWholeHead : (fault : AskFault) → IsHead bytes → IsFramed method bytes (Err fault) → fault_means fault meaning → Cause method most bytes meaning
+  ByChunks : (has : HasBody method bytes) → IsBadBody has.framing has.body → meaning ≡ Bad → Cause method most bytes meaning
   ByFrames : HasContent method most bytes meaning → Cause method most bytes meaning
-  ByFront : IsUnsound bytes → meaning ≡ Bad → Cause method most bytes meaning
+  ByFront : IsUnsound method bytes → meaning ≡ Bad → Cause method most bytes meaning
 
 -- content without a frame at its end
 content_of_all : (method : Method) (most : ℕ) (bytes : List ℕ) (next : Next) (more : ℕ) (statuses rest : List ℕ) (meaning : Meaning)
-    → (reply : IsReply bytes next more statuses rest) → BeginsWithNoFrame rest
+    → (reply : IsReply method bytes next more statuses rest) → BeginsWithNoFrame rest
     → meaning ≡ messages_mean method (is_enough method most (length statuses)) (is_over next) statuses rest
     → (meaning ≡ Bad) ⊎ IsSoundFront more rest → Cause method most bytes meaning
 content_of_all method most bytes next more statuses rest meaning reply none means sound = ByFrames (record {
@@ -102,7 +102,7 @@ content_of_all method most bytes next more statuses rest meaning reply none mean
 
 -- content with one more frame at its end
 content_of_more : (method : Method) (most : ℕ) (bytes : List ℕ) (next : Next) (more : ℕ) (statuses rest body : List ℕ) (flag : ℕ) (meaning : Meaning)
-    → (reply : IsReply bytes next more statuses rest) → rest ≡ frame flag body → length body ≤ max_content_len → HasFlag (flag, body)
+    → (reply : IsReply method bytes next more statuses rest) → rest ≡ frame flag body → length body ≤ max_content_len → HasFlag (flag, body)
     → Reads method most next (reply.tells.frames ++ (flag, body) ∷ []) [] meaning → Cause method most bytes meaning
 content_of_more method most bytes next more statuses rest body flag meaning reply is fits has reads = ByFrames (record {
   has = record { head = reply.head; body = reply.body; framing = reply.framing; parts = reply.parts; is_head = reply.is_head; framed = reply.framed };
@@ -165,7 +165,7 @@ left_test : (left : ℕ) → 0 < left → nat_lt 0 left ≡ true
 left_test left some = grind (arith, nat_tests)
 
 -- what is bad in the content
-rest_cause : (method : Method) (most : ℕ) (bytes : List ℕ) (next : Next) (more : ℕ) (statuses rest : List ℕ) → IsReply bytes next more statuses rest
+rest_cause : (method : Method) (most : ℕ) (bytes : List ℕ) (next : Next) (more : ℕ) (statuses rest : List ℕ) → IsReply method bytes next more statuses rest
     → is_enough method most (length statuses) ≡ false → IsBadRest method next more rest → Cause method most bytes Bad
 rest_cause method most bytes next more statuses rest reply unfinished (NotSound wrong) = ByFront (record {
   has = record { head = reply.head; body = reply.body; framing = reply.framing; parts = reply.parts; is_head = reply.is_head; framed = reply.framed };
@@ -210,11 +210,11 @@ cause_of method most bytes (Telling statuses end) means =
     subst (λ (e : Option (ℕ × List ℕ)). Cause method most bytes (Telling statuses e)) (sym means.2) (told_cause method most bytes statuses means.0 means.1)
 cause_of method most bytes Open means = open_cause method most bytes means
 cause_of method most bytes Bad means = bad_cause method most bytes means
-cause_of method most bytes (Refused status) means = ByWholeHead (Http status) means.is_head means.framed refl
+cause_of method most bytes (Refused status) means = ByWholeHead (Http status) means.is_head (means.framed method) refl
 
 -- an open head has no body behind it
-open_no_body : (bytes : List ℕ) → IsOpenHead bytes → ¬ HasBody bytes
-open_no_body bytes is_open has = open_no_head bytes has.head has.body is_open has.parts has.is_head
+open_no_body : (method : Method) (bytes : List ℕ) → IsOpenHead bytes → ¬ HasBody method bytes
+open_no_body method bytes is_open has = open_no_head bytes has.head has.body is_open has.parts has.is_head
 
 open_no_whole : (bytes : List ℕ) → IsOpenHead bytes → ¬ IsHead bytes
 open_no_whole bytes is_open is = open_no_head bytes bytes [] is_open (sym (append-nil bytes)) is
@@ -230,11 +230,11 @@ same_framing : (said : Result Framing AskFault) (framing other : Framing) → sa
 same_framing said framing other is also = cc
 
 -- what frames no body has none
-whole_no_body : (bytes : List ℕ) (fault : AskFault) → IsHead bytes → IsFramed bytes (Err fault) → ¬ HasBody bytes
-whole_no_body bytes fault is framed has =
+whole_no_body : (method : Method) (bytes : List ℕ) (fault : AskFault) → IsHead bytes → IsFramed method bytes (Err fault) → ¬ HasBody method bytes
+whole_no_body method bytes fault is framed has =
     let same : bytes ≡ has.head = (one_head bytes [] has.head has.body (append-nil bytes ∙ has.parts) is has.is_head).0 in
     never_both (Err fault) fault has.framing refl
-    (one_framed has.head (Err fault) (Ok has.framing) (subst (λ (b : List ℕ). IsFramed b (Err fault)) same framed) has.framed)
+    (one_framed method has.head (Err fault) (Ok has.framing) (subst (λ (b : List ℕ). IsFramed method b (Err fault)) same framed) has.framed)
 
 -- one fault means one thing
 fault_one : (fault : AskFault) (a b : Meaning) → fault_means fault a → fault_means fault b → a ≡ b
@@ -248,23 +248,23 @@ one_fault : (fault other : AskFault) (a b : Meaning) → fault ≡ other → fau
 one_fault fault other a b same is also = fault_one fault a b is (subst (λ (f : AskFault). fault_means f b) (sym same) also)
 
 -- the same framing and the same body
-same_body : (bytes : List ℕ) (a b : HasBody bytes) (P : Framing → List ℕ → Type 0) → P b.framing b.body → P a.framing a.body
-same_body bytes a b P holds =
+same_body : (method : Method) (bytes : List ℕ) (a b : HasBody method bytes) (P : Framing → List ℕ → Type 0) → P b.framing b.body → P a.framing a.body
+same_body method bytes a b P holds =
     let heads = one_head a.head a.body b.head b.body (sym a.parts ∙ b.parts) a.is_head b.is_head in
     let framings = same_framing (Ok a.framing) a.framing b.framing refl
-    (one_framed b.head (Ok a.framing) (Ok b.framing) (subst (λ (h : List ℕ). IsFramed h (Ok a.framing)) heads.0 a.framed) b.framed) in
+    (one_framed method b.head (Ok a.framing) (Ok b.framing) (subst (λ (h : List ℕ). IsFramed method h (Ok a.framing)) heads.0 a.framed) b.framed) in
     subst (λ (f : Framing). P f a.body) (sym framings) (subst (P b.framing) (sym heads.1) holds)
 
 -- bad chunks have no content
-chunks_no_content : (bytes : List ℕ) (a b : HasBody bytes) (content : List ℕ) (next : Next) (more : ℕ) → IsBadBody a.framing a.body
+chunks_no_content : (method : Method) (bytes : List ℕ) (a b : HasBody method bytes) (content : List ℕ) (next : Next) (more : ℕ) → IsBadBody a.framing a.body
     → ¬ Stands b.framing b.body content next more
-chunks_no_content bytes a b content next more wrong stands =
-    bad_nowhere a.framing a.body content next more wrong (same_body bytes a b (λ framing body. Stands framing body content next more) stands)
+chunks_no_content method bytes a b content next more wrong stands =
+    bad_nowhere a.framing a.body content next more wrong (same_body method bytes a b (λ framing body. Stands framing body content next more) stands)
 
 -- all frames of the content mean one thing
 one_content : (method : Method) (most : ℕ) (bytes : List ℕ) (a b : Meaning) → HasContent method most bytes a → HasContent method most bytes b → a ≡ b
 one_content method most bytes a b one two =
-    let stands = same_body bytes one.has two.has (λ framing body. Stands framing body two.content two.next two.more) two.stands in
+    let stands = same_body method bytes one.has two.has (λ framing body. Stands framing body two.content two.next two.more) two.stands in
     let place = one_place one.has.framing one.has.body one.content two.content one.next two.next one.more two.more one.stands stands in
     let split = one_split one.content one.frames two.frames one.rest two.rest one.all (subst (λ (c : List ℕ). AreAllFrames c two.frames two.rest) (sym place.contents) two.all) in
     one_reading method most one.next one.frames one.rest a b one.reads
@@ -273,9 +273,9 @@ one_content method most bytes a b one two =
     (subst (λ (n : Next). Reads method most n two.frames two.rest b) (sym place.nexts) two.reads)))
 
 -- what begins wrong somewhere is bad
-front_bad : (method : Method) (most : ℕ) (bytes : List ℕ) (meaning : Meaning) → HasContent method most bytes meaning → IsUnsound bytes → meaning ≡ Bad
+front_bad : (method : Method) (most : ℕ) (bytes : List ℕ) (meaning : Meaning) → HasContent method most bytes meaning → IsUnsound method bytes → meaning ≡ Bad
 front_bad method most bytes meaning one two =
-    let stands = same_body bytes one.has two.has (λ framing body. Stands framing body two.content two.next two.more) two.stands in
+    let stands = same_body method bytes one.has two.has (λ framing body. Stands framing body two.content two.next two.more) two.stands in
     let place = one_place one.has.framing one.has.body one.content two.content one.next two.next one.more two.more one.stands stands in
     elim one.sound [
       | inl bad ↦ bad
@@ -289,29 +289,29 @@ front_bad method most bytes meaning one two =
 one_cause : (method : Method) (most : ℕ) (bytes : List ℕ) (a b : Meaning) → Cause method most bytes a → Cause method most bytes b → a ≡ b
 one_cause method most bytes a b (ByOpenHead is_open is) (ByOpenHead also said) = is ∙ sym said
 one_cause method most bytes a b (ByOpenHead is_open is) (ByWholeHead fault also framed means) = absurd (open_no_whole bytes is_open also)
-one_cause method most bytes a b (ByOpenHead is_open is) (ByChunks has wrong said) = absurd (open_no_body bytes is_open has)
-one_cause method most bytes a b (ByOpenHead is_open is) (ByFrames content) = absurd (open_no_body bytes is_open content.has)
-one_cause method most bytes a b (ByOpenHead is_open is) (ByFront content said) = absurd (open_no_body bytes is_open content.has)
+one_cause method most bytes a b (ByOpenHead is_open is) (ByChunks has wrong said) = absurd (open_no_body method bytes is_open has)
+one_cause method most bytes a b (ByOpenHead is_open is) (ByFrames content) = absurd (open_no_body method bytes is_open content.has)
+one_cause method most bytes a b (ByOpenHead is_open is) (ByFront content said) = absurd (open_no_body method bytes is_open content.has)
 one_cause method most bytes a b (ByWholeHead fault whole framed means) (ByOpenHead also said) = absurd (open_no_whole bytes also whole)
 one_cause method most bytes a b (ByWholeHead fault whole framed means) (ByWholeHead other also says mean) =
-    one_fault fault other a b (same_fault (Err fault) fault other refl (one_framed bytes (Err fault) (Err other) framed says)) means mean
-one_cause method most bytes a b (ByWholeHead fault whole framed means) (ByChunks has wrong said) = absurd (whole_no_body bytes fault whole framed has)
-one_cause method most bytes a b (ByWholeHead fault whole framed means) (ByFrames content) = absurd (whole_no_body bytes fault whole framed content.has)
-one_cause method most bytes a b (ByWholeHead fault whole framed means) (ByFront content said) = absurd (whole_no_body bytes fault whole framed content.has)
-one_cause method most bytes a b (ByChunks has wrong is) (ByOpenHead also said) = absurd (open_no_body bytes also has)
-one_cause method most bytes a b (ByChunks has wrong is) (ByWholeHead fault whole framed means) = absurd (whole_no_body bytes fault whole framed has)
+    one_fault fault other a b (same_fault (Err fault) fault other refl (one_framed method bytes (Err fault) (Err other) framed says)) means mean
+one_cause method most bytes a b (ByWholeHead fault whole framed means) (ByChunks has wrong said) = absurd (whole_no_body method bytes fault whole framed has)
+one_cause method most bytes a b (ByWholeHead fault whole framed means) (ByFrames content) = absurd (whole_no_body method bytes fault whole framed content.has)
+one_cause method most bytes a b (ByWholeHead fault whole framed means) (ByFront content said) = absurd (whole_no_body method bytes fault whole framed content.has)
+one_cause method most bytes a b (ByChunks has wrong is) (ByOpenHead also said) = absurd (open_no_body method bytes also has)
+one_cause method most bytes a b (ByChunks has wrong is) (ByWholeHead fault whole framed means) = absurd (whole_no_body method bytes fault whole framed has)
 one_cause method most bytes a b (ByChunks has wrong is) (ByChunks other bad said) = is ∙ sym said
 one_cause method most bytes a b (ByChunks has wrong is) (ByFrames content) =
-    absurd (chunks_no_content bytes has content.has content.content content.next content.more wrong content.stands)
+    absurd (chunks_no_content method bytes has content.has content.content content.next content.more wrong content.stands)
 one_cause method most bytes a b (ByChunks has wrong is) (ByFront content said) = is ∙ sym said
-one_cause method most bytes a b (ByFrames content) (ByOpenHead also said) = absurd (open_no_body bytes also content.has)
-one_cause method most bytes a b (ByFrames content) (ByWholeHead fault whole framed means) = absurd (whole_no_body bytes fault whole framed content.has)
+one_cause method most bytes a b (ByFrames content) (ByOpenHead also said) = absurd (open_no_body method bytes also content.has)
+one_cause method most bytes a b (ByFrames content) (ByWholeHead fault whole framed means) = absurd (whole_no_body method bytes fault whole framed content.has)
 one_cause method most bytes a b (ByFrames content) (ByChunks has wrong said) =
-    absurd (chunks_no_content bytes has content.has content.content content.next content.more wrong content.stands)
+    absurd (chunks_no_content method bytes has content.has content.content content.next content.more wrong content.stands)
 one_cause method most bytes a b (ByFrames content) (ByFrames other) = one_content method most bytes a b content other
 one_cause method most bytes a b (ByFrames content) (ByFront other said) = front_bad method most bytes a content other ∙ sym said
-one_cause method most bytes a b (ByFront content is) (ByOpenHead also said) = absurd (open_no_body bytes also content.has)
-one_cause method most bytes a b (ByFront content is) (ByWholeHead fault whole framed means) = absurd (whole_no_body bytes fault whole framed content.has)
+one_cause method most bytes a b (ByFront content is) (ByOpenHead also said) = absurd (open_no_body method bytes also content.has)
+one_cause method most bytes a b (ByFront content is) (ByWholeHead fault whole framed means) = absurd (whole_no_body method bytes fault whole framed content.has)
 one_cause method most bytes a b (ByFront content is) (ByChunks has wrong said) = is ∙ sym said
 one_cause method most bytes a b (ByFront content is) (ByFrames other) = is ∙ sym (front_bad method most bytes b other content)
 one_cause method most bytes a b (ByFront content is) (ByFront other said) = is ∙ sym said

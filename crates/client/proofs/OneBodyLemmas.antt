@@ -194,15 +194,15 @@ at_line bytes content line chunks is = record {
   content_is = sym (append-nil content);
 }
 
-found : (bytes content : List ℕ) (next : Next) → Comes Chunked bytes content next → Found bytes content next
-found bytes content (Line part) comes = AtLine part comes refl
-found bytes content (Data left) comes =
+found : (most : ℕ) (bytes content : List ℕ) (next : Next) → Comes (Chunked most) bytes content next → Found bytes content next
+found most bytes content (Line part) comes = AtLine part comes refl
+found most bytes content (Data left) comes =
     AtPart (chunk_size comes.0.line) left [] (in_chunk bytes content left [] (inl refl) (λ rest. few_other [] rest (omega arith)) comes.0) (omega arith)
     (place_data (chunk_size comes.0.line) left [] comes.0.some comes.1)
-found bytes content (End part) comes =
+found most bytes content (End part) comes =
     AtPart (chunk_size comes.chunk.line) 0 part (in_chunk bytes content 0 part (inr refl) (λ rest. few_other part rest comes.short) comes.chunk) comes.short
     (place_end (chunk_size comes.chunk.line) part comes.chunk.some)
-found bytes content (Last left) comes =
+found most bytes content (Last left) comes =
     AtPart (chunk_size comes.line) (chunk_size comes.line) [] (at_line bytes content comes.line comes.chunks comes.is_line) (omega arith)
     (ap Last comes.no_more ∙ ap (λ (n : ℕ). place n n []) (sym comes.none))
 
@@ -231,7 +231,8 @@ length_found len bytes content (Last left) comes = (left, comes.content_is, refl
 
 comes_one : (framing : Framing) (bytes content other : List ℕ) (next after : Next) → Comes framing bytes content next → Comes framing bytes other after
     → (content ≡ other) × (next ≡ after)
-comes_one Chunked bytes content other next after comes also = found_one bytes content other next after (found bytes content next comes) (found bytes other after also)
+comes_one (Chunked most) bytes content other next after comes also =
+    found_one bytes content other next after (found most bytes content next comes) (found most bytes other after also)
 comes_one (Length len) bytes content other next after comes also =
     let one = length_found len bytes content next comes in
     let two = length_found len bytes other after also in
@@ -260,40 +261,41 @@ two_bytes two rest both same =
     same ∙ ap (λ (all : List ℕ). codes "\r\n" ++ all) (nil_from_length rest (omega (arith, both, len))) ∙ append-nil (codes "\r\n")
 
 -- bytes that no body has stand nowhere
-never_found : (bytes content : List ℕ) (next : Next) (more : ℕ) → IsBadBody Chunked bytes → Stands Chunked bytes content next more → ¬ Found bytes content next
-never_found bytes content next more (NoLine before part chunks never) stands (AtLine line is same) =
+never_found : (most : ℕ) (bytes content : List ℕ) (next : Next) (more : ℕ) → IsBadBody (Chunked most) bytes → Stands (Chunked most) bytes content next more
+    → ¬ Found bytes content next
+never_found most bytes content next more (NoLine before part chunks never) stands (AtLine line is same) =
     let none = subst HasNoChunkLine (append-nil part) (never []) in
     let parts = one_chunks bytes before content part line chunks is.chunks (line_first part none) (line_first line is.none) in
     never is.may.0 is.may.1 [] (subst (λ (all : List ℕ). ReadsChunkLine (all ++ is.may.0) is.may.1 []) (sym parts.1) is.may.2)
-never_found bytes content next more (NoLine before part chunks never) stands (AtPart size left behind is short same) =
+never_found most bytes content next more (NoLine before part chunks never) stands (AtPart size left behind is short same) =
     let none = subst HasNoChunkLine (append-nil part) (never []) in
     let parts = one_chunks bytes before is.before part _ chunks is.chunks (line_first part none) (part_cut bytes content size left behind is) in
     part_line bytes content size left behind part is parts.1 none
-never_found bytes content next more (LongLine before part chunks none over) stands (AtLine line is same) =
+never_found most bytes content next more (LongLine before part chunks none over) stands (AtLine line is same) =
     let parts = one_chunks bytes before content part line chunks is.chunks (line_first part none) (line_first line is.none) in
     let len : length part ≡ length line = ap length parts.1 in omega (arith, over, is.short, len)
-never_found bytes content next more (LongLine before part chunks none over) stands (AtPart size left behind is short same) =
+never_found most bytes content next more (LongLine before part chunks none over) stands (AtPart size left behind is short same) =
     let parts = one_chunks bytes before is.before part _ chunks is.chunks (line_first part none) (part_cut bytes content size left behind is) in
     part_line bytes content size left behind part is parts.1 none
-never_found bytes content next more (TooMuch before line chunks is_line over) stands (AtLine part is same) =
+never_found most bytes content next more (TooMuch before line chunks is_line over) stands (AtLine part is same) =
     let at = at_line bytes before line chunks is_line in
     let parts = one_chunks bytes content at.before part _ is.chunks at.chunks (line_first part is.none) (part_cut bytes before (chunk_size line) (chunk_size line) [] at) in
     part_line bytes before (chunk_size line) (chunk_size line) [] part at parts.1 is.none
-never_found bytes content next more (TooMuch before line chunks is_line over) stands (AtPart size left behind is short same) =
+never_found most bytes content next more (TooMuch before line chunks is_line over) stands (AtPart size left behind is short same) =
     let at = at_line bytes before line chunks is_line in
     let one = same_part bytes before content (chunk_size line) size (chunk_size line) left [] behind at is in
     let len : length before ≡ length content = ap length one.contents in
     let room : left ≤ more = subst (λ (n : ℕ). n ≤ more) (ap left_of same ∙ place_left size left behind (omega (arith, is.count))) stands.room in
     omega (arith, over, len, one.lefts, room, stands.most)
-never_found bytes content next more (NoEnd before two chunk both other) stands (AtLine part is same) =
+never_found most bytes content next more (NoEnd before two chunk both other) stands (AtLine part is same) =
     let at = in_chunk bytes before 0 two (inr refl) (λ rest is_end. other (two_bytes two rest both is_end)) chunk in
     let parts = one_chunks bytes content at.before part _ is.chunks at.chunks (line_first part is.none) (part_cut bytes before (chunk_size chunk.line) 0 two at) in
     part_line bytes before (chunk_size chunk.line) 0 two part at parts.1 is.none
-never_found bytes content next more (NoEnd before two chunk both other) stands (AtPart size left behind is short same) =
+never_found most bytes content next more (NoEnd before two chunk both other) stands (AtPart size left behind is short same) =
     let at = in_chunk bytes before 0 two (inr refl) (λ rest is_end. other (two_bytes two rest both is_end)) chunk in
     let one = same_part bytes before content (chunk_size chunk.line) size 0 left two behind at is in
     let len : length two ≡ length behind = ap length one.behinds in omega (arith, both, short, len)
 
 pub bad_nowhere : (framing : Framing) (bytes content : List ℕ) (next : Next) (more : ℕ) → IsBadBody framing bytes → ¬ Stands framing bytes content next more
-bad_nowhere Chunked bytes content next more bad stands = never_found bytes content next more bad stands (found bytes content next stands.comes)
+bad_nowhere (Chunked most) bytes content next more bad stands = never_found most bytes content next more bad stands (found most bytes content next stands.comes)
 bad_nowhere (Length len) bytes content next more bad stands = bad

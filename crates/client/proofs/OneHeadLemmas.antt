@@ -9,6 +9,7 @@ use Rattle.httparse.specs.Spans.{name_and_value}
 use Rattle.httparse.proofs.GrammarLemmas.{response_unique}
 use Rattle.web_call.specs.Head.{is_too_large}
 use Rattle.web_call.specs.InputHead.{IsHead, IsOpenHead, ends_blank, max_head_len}
+use Rattle.web_call.specs.declared.method.Method.{Method}
 use Rattle.client.specs.declared.ask_fault.AskFault.{AskFault}
 use Rattle.client.specs.declared.ask_fault.AskFault.TheVariants.{BadResponse}
 use Rattle.client.specs.declared.http_framing.Framing.{Framing}
@@ -50,18 +51,18 @@ one_head head body other more same is also =
     )
 
 -- what a head says is one thing
-one_said : (bytes : List ℕ) (a b : Result Framing AskFault) → IsHeadSaying bytes a → IsHeadSaying bytes b → a ≡ b
-one_said bytes a b (inl (head, is, says)) (inl (other, also, said)) =
-    says ∙ ap (λ (h : ResponseHead). framing_by (status_code h) (map name_and_value h.fields)) (response_unique bytes head other [] [] is.0 also.0).0 ∙ sym said
-one_said bytes a b (inl (head, is, says)) (inr (none, said)) = absurd (none head is)
-one_said bytes a b (inr (none, says)) (inl (other, also, said)) = absurd (none other also)
-one_said bytes a b (inr (none, says)) (inr (never, said)) = says ∙ sym said
+one_said : (method : Method) (bytes : List ℕ) (a b : Result Framing AskFault) → IsHeadSaying method bytes a → IsHeadSaying method bytes b → a ≡ b
+one_said method bytes a b (inl (head, is, says)) (inl (other, also, said)) =
+    says ∙ ap (λ (h : ResponseHead). framing_by method (status_code h) (map name_and_value h.fields)) (response_unique bytes head other [] [] is.0 also.0).0 ∙ sym said
+one_said method bytes a b (inl (head, is, says)) (inr (none, said)) = absurd (none head is)
+one_said method bytes a b (inr (none, says)) (inl (other, also, said)) = absurd (none other also)
+one_said method bytes a b (inr (none, says)) (inr (never, said)) = says ∙ sym said
 
-one_framing : (large : Bool) (bytes : List ℕ) (a b : Result Framing AskFault) → MatchBool large (a ≡ Err BadResponse) (IsHeadSaying bytes a)
-    → MatchBool large (b ≡ Err BadResponse) (IsHeadSaying bytes b) → a ≡ b
-one_framing true bytes a b says said = says ∙ sym said
-one_framing false bytes a b says said = one_said bytes a b says said
+one_framing : (method : Method) (large : Bool) (bytes : List ℕ) (a b : Result Framing AskFault) → MatchBool large (a ≡ Err BadResponse) (IsHeadSaying method bytes a)
+    → MatchBool large (b ≡ Err BadResponse) (IsHeadSaying method bytes b) → a ≡ b
+one_framing method true bytes a b says said = says ∙ sym said
+one_framing method false bytes a b says said = one_said method bytes a b says said
 
 -- too large or not, it is one thing
-pub one_framed : (bytes : List ℕ) (a b : Result Framing AskFault) → IsFramed bytes a → IsFramed bytes b → a ≡ b
-one_framed bytes a b says said = one_framing (is_too_large bytes) bytes a b says said
+pub one_framed : (method : Method) (bytes : List ℕ) (a b : Result Framing AskFault) → IsFramed method bytes a → IsFramed method bytes b → a ≡ b
+one_framed method bytes a b says said = one_framing method (is_too_large bytes) bytes a b says said

@@ -94,7 +94,7 @@ sound_yet more (mark ∷ a ∷ b ∷ c ∷ d ∷ part) piece within room sound =
 
 -- a response goes on with fewer bytes of content than are wanted
 content_yet : (method : Method) (most : ℕ) (bytes piece : List ℕ) (next next_after : Next) (more : ℕ) (statuses rest : List ℕ) → length piece < missing_in rest
-    → length piece ≤ more → IsReply (bytes ++ piece) next_after (more - length piece) statuses (rest ++ piece)
+    → length piece ≤ more → IsReply method (bytes ++ piece) next_after (more - length piece) statuses (rest ++ piece)
     → IsGoingOn method most bytes next more statuses rest → IsGoingOn method most (bytes ++ piece) next_after (more - length piece) statuses (rest ++ piece)
 content_yet method most bytes piece next next_after more statuses rest fewer room reply going = record {
   reply = reply;
@@ -114,23 +114,23 @@ body_open method most bytes piece (Line part) more statuses rest comes fewer goi
     no_more (IsOpen method most) bytes piece (omega arith) (InBody (Line part) more statuses rest going comes)
 body_open method most bytes piece (Data left) more statuses rest comes fewer going =
     let room : left ≤ more = going.reply.stands.room in
-    let reply = reply_goes bytes piece (Data left) (Data (left - length piece)) more (more - length piece) statuses rest
+    let reply = reply_goes method bytes piece (Data left) (Data (left - length piece)) more (more - length piece) statuses rest
     (λ framing body content stands. data_more framing body content piece left more (omega arith) (omega arith) stands) going.reply in
     InBody (Data (left - length piece)) (more - length piece) statuses (rest ++ piece)
     (content_yet method most bytes piece (Data left) (Data (left - length piece)) more statuses rest (omega arith) (omega arith) reply going) (omega arith)
 body_open method most bytes piece (End part) more statuses rest comes fewer going =
     let short : length (part ++ piece) < 2 = omega (arith, length-append part piece) in
-    let reply = reply_goes bytes piece (End part) (End (part ++ piece)) more more statuses rest
+    let reply = reply_goes method bytes piece (End part) (End (part ++ piece)) more more statuses rest
     (λ framing body content stands. end_more framing body content part piece more short stands) going.reply in
     InBody (End (part ++ piece)) more statuses rest (record {
-      reply = subst (IsReply (bytes ++ piece) (End (part ++ piece)) more statuses) (append-nil rest) reply;
+      reply = subst (IsReply method (bytes ++ piece) (End (part ++ piece)) more statuses) (append-nil rest) reply;
       unfinished = going.unfinished;
       none = going.none;
       sound = going.sound;
     }) (omega arith)
 body_open method most bytes piece (Last left) more statuses rest comes fewer going =
     let room : left ≤ more = going.reply.stands.room in
-    let reply = reply_goes bytes piece (Last left) (Last (left - length piece)) more (more - length piece) statuses rest
+    let reply = reply_goes method bytes piece (Last left) (Last (left - length piece)) more (more - length piece) statuses rest
     (λ framing body content stands. last_more framing body content piece left more (omega arith) (omega arith) (omega arith) stands) going.reply in
     InBody (Last (left - length piece)) (more - length piece) statuses (rest ++ piece)
     (content_yet method most bytes piece (Last left) (Last (left - length piece)) more statuses rest (omega arith) (omega arith) reply going) (omega arith)
@@ -184,7 +184,7 @@ was_open_for reply bytes piece other some within unfinished holds =
 -- what a response that took a piece says of it
 pub goes_on : (reply : Reply) (piece : List ℕ) (old new : Option (List ℕ)) → 0 < length piece → length piece ≤ wanted_of reply → Consumes old new piece
     → (result : Result Reply AskFault) → IfOk result (λ after. (bytes : List ℕ) → Holds bytes reply → Holds (bytes ++ piece) after)
-    → IfOk result (λ after. (bytes : List ℕ) → Holds bytes reply → Grows (bytes ++ piece) (statuses_of reply) (statuses_of after))
+    → IfOk result (λ after. (bytes : List ℕ) → Holds bytes reply → Grows (method_of reply) (bytes ++ piece) (statuses_of reply) (statuses_of after))
     → IfOk result (λ after. (bytes : List ℕ) × Consumes old new bytes × ((front : List ℕ) → Holds front reply → GoesTo (front ++ bytes) reply after))
 goes_on reply piece old new some within read (Ok after) gives grows = (
   piece,

@@ -45,8 +45,8 @@ check_bad method most bytes next more statuses rest some none empty is going =
 pub watch_told : (method : Method) (most : ℕ) (bytes : List ℕ) (next : Next) (more : ℕ) (statuses rest : List ℕ) → 1 ≤ spare_in next → wanted_by next ≤ 0
     → length rest ≡ 0 → method ≡ Watch → IsGoingOn method most bytes next more statuses rest → IsTold method most bytes statuses None
 watch_told method most bytes next more statuses rest some none empty is going =
-    let over = subst (λ (n : Next). IsReply bytes n more statuses rest) (at_last next some none) going.reply in
-    ByEnd more is (subst (λ (all : List ℕ). IsReply bytes (Last 0) more statuses all) (nil_from_length rest empty) over) going.unfinished refl
+    let over = subst (λ (n : Next). IsReply method bytes n more statuses rest) (at_last next some none) going.reply in
+    ByEnd more is (subst (λ (all : List ℕ). IsReply method bytes (Last 0) more statuses all) (nil_from_length rest empty) over) going.unfinished refl
 
 -- no bytes are no frame
 pub no_frame : BeginsWithNoFrame []
@@ -69,9 +69,9 @@ message_bad method most bytes next more statuses message fault is fits ending =
     ByContent next more statuses (frame 0 message) ending.ends.reply ending.unfinished (BadMessage message fault refl fits is)
 
 -- one status more
-reply_push : (bytes : List ℕ) (next : Next) (more : ℕ) (statuses message : List ℕ) (status : ℕ) → length message ≤ max_content_len → IsResponse message status
-    → IsReply bytes next more statuses (frame 0 message) → IsReply bytes next more (statuses ++ status ∷ []) []
-reply_push bytes next more statuses message status fits has reply = record {
+reply_push : (method : Method) (bytes : List ℕ) (next : Next) (more : ℕ) (statuses message : List ℕ) (status : ℕ) → length message ≤ max_content_len → IsResponse message status
+    → IsReply method bytes next more statuses (frame 0 message) → IsReply method bytes next more (statuses ++ status ∷ []) []
+reply_push method bytes next more statuses message status fits has reply = record {
   head = reply.head;
   body = reply.body;
   framing = reply.framing;
@@ -91,9 +91,9 @@ message_told method most bytes next more statuses message told status fits has i
     ByCount next more statuses message status ending.ends fits ending.unfinished has is enough refl
 
 -- one status more, whatever was asked for
-pub message_grows : (bytes : List ℕ) (next : Next) (more : ℕ) (statuses message told : List ℕ) (status : ℕ) → length message ≤ max_content_len
-    → IsResponse message status → told ≡ statuses ++ status ∷ [] → EndsWith bytes next more statuses (frame 0 message) → EndsInStatus bytes statuses told
-message_grows bytes next more statuses message told status fits has is ends = record {
+pub message_grows : (method : Method) (bytes : List ℕ) (next : Next) (more : ℕ) (statuses message told : List ℕ) (status : ℕ) → length message ≤ max_content_len
+    → IsResponse message status → told ≡ statuses ++ status ∷ [] → EndsWith method bytes next more statuses (frame 0 message) → EndsInStatus method bytes statuses told
+message_grows method bytes next more statuses message told status fits has is ends = record {
   next = next;
   more = more;
   message = message;
@@ -109,7 +109,7 @@ pub message_on : (method : Method) (most : ℕ) (bytes : List ℕ) (next : Next)
     → IsResponse message status → told ≡ statuses ++ status ∷ [] → is_enough method most (length told) ≡ false
     → IsEnding method most bytes next more statuses (frame 0 message) → IsGoingOn method most bytes next more told []
 message_on method most bytes next more statuses message told status fits has is unfinished ending = record {
-  reply = subst (λ (all : List ℕ). IsReply bytes next more all []) (sym is) (reply_push bytes next more statuses message status fits has ending.ends.reply);
+  reply = subst (λ (all : List ℕ). IsReply method bytes next more all []) (sym is) (reply_push method bytes next more statuses message status fits has ending.ends.reply);
   unfinished = unfinished;
   none = no_frame;
   sound = sound_start more;
@@ -144,7 +144,7 @@ front_bad method most bytes next more statuses rest wrong ending =
 pub front_on : (method : Method) (most : ℕ) (bytes : List ℕ) (next : Next) (more : ℕ) (statuses rest fed : List ℕ) → rest ≡ fed → BeginsWithNoFrame rest
     → IsSoundFront more rest → IsEnding method most bytes next more statuses fed → IsGoingOn method most bytes next more statuses rest
 front_on method most bytes next more statuses rest fed is none sound ending = record {
-  reply = subst (IsReply bytes next more statuses) (sym is) ending.ends.reply;
+  reply = subst (IsReply method bytes next more statuses) (sym is) ending.ends.reply;
   unfinished = ending.unfinished;
   none = none;
   sound = sound;

@@ -21,11 +21,12 @@ use Rattle.client.specs.Stages.{StandsAt, statuses_at, wanted_at}
 use Rattle.client.proofs.AskingLemmas.{few_told}
 
 -- what a response of which more has to come has told so far
-pub told_so_far : (method : Method) (most : ℕ) (bytes head : List ℕ) (stage : ReplyStage) → 0 < wanted_at stage → StandsAt method most bytes head stage
+pub told_so_far : (method : Method) (most : ℕ) (bytes head : List ℕ) (stage : ReplyStage) → method ≡ Watch → 0 < wanted_at stage → StandsAt method most bytes head stage
     → TellSoFar bytes (statuses_at stage)
-told_so_far method most bytes head Head wants stands = InHead stands.1 refl
-told_so_far method most bytes head (Body reading) wants stands = InBody reading.body.next reading.body.more reading.heard.splitter stands.reply
-told_so_far method most bytes head (Told told) wants stands = absurd (omega arith)
+told_so_far method most bytes head Head is wants stands = InHead stands.1 refl
+told_so_far Watch most bytes head (Body reading) is wants stands = InBody reading.body.next reading.body.more reading.heard.splitter stands.reply
+told_so_far Check most bytes head (Body reading) is wants stands = cc
+told_so_far method most bytes head (Told told) is wants stands = absurd (omega arith)
 
 -- it is what a front of all bytes has told
 pub front_told : (bytes piece statuses : List ℕ) → TellSoFar bytes statuses → HaveTold (bytes ++ piece) statuses
@@ -47,13 +48,13 @@ one_short before after status is =
     let len : length after ≡ length before + 1 = ap length is ∙ length-append before (status ∷ []) in grind (arith, nat_tests, len)
 
 -- so bytes that end in a status tell it to a Watch of as many statuses as there are then
-pub told_here : (bytes before after : List ℕ) → EndsInStatus bytes before after → IsTold Watch (length after) bytes after None
+pub told_here : (bytes before after : List ℕ) → EndsInStatus Watch bytes before after → IsTold Watch (length after) bytes after None
 told_here bytes before after ends =
     ByCount ends.next ends.more before ends.message ends.status ends.ends ends.fits (one_short before after ends.status ends.after_is)
     ends.response ends.after_is (grind (arith, nat_tests)) refl
 
 -- the answer of a Watch that was left there
-pub left_says : (told : Answered) (bytes before after : List ℕ) → told.statuses.items ≡ after → told.end ≡ None → EndsInStatus bytes before after
+pub left_says : (told : Answered) (bytes before after : List ℕ) → told.statuses.items ≡ after → told.end ≡ None → EndsInStatus Watch bytes before after
     → WasOpen Watch (length after) bytes → Says (Ok told) Watch (length told.statuses.items) bytes
 left_says told bytes before after is none ends was =
     let here : IsTold Watch (length after) bytes after told.end = subst (IsTold Watch (length after) bytes after) (sym none) (told_here bytes before after ends) in (
@@ -81,26 +82,26 @@ watch_answer told most few = record {
 }
 
 -- what a listener has heard once it was told what is new
-pub heard_on : (first old new : Option (List ℕ)) (bytes before after shown : List ℕ) (told : ℕ) → Appends first old before → Grows bytes before after
+pub heard_on : (method : Method) (first old new : Option (List ℕ)) (bytes before after shown : List ℕ) (told : ℕ) → Appends first old before → Grows method bytes before after
     → shown ≡ after → told ≡ length before → (length shown ≤ told → new ≡ old)
     → ((front : List ℕ) (status : ℕ) → shown ≡ front ++ status ∷ [] → length front ≡ told → Appends old new (status ∷ [])) → Appends first new after
-heard_on first old new bytes before after shown told heard (inl same) is len none one =
+heard_on method first old new bytes before after shown told heard (inl same) is len none one =
     let unchanged : new ≡ old = none (omega (arith, ap length is, ap length same, len)) in
     subst (Appends first new) (sym same) (subst (λ (known : Option (List ℕ)). Appends first known before) (sym unchanged) heard)
-heard_on first old new bytes before after shown told heard (inr ends) is len none one =
+heard_on method first old new bytes before after shown told heard (inr ends) is len none one =
     subst (Appends first new) (sym ends.after_is)
     (Appends-trans first old new before (ends.status ∷ []) heard (one before ends.status (is ∙ ends.after_is) (sym len)))
 
 -- a listener that has enough only now was told a status
-pub newly_enough : (bytes before after shown : List ℕ) (told : ℕ) (old new : Bool) → Grows bytes before after → shown ≡ after → told ≡ length before
-    → (length shown ≤ told → new ≡ old) → old ≡ false → new ≡ true → EndsInStatus bytes before after
+pub newly_enough : (bytes before after shown : List ℕ) (told : ℕ) (old new : Bool) → Grows Watch bytes before after → shown ≡ after → told ≡ length before
+    → (length shown ≤ told → new ≡ old) → old ≡ false → new ≡ true → EndsInStatus Watch bytes before after
 newly_enough bytes before after shown told old new (inl same) is len none wants enough =
     let unchanged : new ≡ old = none (omega (arith, ap length is, ap length same, len)) in cc
 newly_enough bytes before after shown told old new (inr ends) is len none wants enough = ends
 
 -- a Watch of as many statuses as there are then was open before
 pub watch_open : (method : Method) (bytes before after : List ℕ) → method ≡ Watch
-    → ((most : ℕ) → is_enough method most (length before) ≡ false → WasOpen method most bytes) → EndsInStatus bytes before after
+    → ((most : ℕ) → is_enough method most (length before) ≡ false → WasOpen method most bytes) → EndsInStatus Watch bytes before after
     → WasOpen Watch (length after) bytes
 watch_open Watch bytes before after is opened ends = opened (length after) (one_short before after ends.status ends.after_is)
 watch_open Check bytes before after is opened ends = cc

@@ -3,6 +3,7 @@ use Rattle.std.specs.Prelude.{ℕ, ◌≡◌, Bool, true, false, Option, Result,
 use Rattle.std.specs.Io.KnownBytes.{Appends, Consumes}
 use Rattle.web_call.specs.InputHead.{IsOpenHead}
 use Rattle.web_call.specs.Pieces.{IsFrontOf}
+use Rattle.web_call.specs.declared.method.Method.TheVariants.{Watch}
 use Rattle.client.specs.declared.ask_fault.AskFault.{AskFault}
 use Rattle.client.specs.declared.ask_fault.AskFault.TheVariants.{Read, Write, BadResponse, Http, NoMemory}
 use Rattle.client.specs.declared.response_body.Next.{Next}
@@ -15,10 +16,10 @@ wanted_by_end (Ok told) most true = length told.statuses.items
 wanted_by_end (Ok told) most false = most
 wanted_by_end (Err fault) most has_enough = most
 
--- the statuses that the bytes of a response tell so far: in its head none, and in its body those of its whole frames
+-- the statuses that the bytes of a Watch's response tell so far: in its head none, and in its body those of its whole frames
 pub data TellSoFar (bytes statuses : List ℕ) : Type 0 where
   InHead : IsOpenHead bytes → statuses ≡ [] → TellSoFar bytes statuses
-  InBody : (next : Next) (more : ℕ) (rest : List ℕ) → IsReply bytes next more statuses rest → TellSoFar bytes statuses
+  InBody : (next : Next) (more : ℕ) (rest : List ℕ) → IsReply Watch bytes next more statuses rest → TellSoFar bytes statuses
 
 -- a front of the bytes tells these statuses so far
 pub record HaveTold (bytes statuses : List ℕ) : Type 0 where

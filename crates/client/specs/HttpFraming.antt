@@ -7,17 +7,24 @@ use Rattle.httparse.specs.Spans.{name_and_value}
 use Rattle.web_call.specs.ContentLength.{length_of}
 use Rattle.web_call.specs.Head.{is_too_large}
 use Rattle.web_call.specs.Lines.{count_named, first_named, is_named}
+use Rattle.web_call.specs.declared.method.Method.{Method}
+use Rattle.web_call.specs.declared.method.Method.TheVariants.{Check, Watch}
 use Rattle.client.specs.declared.ask_fault.AskFault.{AskFault}
 use Rattle.client.specs.declared.ask_fault.AskFault.TheVariants.{BadResponse, Http}
 use Rattle.client.specs.declared.http_framing.Framing.{Framing}
 use Rattle.client.specs.declared.http_framing.Framing.TheVariants.{Chunked, Length}
 
--- the longest body by its length, and the most bytes of content in chunks, which are this client's limits
+-- the longest body by its length, and the most bytes of content in a Watch's chunks, which are this client's limits
 abbrev pub max_body_len : ℕ
 max_body_len = 1048576
 
 abbrev pub max_chunked_len : ℕ
 max_chunked_len = 1073741824
+
+-- the most bytes of content in chunks: a Check's may have no more than by their length
+abbrev pub max_chunked : Method → ℕ
+max_chunked Check = max_body_len
+max_chunked Watch = max_chunked_len
 
 -- the line says that the body comes in chunks (RFC 9112, section 6.1)
 abbrev pub is_chunked : List ℕ × List ℕ → Bool
@@ -34,23 +41,23 @@ by_length None = Err BadResponse
 by_length (Some len) = if nat_le len max_body_len then Ok (Length len) else Err BadResponse
 
 -- how the lines say that the body ends: chunks count before a length (RFC 9112, section 6.3)
-abbrev pub framing_in : List (List ℕ × List ℕ) → Result Framing AskFault
-framing_in lines = if list_any is_chunked lines then Ok Chunked else by_length (only_length lines)
+abbrev pub framing_in : Method → List (List ℕ × List ℕ) → Result Framing AskFault
+framing_in method lines = if list_any is_chunked lines then Ok (Chunked (max_chunked method)) else by_length (only_length lines)
 
 -- what a whole head says: another status code than 200 counts before all else
-abbrev pub framing_by : ℕ → List (List ℕ × List ℕ) → Result Framing AskFault
-framing_by code lines = if code == 200 then framing_in lines else Err (Http code)
+abbrev pub framing_by : Method → ℕ → List (List ℕ × List ℕ) → Result Framing AskFault
+framing_by method code lines = if code == 200 then framing_in method lines else Err (Http code)
 
 -- the bytes are just this head, with 32 header lines at most
 abbrev pub IsExactly : List ℕ → ResponseHead → Type 0
 IsExactly bytes head = ReadsResponse bytes head [] × (length head.fields ≤ 32)
 
 -- bytes within the limits are a head, which says so, or none, which is a bad response
-abbrev pub IsHeadSaying : List ℕ → Result Framing AskFault → Type 0
-IsHeadSaying bytes framing =
-    ((head : ResponseHead) × IsExactly bytes head × (framing ≡ framing_by (status_code head) (map name_and_value head.fields)))
+abbrev pub IsHeadSaying : Method → List ℕ → Result Framing AskFault → Type 0
+IsHeadSaying method bytes framing =
+    ((head : ResponseHead) × IsExactly bytes head × (framing ≡ framing_by method (status_code head) (map name_and_value head.fields)))
     ⊎ (((head : ResponseHead) → ¬ IsExactly bytes head) × (framing ≡ Err BadResponse))
 
--- what the bytes say as a head: that they are too large comes first
-abbrev pub IsFramed : List ℕ → Result Framing AskFault → Type 0
-IsFramed bytes framing = MatchBool (is_too_large bytes) (framing ≡ Err BadResponse) (IsHeadSaying bytes framing)
+-- what the bytes say as a head of a response to such a call: that they are too large comes first
+abbrev pub IsFramed : Method → List ℕ → Result Framing AskFault → Type 0
+IsFramed method bytes framing = MatchBool (is_too_large bytes) (framing ≡ Err BadResponse) (IsHeadSaying method bytes framing)

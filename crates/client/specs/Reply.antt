@@ -26,22 +26,22 @@ abbrev pub is_enough : Method → ℕ → ℕ → Bool
 is_enough Check most count = false
 is_enough Watch most count = nat_le most count
 
--- a response so far: a head that says how its body is framed, and of the body some bytes, whose content tells these statuses, and then
+-- a response to such a call so far: a head that says how its body is framed, and of the body some bytes, whose content tells these statuses, and then
 -- has this rest. What comes next in the body is `next`, and at most so many bytes of content may still come
-pub record IsReply (bytes : List ℕ) (next : Next) (more : ℕ) (statuses rest : List ℕ) : Type 0 where
+pub record IsReply (method : Method) (bytes : List ℕ) (next : Next) (more : ℕ) (statuses rest : List ℕ) : Type 0 where
   pub head : List ℕ
   pub body : List ℕ
   pub framing : Framing
   pub content : List ℕ
   pub parts : bytes ≡ head ++ body
   pub is_head : IsHead head
-  pub framed : IsFramed head (Ok framing)
+  pub framed : IsFramed method head (Ok framing)
   pub stands : Stands framing body content next more
   pub tells : Tells content statuses rest
 
 -- a response from which more has to be known: fewer statuses than were asked for, and behind them the front of a frame that may become whole
 pub record IsGoingOn (method : Method) (most : ℕ) (bytes : List ℕ) (next : Next) (more : ℕ) (statuses rest : List ℕ) : Type 0 where
-  pub reply : IsReply bytes next more statuses rest
+  pub reply : IsReply method bytes next more statuses rest
   pub unfinished : is_enough method most (length statuses) ≡ false
   pub none : BeginsWithNoFrame rest
   pub sound : IsSoundFront more rest
@@ -60,8 +60,8 @@ pub record WasOpen (method : Method) (most : ℕ) (bytes : List ℕ) : Type 0 wh
   pub was_open : IsOpen method most front
 
 -- the last byte that came is the last one of this rest of the content
-pub record EndsWith (bytes : List ℕ) (next : Next) (more : ℕ) (statuses rest : List ℕ) : Type 0 where
-  pub reply : IsReply bytes next more statuses rest
+pub record EndsWith (method : Method) (bytes : List ℕ) (next : Next) (more : ℕ) (statuses rest : List ℕ) : Type 0 where
+  pub reply : IsReply method bytes next more statuses rest
   pub front : List ℕ
   pub byte : ℕ
   pub next_before : Next
@@ -69,20 +69,20 @@ pub record EndsWith (bytes : List ℕ) (next : Next) (more : ℕ) (statuses rest
   pub part : List ℕ
   pub bytes_are : bytes ≡ front ++ byte ∷ []
   pub rest_is : rest ≡ part ++ byte ∷ []
-  pub before : IsReply front next_before more_before statuses part
+  pub before : IsReply method front next_before more_before statuses part
 
 -- the bytes tell these statuses, in their order, and the end of the call, if it has one; and no byte came behind what tells it
 pub data IsTold (method : Method) (most : ℕ) (bytes told : List ℕ) (end : Option Ended) : Type 0 where
   -- by trailers, which are the last of their chunk, or of the body by its length
-  ByTrailers : (next : Next) (more : ℕ) (block : List ℕ) (ended : Ended) → EndsWith bytes next more told (frame 128 block)
+  ByTrailers : (next : Next) (more : ℕ) (block : List ℕ) (ended : Ended) → EndsWith method bytes next more told (frame 128 block)
       → length block ≤ max_content_len → is_enough method most (length told) ≡ false → left_of next ≡ 0
       → trailers_in (lines block) ≡ Ok (ended.code, ended.text.items) → end ≡ Some ended → IsTold method most bytes told end
   -- by the last status that was asked for
-  ByCount : (next : Next) (more : ℕ) (statuses message : List ℕ) (status : ℕ) → EndsWith bytes next more statuses (frame 0 message)
+  ByCount : (next : Next) (more : ℕ) (statuses message : List ℕ) (status : ℕ) → EndsWith method bytes next more statuses (frame 0 message)
       → length message ≤ max_content_len → is_enough method most (length statuses) ≡ false → IsResponse message status → told ≡ statuses ++ status ∷ []
       → is_enough method most (length told) ≡ true → end ≡ None → IsTold method most bytes told end
   -- by the end of the body of a Watch, which was cut off
-  ByEnd : (more : ℕ) → method ≡ Watch → IsReply bytes (Last 0) more told [] → is_enough method most (length told) ≡ false → end ≡ None
+  ByEnd : (more : ℕ) → method ≡ Watch → IsReply method bytes (Last 0) more told [] → is_enough method most (length told) ≡ false → end ≡ None
       → IsTold method most bytes told end
 
 -- what is wrong with the rest of the content, where so many bytes may still come
@@ -101,16 +101,16 @@ pub data IsBadRest (method : Method) (next : Next) (more : ℕ) (rest : List ℕ
 -- the bytes show that no response to the call begins so: by the head, by the chunks, or by the content. A fault shows at the end of its
 -- part: the head, the line of a chunk, the two bytes behind a chunk, the flag or the length of a frame, or the frame
 pub data IsBad (method : Method) (most : ℕ) (bytes : List ℕ) : Type 0 where
-  ByHead : IsHead bytes → IsFramed bytes (Err BadResponse) → IsBad method most bytes
-  ByBody : (head body : List ℕ) (framing : Framing) → bytes ≡ head ++ body → IsHead head → IsFramed head (Ok framing) → IsBadBody framing body
+  ByHead : IsHead bytes → IsFramed method bytes (Err BadResponse) → IsBad method most bytes
+  ByBody : (head body : List ℕ) (framing : Framing) → bytes ≡ head ++ body → IsHead head → IsFramed method head (Ok framing) → IsBadBody framing body
       → IsBad method most bytes
-  ByContent : (next : Next) (more : ℕ) (statuses rest : List ℕ) → IsReply bytes next more statuses rest → is_enough method most (length statuses) ≡ false
+  ByContent : (next : Next) (more : ℕ) (statuses rest : List ℕ) → IsReply method bytes next more statuses rest → is_enough method most (length statuses) ≡ false
       → IsBadRest method next more rest → IsBad method most bytes
 
--- the bytes are the head of a response with another status code of HTTP than 200
+-- the bytes are the head of a response with another status code of HTTP than 200, whatever the call
 pub record IsRefused (bytes : List ℕ) (status : ℕ) : Type 0 where
   pub is_head : IsHead bytes
-  pub framed : IsFramed bytes (Err (Http status))
+  pub framed : (method : Method) → IsFramed method bytes (Err (Http status))
 
 -- a fault of the response, or of memory, and neither of the reader nor of the writer
 abbrev pub IsOfResponse : AskFault → Type 0

@@ -6,7 +6,6 @@ use Rattle.client.specs.declared.http_framing.Framing.TheVariants.{Chunked, Leng
 use Rattle.client.specs.declared.response_body.Next.{Next}
 use Rattle.client.specs.declared.response_body.Next.TheVariants.{Line, Data, End, Last}
 use Rattle.client.specs.Chunks.{AreChunks}
-use Rattle.client.specs.HttpFraming.{max_chunked_len}
 
 -- the longest line of a chunk, with its CR LF, which is this client's limit
 abbrev pub max_line_len : ℕ
@@ -14,7 +13,7 @@ max_line_len = 64
 
 -- the most bytes of content that a body may have
 abbrev pub most_content : Framing → ℕ
-most_content Chunked = max_chunked_len
+most_content (Chunked most) = most
 most_content (Length len) = len
 
 -- chunks have come, and of the next one's line these bytes, with which it may still become one
@@ -55,10 +54,10 @@ pub record IsWithinLength (len : ℕ) (bytes content : List ℕ) (left : ℕ) : 
 
 -- of a body with this framing these bytes have come, and with them this content; then comes what is next
 abbrev pub Comes : Framing → List ℕ → List ℕ → Next → Type 0
-Comes Chunked bytes content (Line part) = IsInLine bytes content part
-Comes Chunked bytes content (Data left) = IsInChunk bytes content left [] × (0 < left)
-Comes Chunked bytes content (End part) = IsBehindData bytes content part
-Comes Chunked bytes content (Last left) = IsAtLastChunk bytes content left
+Comes (Chunked most) bytes content (Line part) = IsInLine bytes content part
+Comes (Chunked most) bytes content (Data left) = IsInChunk bytes content left [] × (0 < left)
+Comes (Chunked most) bytes content (End part) = IsBehindData bytes content part
+Comes (Chunked most) bytes content (Last left) = IsAtLastChunk bytes content left
 Comes (Length len) bytes content (Line part) = ⊥
 Comes (Length len) bytes content (Data left) = ⊥
 Comes (Length len) bytes content (End part) = ⊥
@@ -78,17 +77,17 @@ pub record Stands (framing : Framing) (bytes content : List ℕ) (next : Next) (
   pub room : left_of next ≤ more
 
 -- a chunk's bytes that nothing can make right: by a line that is none, whatever follows; by a line that has no end within the limit; by
--- a chunk that makes the content longer than the limit; by two other bytes than CR LF behind the data
-pub data IsBadChunk (bytes : List ℕ) : Type 0 where
-  NoLine : (content part : List ℕ) → AreChunks bytes content part → NeverHasChunkLine part → IsBadChunk bytes
-  LongLine : (content part : List ℕ) → AreChunks bytes content part → HasNoChunkLine part → max_line_len ≤ length part → IsBadChunk bytes
+-- a chunk that makes the content longer than so many bytes; by two other bytes than CR LF behind the data
+pub data IsBadChunk (most : ℕ) (bytes : List ℕ) : Type 0 where
+  NoLine : (content part : List ℕ) → AreChunks bytes content part → NeverHasChunkLine part → IsBadChunk most bytes
+  LongLine : (content part : List ℕ) → AreChunks bytes content part → HasNoChunkLine part → max_line_len ≤ length part → IsBadChunk most bytes
   TooMuch : (content : List ℕ) (line : ChunkLine) → AreChunks bytes content (print_chunk_line line) → IsChunkLine line
-      → max_chunked_len < length content + chunk_size line → IsBadChunk bytes
-  NoEnd : (content two : List ℕ) → IsInChunk bytes content 0 two → length two ≡ 2 → two ≢ codes "\r\n" → IsBadChunk bytes
+      → most < length content + chunk_size line → IsBadChunk most bytes
+  NoEnd : (content two : List ℕ) → IsInChunk bytes content 0 two → length two ≡ 2 → two ≢ codes "\r\n" → IsBadChunk most bytes
 
 -- a body by its length is no bad one, whatever its bytes
 abbrev pub IsBadBody : Framing → List ℕ → Type 0
-IsBadBody Chunked bytes = IsBadChunk bytes
+IsBadBody (Chunked most) bytes = IsBadChunk most bytes
 IsBadBody (Length len) bytes = ⊥
 
 -- the next bytes are content

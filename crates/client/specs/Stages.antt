@@ -13,7 +13,7 @@ use Rattle.client.specs.ResponseBody.{is_content, owed_by, wanted_by}
 
 -- the last byte that came is the last one of this rest of the content, before which more had to be known
 pub record IsEnding (method : Method) (most : ℕ) (bytes : List ℕ) (next : Next) (more : ℕ) (statuses rest : List ℕ) : Type 0 where
-  pub ends : EndsWith bytes next more statuses rest
+  pub ends : EndsWith method bytes next more statuses rest
   pub unfinished : is_enough method most (length statuses) ≡ false
 
 -- a call whose head is these bytes so far stands so where these bytes have come
@@ -73,4 +73,4 @@ pub record GoesTo (bytes : List ℕ) (reply after : Reply) : Type 0 where
   pub holds : Holds bytes after
   pub was_open : WasOpen (method_of reply) (most_of reply) bytes
   pub was_open_for : (most : ℕ) → is_enough (method_of reply) most (length (statuses_of reply)) ≡ false → WasOpen (method_of reply) most bytes
-  pub grows : Grows bytes (statuses_of reply) (statuses_of after)
+  pub grows : Grows (method_of reply) bytes (statuses_of reply) (statuses_of after)

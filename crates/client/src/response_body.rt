@@ -3,7 +3,7 @@ ghost use Rattle.client.specs.declared.http_framing.Framing.{Framing};
 ghost use Rattle.client.specs.ResponseBody.{Stands, GoesOn, IsBadBody, is_content, left_of, most_content, owed_by, spare_in, wanted_by};
 
 use crate::ask_fault::AskFault;
-use crate::http_framing::{Framing, MAX_CHUNKED_LEN};
+use crate::http_framing::Framing;
 use crate::kept::Kept;
 use httparse::{Status, parse_chunk_size};
 
@@ -41,7 +41,7 @@ impl ResponseBody {
         ensures owed { owed_by result.next result.more ≤ 68 * most_content framing + 64 }
     {
         match framing {
-            Framing::Chunked => in_chunks(),
+            Framing::Chunked(most) => in_chunks(most),
             Framing::Length(len) => of_length(len),
         }
     }
@@ -108,13 +108,13 @@ impl ResponseBody {
     }
 }
 
-fn in_chunks() -> ResponseBody
-    ensures stands { Stands Framing.Chunked [] [] result.next result.more }
-    ensures owed { owed_by result.next result.more ≤ 68 * most_content Framing.Chunked + 64 }
+fn in_chunks(most: usize) -> ResponseBody
+    ensures stands { Stands (Framing.Chunked most) [] [] result.next result.more }
+    ensures owed { owed_by result.next result.more ≤ 68 * most + 64 }
 {
     ResponseBody {
         next: Next::Line(Kept::new()),
-        more: MAX_CHUNKED_LEN,
+        more: most,
     }
 }
 

@@ -30,7 +30,7 @@ fn behind_head(call: Wanted, head: &[u8]) -> Result<ReplyStage, AskFault>
     ensures none { IfOk result (λ stage. statuses_at stage ≡ []) }
     ensures fewer { IfOk result (λ stage. (len : ℕ) → owed_at len stage ≤ 73014444164) }
 {
-    let framing = match framing_of(head) {
+    let framing = match framing_of(call.method, head) {
         Ok(framing) => framing,
         Err(fault) => return Err(fault),
     };
@@ -60,7 +60,7 @@ fn behind_body(call: Wanted, reading: Reading, piece: &[u8]) -> Result<ReplyStag
     ensures grows { IfOk result (λ stage. (bytes : List ℕ)
         → IsGoingOn call.method call.most bytes reading.body.next reading.body.more
         reading.heard.statuses.items reading.heard.splitter
-        → Grows (bytes ++ piece.now) reading.heard.statuses.items (statuses_at stage)) }
+        → Grows call.method (bytes ++ piece.now) reading.heard.statuses.items (statuses_at stage)) }
     ensures fewer { IfOk result (λ stage. (len : ℕ)
         → owed_at len stage < owed_by reading.body.next reading.body.more) }
 {
@@ -164,7 +164,7 @@ impl Reply {
         ensures call { IfOk result (λ reply.
             (method_of reply ≡ method_of self) × (most_of reply ≡ most_of self)) }
         ensures grows { IfOk result (λ reply. (bytes : List ℕ) → Holds bytes self
-            → Grows (bytes ++ piece.now) (statuses_of self) (statuses_of reply)) }
+            → Grows (method_of self) (bytes ++ piece.now) (statuses_of self) (statuses_of reply)) }
         ensures fewer { IfOk result (λ reply. owed_of reply < owed_of self) }
     {
         let Reply { call, head, stage } = self;

@@ -90,7 +90,7 @@ fn with_message(
     ensures grows { IfOk result (λ stage. (bytes : List ℕ) → length message.now ≤ max_content_len
         → IsEnding call.method call.most bytes body.next body.more heard.statuses.items
         (frame 0 message.now)
-        → Grows bytes heard.statuses.items (statuses_at stage)) }
+        → Grows call.method bytes heard.statuses.items (statuses_at stage)) }
     ensures fewer { IfOk result (λ stage. (len : ℕ)
         → owed_at len stage ≤ owed_by body.next body.more) }
 {
@@ -168,7 +168,7 @@ fn with_frame(
         → length taken.now.body.items ≤ max_content_len
         → IsEnding call.method call.most bytes body.next body.more heard.statuses.items
         (frame taken.now.flag taken.now.body.items)
-        → Grows bytes heard.statuses.items (statuses_at stage)) }
+        → Grows call.method bytes heard.statuses.items (statuses_at stage)) }
     ensures fewer { IfOk result (λ stage. (len : ℕ)
         → owed_at len stage ≤ owed_by body.next body.more) }
 {
@@ -201,7 +201,7 @@ pub(super) fn with_content(
     ensures grows { IfOk result (λ stage. (bytes : List ℕ) → BeginsWithNoFrame heard.splitter
         → IsEnding call.method call.most bytes body.next body.more
         heard.statuses.items (heard.splitter ++ piece.now)
-        → Grows bytes heard.statuses.items (statuses_at stage)) }
+        → Grows call.method bytes heard.statuses.items (statuses_at stage)) }
     ensures fewer { IfOk result (λ stage. (len : ℕ)
         → owed_at len stage ≤ owed_by body.next body.more) }
 {

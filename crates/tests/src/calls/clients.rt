@@ -1,3 +1,4 @@
-//! Calls of `client::ask` whose reader or writer fails.
+//! Calls of `client::ask` whose reader or writer fails, or whose response has too long a chunk.
 
 mod faults;
+mod lengths;

@@ -9,6 +9,7 @@ use Rattle.client.specs.declared.ask_fault.AskFault.TheVariants.{Write}
 use Rattle.client.specs.declared.reply.Reply.{Reply}
 use Rattle.client.specs.declared.told.Told.{Told}
 use Rattle.client.specs.Ask.{HasReadCause, IsAnswerTo, IsFaultAt, Says}
+use Rattle.client.specs.Growth.{Grows}
 use Rattle.client.specs.Heard.{IsHeardFor, wanted_by_end}
 use Rattle.client.specs.Lent.{lent_failed, lent_inner}
 use Rattle.client.specs.Reply.{IsOpen, IsTold, WasOpen}
@@ -44,7 +45,7 @@ loop-piece-preserved g c =
       most = c.in-Ok.ensures.call.1 ∙ before.most;
       same = c.in-Ok.ensures.reference ∙ before.same;
       kept = c.in-Ok.ensures.read ∙ before.kept;
-      heard = heard_on _ _ _ _ _ _ c.statuses.result.now (length c.statuses-told.result.now) before.heard gives.grows c.statuses.ensures
+      heard = heard_on (method_of reply) _ _ _ _ _ _ c.statuses.result.now (length c.statuses-told.result.now) before.heard gives.grows c.statuses.ensures
           (ap length c.statuses-told.ensures) (λ few. ap g.L.Listener.heard (c.tell_newest.ensures.none few)) c.tell_newest.ensures.told;
       wants = sym c.tell_newest.ensures.enough ∙ c.if-tell_newest.false;
     }
@@ -57,7 +58,7 @@ pub returns-then-is_err-clause-heard : goal.returns-then-is_err-clause-heard
 returns-then-is_err-clause-heard g c =
     let before = c.loop-piece.invariant in
     let reply = c.loop-piece.reply in
-    let tell = told_so_far (method_of reply) (most_of reply) before.received.0 reply.head.items reply.stage (let wants : 0 < wanted_of reply = omega arith in wants) before.received.2 in
+    let tell = told_so_far (method_of reply) (most_of reply) before.received.0 reply.head.items reply.stage before.method (let wants : 0 < wanted_of reply = omega arith in wants) before.received.2 in
     (before.received.0, statuses_of reply, before.received.1, before.heard, all_told before.received.0 (statuses_of reply) tell)
 
 pub returns-in-Err-clause-response : goal.returns-in-Err-clause-response
@@ -85,7 +86,7 @@ returns-in-Err-clause-heard g c =
     let before = c.loop-piece.invariant in
     let read = c.in-Err.ensures.err in
     let reply = c.loop-piece.reply in
-    let tell = told_so_far (method_of reply) (most_of reply) before.received.0 reply.head.items reply.stage (let wants : 0 < wanted_of reply = omega arith in wants) before.received.2 in (
+    let tell = told_so_far (method_of reply) (most_of reply) before.received.0 reply.head.items reply.stage before.method (let wants : 0 < wanted_of reply = omega arith in wants) before.received.2 in (
       before.received.0 ++ read.0,
       statuses_of reply,
       Consumes-trans _ _ _ before.received.0 read.0 before.received.1 read.1,
@@ -102,7 +103,8 @@ returns-then-tell_newest-clause-response g c =
     let bytes = before.received.0 ++ read.0 in
     let enough = sym c.tell_newest.ensures.enough ∙ c.if-tell_newest.true in
     let ends = newly_enough bytes (statuses_of reply) (statuses_of c.in-Ok.after) c.statuses.result.now (length c.statuses-told.result.now)
-    (g.L.Listener.has_enough c.loop-piece.listener) (g.L.Listener.has_enough c.tell_newest.new.listener) gives.grows c.statuses.ensures
+    (g.L.Listener.has_enough c.loop-piece.listener) (g.L.Listener.has_enough c.tell_newest.new.listener)
+    (subst (λ (method : Method). Grows method bytes (statuses_of reply) (statuses_of c.in-Ok.after)) before.method gives.grows) c.statuses.ensures
     (ap length c.statuses-told.ensures) (λ few. ap g.L.Listener.has_enough (c.tell_newest.ensures.none few)) before.wants enough in
     let was = watch_open (method_of reply) bytes (statuses_of reply) (statuses_of c.in-Ok.after) before.method gives.was_open_for ends in
     let told = c.leave.result in (
@@ -127,11 +129,12 @@ pub returns-then-tell_newest-clause-heard : goal.returns-then-tell_newest-clause
 returns-then-tell_newest-clause-heard g c =
     let before = c.loop-piece.invariant in
     let read = c.in-Ok.ensures.ok in
+    let reply = c.loop-piece.reply in
     let gives = read.2 before.received.0 before.received.2 in (
       before.received.0 ++ read.0,
       statuses_of c.in-Ok.after,
       Consumes-trans _ _ _ before.received.0 read.0 before.received.1 read.1,
-      heard_on _ _ _ _ _ _ c.statuses.result.now (length c.statuses-told.result.now) before.heard gives.grows c.statuses.ensures
+      heard_on (method_of reply) _ _ _ _ _ _ c.statuses.result.now (length c.statuses-told.result.now) before.heard gives.grows c.statuses.ensures
           (ap length c.statuses-told.ensures) (λ few. ap g.L.Listener.heard (c.tell_newest.ensures.none few)) c.tell_newest.ensures.told,
       sym c.leave.ensures.statuses,
     )

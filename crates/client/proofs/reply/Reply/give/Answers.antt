@@ -36,7 +36,7 @@ returns-in-Head-clause-grows c =
 
 pub returns-in-Ok-clause-grows : goal.returns-in-Ok-clause-grows
 returns-in-Ok-clause-grows c = λ bytes holds.
-    subst (λ (before : List ℕ). Grows (bytes ++ c.args.piece.now) before (statuses_at c.in-Ok.stage)) (sym (ap statuses_at c.in-Body.is))
+    subst (λ (before : List ℕ). Grows c.args.self.call.method (bytes ++ c.args.piece.now) before (statuses_at c.in-Ok.stage)) (sym (ap statuses_at c.in-Body.is))
     (c.in-Ok.ensures.grows bytes
     (subst (λ (stage : ReplyStage). StandsAt c.args.self.call.method c.args.self.call.most bytes c.args.self.head.items stage) c.in-Body.is holds))
 

@@ -5,12 +5,20 @@ use Rattle.client.specs.declared.ask_fault.AskFault.TheVariants.{BadResponse}
 use Rattle.client.specs.HttpFraming.{IsFramed}
 use Rattle.client.specs.Reply.{ByHead}
 use Rattle.client.proofs.GivingLemmas.{begun_from}
+use Rattle.client.proofs.HeadLemmas.{refused_any}
 use Rattle.client.proofs.ReplyLemmas.{on_err}
 use Rattle.client.proofs.reply.giving.behind_head.Goals as goal
 
 pub returns-in-Err-clause-bad : goal.returns-in-Err-clause-bad
 returns-in-Err-clause-bad c = λ is is_head.
-    ByHead is_head (IfErr-at_err (λ (fault : AskFault). IsFramed c.args.head.now (Err fault)) is c.in-Err.ensures.says)
+    ByHead is_head (IfErr-at_err (λ (fault : AskFault). IsFramed c.args.call.method c.args.head.now (Err fault)) is c.in-Err.ensures.says)
+
+pub returns-in-Err-clause-http : goal.returns-in-Err-clause-http
+returns-in-Err-clause-http c = λ status is is_head. record {
+  is_head = is_head;
+  framed = refused_any c.args.call.method c.args.head.now status
+      (IfErr-at_err (λ (fault : AskFault). IsFramed c.args.call.method c.args.head.now (Err fault)) is c.in-Err.ensures.says);
+}
 
 pub returns-clause-ok : goal.returns-clause-ok
 returns-clause-ok c =

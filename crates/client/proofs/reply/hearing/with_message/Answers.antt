@@ -37,11 +37,11 @@ returns-clause-bad c = λ is bytes empty fits ending.
 
 pub returns-then-is_enough-clause-grows : goal.returns-then-is_enough-clause-grows
 returns-then-is_enough-clause-grows c = λ bytes fits ending.
-    inr (message_grows bytes c.args.body.next c.args.body.more c.args.heard.statuses.items c.args.message.now
+    inr (message_grows c.args.call.method bytes c.args.body.next c.args.body.more c.args.heard.statuses.items c.args.message.now
     c.push.new.self.items c.in-Ok.status fits c.in-Ok.ensures.ok c.in_ok-push.ensures.items ending.ends)
 
 pub returns-clause-grows : goal.returns-clause-grows
 returns-clause-grows c =
     IfOk-weaker c.settled.result _ _ (λ stage same bytes fits ending.
-    inr (message_grows bytes c.args.body.next c.args.body.more c.args.heard.statuses.items c.args.message.now
+    inr (message_grows c.args.call.method bytes c.args.body.next c.args.body.more c.args.heard.statuses.items c.args.message.now
     _ c.in-Ok.status fits c.in-Ok.ensures.ok (same ∙ c.in_ok-push.ensures.items) ending.ends)) c.settled.ensures.same
