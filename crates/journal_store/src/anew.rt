@@ -30,7 +30,7 @@ pub(crate) fn open_either<M: Medium>(
     open_anew(alloc, medium, &text.written)
 }
 
-/// Opens a file anew of which these blocks were acknowledged, or holds on to it.
+/// Opens a file anew of which these blocks were acknowledged. A file that has others may be somebody else's, and is not held on to.
 fn open_anew<M: Medium>(
     alloc: Global,
     medium: &mut M,
@@ -41,12 +41,11 @@ fn open_anew<M: Medium>(
 {
     let mut log = RecordLog::new(medium.reopen()?);
     match go_back(alloc, &mut log, written) {
-        Ok(()) => Ok(log),
-        Err(fault) => {
-            let fault = medium.fault(&log.device).unwrap_or(fault);
-            medium.hold(log.device);
-            Err(fault)
+        Ok(()) => {
+            medium.release();
+            Ok(log)
         }
+        Err(fault) => Err(medium.fault(&log.device).unwrap_or(fault)),
     }
 }
 

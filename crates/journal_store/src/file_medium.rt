@@ -14,7 +14,7 @@ use std::rt::Files;
 pub struct FileMedium<'a, R: Files<File = File> + AllocGlobal> {
     rt: &'a R,
     path: String,
-    // One of these may be the file at the path, until that is opened anew.
+    // One of these may be the file at the path, until that was opened anew.
     old: Option<HeldFile>,
     new: Option<HeldFile>,
 }
@@ -32,14 +32,14 @@ impl<'a, R: Files<File = File> + AllocGlobal> FileMedium<'a, R> {
         }
     }
 
-    /// Opens the file at the path, under the lock that is held where it is one of those that are.
+    /// Opens the file at the path, under the lock that is held where it is one of those that are. None is made.
     fn open(&self) -> Result<FileDevice, FileError> {
         for held in [self.old.as_ref(), self.new.as_ref()].into_iter().flatten() {
             if held.is_at(self.rt, &self.path) {
                 return held.open(self.rt, &self.path);
             }
         }
-        FileDevice::open(self.rt, &self.path)
+        FileDevice::open_existing(self.rt, &self.path)
     }
 }
 
@@ -47,6 +47,7 @@ impl<'a, R: Files<File = File> + AllocGlobal> FileMedium<'a, R> {
 fn fault_of_file(error: FileError) -> StoreFault {
     match error {
         FileError::Memory => StoreFault::Unknown,
+        FileError::Io(error) if error.kind() == io::ErrorKind::NotFound => StoreFault::Moved,
         FileError::Io(error) => fault_of_system(error),
         FileError::InUse | FileError::NotAFile => StoreFault::Moved,
     }
@@ -79,14 +80,12 @@ impl<'a, R: Files<File = File> + AllocGlobal> Medium for FileMedium<'a, R> {
     }
 
     fn reopen(&mut self) -> Result<FileDevice, StoreFault> {
-        match self.open() {
-            Ok(device) => {
-                self.old = None;
-                self.new = None;
-                Ok(device)
-            }
-            Err(error) => Err(fault_of_file(error)),
-        }
+        self.open().map_err(fault_of_file)
+    }
+
+    fn release(&mut self) {
+        self.old = None;
+        self.new = None;
     }
 
     fn replace(

@@ -15,11 +15,14 @@ pub trait Medium: Drop {
     /// Whether the file of this device is still the one that a restart would find.
     fn is_in_place(&self, device: &Self::Device) -> bool;
 
-    /// Holds on to the file of a device that is not to be used again, until the file is opened anew.
+    /// Holds on to the file of a device that is not to be used again, until it is released.
     fn hold(&mut self, device: Self::Device);
 
-    /// Opens the file anew.
+    /// Opens the file anew. What is held on to is held further, as it may be another file.
     fn reopen(&mut self) -> Result<Self::Device, StoreFault>;
+
+    /// Lets go of what is held on to: the file that was opened anew is the journal's.
+    fn release(&mut self);
 
     /// Puts a file of these blocks, with a closed gate behind them, in the place of a log's, unless that is no longer in its place. A crash
     /// leaves the one or the other. After an `Err` the file is to be opened anew: it may be either, and both are held on to.

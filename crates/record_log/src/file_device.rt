@@ -47,17 +47,18 @@ impl FileDevice {
     ) -> Result<FileDevice, FileError>
         ensures { IfOk result (λ device. IsDurable (file_bytes device) (file_may_leave device)) }
     {
-        match fs::metadata(rt, path) {
-            Ok(found) if !found.is_file() => return Err(FileError::NotAFile),
-            Err(error) if error.kind() != io::ErrorKind::NotFound => return Err(error.into()),
-            _ => {}
-        }
-        let file = OpenOptions::new()
-            .read(true)
-            .write(true)
-            .create(true)
-            .open(rt, path)?;
-        lock(rt, &file, path)?;
+        let file = open_locked(rt, path, true)?;
+        FileDevice::of_locked(rt, path, file)
+    }
+
+    /// The same of a file that is not made: it is an error if it is missing.
+    pub fn open_existing<R: Files<File = File> + AllocGlobal>(
+        rt: &R,
+        path: &str,
+    ) -> Result<FileDevice, FileError>
+        ensures { IfOk result (λ device. IsDurable (file_bytes device) (file_may_leave device)) }
+    {
+        let file = open_locked(rt, path, false)?;
         FileDevice::of_locked(rt, path, file)
     }
 
@@ -122,6 +123,22 @@ impl FileDevice {
         file.read_to_end(&mut bytes)?;
         Ok(FileDevice::over(file, bytes))
     }
+}
+
+/// Opens the file at a path, which may have to be made, and locks it.
+fn open_locked<R: Files<File = File>>(rt: &R, path: &str, makes: bool) -> Result<File, FileError> {
+    match fs::metadata(rt, path) {
+        Ok(found) if !found.is_file() => return Err(FileError::NotAFile),
+        Err(error) if error.kind() != io::ErrorKind::NotFound => return Err(error.into()),
+        _ => {}
+    }
+    let file = OpenOptions::new()
+        .read(true)
+        .write(true)
+        .create(makes)
+        .open(rt, path)?;
+    lock(rt, &file, path)?;
+    Ok(file)
 }
 
 /// Locks the file that stands at this path.

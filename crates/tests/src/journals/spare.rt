@@ -93,6 +93,8 @@ impl Medium for Spare {
         }
     }
 
+    fn release(&mut self) {}
+
     fn replace(
         &mut self,
         old: RecordLog<Memory>,
