@@ -74,6 +74,13 @@ server.stop()
 server = Server("--journal", journal, script=SCRIPT)
 holds("a run that goes on from that history tells it too", server.said() == "healthd: - is in the catalogue, but not registered\n", server.said())
 server.stop()
+# A run that goes on from a history makes no change of its script.
+says("a setup that would be refused, beside a history", ["--script", put("late", SCRIPT + "pass api\n"), "--journal", journal], (
+    0, f"journal {journal}: 6 entries\nlisten 127.0.0.1:8080\nservice db\nservice api\n", "healthd: - is in the catalogue, but not registered\n"))
+server = Server("--journal", journal, script=SCRIPT + "pass api\n")
+holds("a run goes on there too", server.tell("check", "api") == ("not serving", 0))
+server.stop()
+os.symlink(journal, f"{folder}/link")
 
 # Names that nothing registers, which a run tells too.
 some = "catalogue db spare -\nregister db manual\n"
@@ -104,6 +111,8 @@ for name, words in (
         ("a journal that is a folder", ["--script", script, "--journal", folder]),
         ("a journal that is something else", ["--script", script, "--journal", script]),
         ("a journal that is damaged", ["--script", script, "--journal", damaged]),
+        ("a journal that is a link", ["--script", script, "--journal", f"{folder}/link"]),
+        ("a journal beside which an expectation does not stand", ["--script", put("stale", SCRIPT + "expect api 5\n"), "--journal", journal]),
         ("a journal in a folder that is missing", ["--script", script, "--journal", f"{folder}/none/journal"]),
         ("a journal of other services", ["--script", put("other", "catalogue api db -\n"), "--journal", journal]),
         ("a journal of one service less", ["--script", put("more", "catalogue db api - x\n"), "--journal", journal]),

@@ -1,4 +1,5 @@
 """A history that is kept in a file: what a restart goes on from, what ends a start, and what is printed of a file."""
+import fcntl
 import os
 import resource
 import shutil
@@ -19,11 +20,16 @@ def start(script=SCRIPT, path=journal, **options):
 
 
 def refused(script=SCRIPT, path=journal, before=()):
-    """The exit status of a run that does not begin to serve, and what it says."""
+    """The exit status of a run that does not begin to serve, and what it says. `run --check` says so before, unless another run has the
+    file, or what failed was to write."""
+    checked = subprocess.run([HEALTHD, "run", "--check", "--journal", path], input=script, capture_output=True, text=True, timeout=30)
     server = start(script, path, before=before, starts=False)
     said = server.said().strip()
     status, printed = server.ended()
     holds("nothing was bound", printed == "", printed)
+    if not before and not said.endswith(": in use"):
+        found = checked.returncode, checked.stdout, checked.stderr.strip()
+        holds("`run --check` has failed so too", found == (status, "", said), f"{found}, and not {(status, said)}")
     return status, said
 
 
@@ -459,9 +465,7 @@ holds("a journal that was moved while it was written anew is not put where none 
 told = server.tell("pass", "db")
 holds("the next change of a server whose journal was moved meanwhile is refused", told == ("refused not stored", 3), str(told))
 server.stop()
-holds("no change is at the path then", not os.path.exists(one) or kept(one) == (0, [], ""))
-if os.path.exists(one):
-    os.remove(one)
+holds("no file is made at the path", not os.path.exists(one), str(os.listdir(folder)))
 for _ in range(5):
     server = stopped_while_written_anew()
     os.rename(one, away)
@@ -539,6 +543,16 @@ holds("nor behind it", refused(path=path) == (1, f"healthd: journal {path}: in u
 holds("and no other", [line.split(" ", 2)[2].split(" ", 2)[-1] for line in kept(path)[1]][-2:] == ["down a: done", "up a: done"], str(kept(path)))
 
 
+def is_free(place):
+    """Whether nobody has the lock of the file there."""
+    with open(place, "rb") as file:
+        try:
+            fcntl.flock(file, fcntl.LOCK_EX | fcntl.LOCK_NB)
+        except BlockingIOError:
+            return False
+        return True
+
+
 # A file that failed is opened anew once a second at most, and goes on where it is the journal's.
 def fails_once(name):
     limit(server.process, os.path.getsize(path))
@@ -588,8 +602,27 @@ for name, data in (("somebody else's file", b"\2 of another"), ("a shorter journ
     holds(f"a change is refused where {name} stands", told == ("refused not stored", 3), str(told))
     with open(path, "rb") as file:
         holds(f"nothing is written to {name}", file.read() == data)
+    holds(f"nobody has the lock of {name}", is_free(path))
+    holds(f"the journal beside {name} is locked still", not is_free(aside))
     os.rename(aside, path)
     goes_on(f"behind {name}")
+fails_once("before no file is at the path")
+limit(server.process, resource.RLIM_INFINITY)
+os.rename(path, aside)
+time.sleep(1.05)
+told = server.tell("up", "a")
+holds("a change is refused where no file is", told == ("refused not stored", 3), str(told))
+holds("none is made there", not os.path.exists(path))
+holds("the journal that was moved is locked still", not is_free(aside))
+os.rename(aside, path)
+goes_on("behind no file")
+fails_once("before a copy of the journal is at the path")
+limit(server.process, resource.RLIM_INFINITY)
+os.rename(path, aside)
+shutil.copyfile(aside, path)
+goes_on("in a copy of the journal")
+holds("the copy is locked, and the file before is not", is_free(aside) and not is_free(path))
+os.remove(aside)
 fails_once("before a folder stands at the path")
 limit(server.process, resource.RLIM_INFINITY)
 os.rename(path, aside)

@@ -210,7 +210,7 @@ fn open_with<'a, R: Files<File = File> + AllocGlobal, W: Witness>(
 
 /// A hall of this catalogue with so many seats, of which the first has made the entries again that were found in the file. It takes at
 /// most so many entries, or those alone where they are more.
-fn made_again<S: Wait, P: Probe, K: Keep, M: Maker<P>>(
+pub(crate) fn made_again<S: Wait, P: Probe, K: Keep, M: Maker<P>>(
     rt: &S,
     alloc: Global,
     catalogue: Catalogue,
@@ -305,7 +305,7 @@ fn store_over<M: Medium, W: Witness>(
 }
 
 /// Whether there is no file at a path. A link is no journal.
-fn is_missing<R: Files<File = File>>(rt: &R, path: &str) -> Result<bool, OpeningFault> {
+pub(crate) fn is_missing<R: Files<File = File>>(rt: &R, path: &str) -> Result<bool, OpeningFault> {
     match fs::symlink_metadata(rt, path) {
         Ok(found) if found.is_symlink() => Err(OpeningFault::NotAFile),
         Ok(_) => Ok(false),
@@ -326,10 +326,10 @@ fn fault_of_file<R: Files<File = File>>(rt: &R, path: &str) -> Option<OpeningFau
     }
 }
 
-/// Whether each byte is that of a journal's file, or was not written.
-fn is_beginning(found: &[u8]) -> bool {
-    for (place, byte) in found.iter().enumerate() {
-        if *byte != 0 && BEGINNING.get(place) != Some(byte) {
+/// Whether each of the first bytes is that of a journal's file, or was not written.
+pub(crate) fn is_beginning(found: &[u8]) -> bool {
+    for (found, byte) in found.iter().zip(&BEGINNING) {
+        if *found != 0 && found != byte {
             return false;
         }
     }
@@ -337,7 +337,7 @@ fn is_beginning(found: &[u8]) -> bool {
 }
 
 /// Whether these names are the same.
-fn are_same(names: &[Vec<u8>], other: &[Vec<u8>]) -> bool
+pub(crate) fn are_same(names: &[Vec<u8>], other: &[Vec<u8>]) -> bool
     ensures { result ≡ true → texts names.now ≡ texts other.now }
 {
     if names.len() != other.len() {
@@ -352,7 +352,7 @@ fn are_same(names: &[Vec<u8>], other: &[Vec<u8>]) -> bool
 }
 
 /// What is told of a fault of what was found in a file.
-fn fault_in(found: &[Vec<u8>], fault: RecordFault) -> OpeningFault {
+pub(crate) fn fault_in(found: &[Vec<u8>], fault: RecordFault) -> OpeningFault {
     match fault {
         RecordFault::Memory => OpeningFault::Memory,
         RecordFault::Preface(_) | RecordFault::TooFew => OpeningFault::Damaged(0),
@@ -361,7 +361,7 @@ fn fault_in(found: &[Vec<u8>], fault: RecordFault) -> OpeningFault {
 }
 
 /// The entries that a run makes again of those of a file.
-fn entries_of(alloc: Global, stored: &[Stored]) -> Result<Vec<Entry>, AllocError>
+pub(crate) fn entries_of(alloc: Global, stored: &[Stored]) -> Result<Vec<Entry>, AllocError>
     ensures { IfOk result (λ entries. entries.items ≡ restored_of stored.now) }
 {
     let mut entries = Vec::with_capacity(alloc, stored.len())?;

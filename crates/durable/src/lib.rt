@@ -3,10 +3,12 @@
 
 mod attendance;
 mod journal;
+mod looking;
 mod new_file;
 mod opening_fault;
 mod place;
 
 pub use crate::attendance::Attendance;
 pub use crate::journal::Journal;
+pub use crate::looking::entries_at;
 pub use crate::opening_fault::OpeningFault;

@@ -34,6 +34,12 @@ impl<T: Drop> From<AllocFailed<T>> for OpeningFault {
     }
 }
 
+impl From<io::Error> for OpeningFault {
+    fn from(error: io::Error) -> Self {
+        OpeningFault::System(error)
+    }
+}
+
 impl From<FileError> for OpeningFault {
     fn from(error: FileError) -> Self {
         match error {

@@ -1,9 +1,7 @@
 //! No contract can see what a file has: `print_entries` says what is printed of its bytes.
 
-use crate::journal::Journal;
 use crate::printing::print_entries;
 use crate::printing_fault::PrintingFault;
-use crate::reading::read_journal;
 use std::alloc::Global;
 use std::io::{Read, Write};
 use std::rt::Files;
@@ -18,31 +16,15 @@ pub fn print_journal<R: Files, O: Write>(
     is_json: bool,
     output: &mut O,
 ) -> Result<(), PrintingFault> {
-    let bytes = journal_bytes(rt, alloc, path)?;
+    let bytes = bytes_of(rt, alloc, path)?;
+    if !may_be_journal(&bytes) {
+        return Err(PrintingFault::Damaged(0));
+    }
     print_entries(alloc, &bytes, is_json, output)?;
     match output.flush() {
         Ok(()) => Ok(()),
         Err(error) => Err(PrintingFault::of_writing(error)),
     }
-}
-
-/// The journal in a file, if it has an entry. The file is neither locked nor written, so a server may have it.
-pub fn journal_at<R: Files>(
-    rt: &R,
-    alloc: Global,
-    path: &str,
-) -> Result<Option<Journal>, PrintingFault> {
-    let bytes = journal_bytes(rt, alloc, path)?;
-    read_journal(alloc, &bytes)
-}
-
-/// The bytes of a file that may be a journal.
-fn journal_bytes<R: Files>(rt: &R, alloc: Global, path: &str) -> Result<Vec<u8>, PrintingFault> {
-    let bytes = bytes_of(rt, alloc, path)?;
-    if !may_be_journal(&bytes) {
-        return Err(PrintingFault::Damaged(0));
-    }
-    Ok(bytes)
 }
 
 /// Whether a file begins as one may that a journal was put into, whatever came of that: with an open gate, which is 1, or a closed one.

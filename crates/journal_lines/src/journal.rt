@@ -6,7 +6,7 @@ use journal_store::Preface;
 
 /// A journal as its file has it.
 #[derive(Drop)]
-pub struct Journal {
+pub(crate) struct Journal {
     pub preface: Preface,
     pub catalogue: Catalogue,
     pub stored: Vec<Stored>,

@@ -11,7 +11,6 @@ mod printing_fault;
 mod reading;
 mod unreadable;
 
-pub use crate::file::{journal_at, print_journal};
-pub use crate::journal::Journal;
+pub use crate::file::print_journal;
 pub use crate::printing::print_entries;
 pub use crate::printing_fault::PrintingFault;

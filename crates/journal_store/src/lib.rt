@@ -35,7 +35,7 @@ pub use crate::laws::{
 pub use crate::medium::Medium;
 pub use crate::preface::{Preface, read_preface};
 pub use crate::preface_fault::PrefaceFault;
-pub use crate::reading::read_records;
+pub use crate::reading::{read_found, read_records};
 pub use crate::record_fault::RecordFault;
 pub use crate::records::batch_of;
 pub use crate::restore_fault::RestoreFault;

@@ -35,7 +35,7 @@ pub fn read_records(alloc: Global, found: &[Vec<u8>]) -> Result<Vec<Stored>, Rec
 
 /// The preface and the entries of what was found in a file. Where nothing was, they are those of a new file with the names of the one that
 /// is given.
-pub(crate) fn read_found(
+pub fn read_found(
     alloc: Global,
     found: &[Vec<u8>],
     preface: Preface,

@@ -1,20 +1,18 @@
 //! The command `run --check`: what a run would begin with.
 
+use crate::journaled::catalogue_in;
 use crate::listening_lines::print_line;
 use crate::registered::{Slots, registered_by_script, registered_by_stored, service_at, warn_of};
-use crate::run::{script_bytes, set_up_expecting};
+use crate::run::{expected_by_script, script_bytes, set_up_expecting};
 use crate::run_failure::{RunFailure, journal_failure, script_failure};
 use crate::run_options::RunOptions;
 use control::Place;
 use desk_core::{Catalogue, Slot};
-use durable::OpeningFault;
-use journal_lines::{Journal, PrintingFault, journal_at};
+use durable::entries_at;
 use probe_core::{Maker, Probe};
-use script::{Mode, Script, read_script};
+use script::{Mode, read_script};
 use std::alloc::Global;
-use std::fs;
-use std::io::ErrorKind;
-use std::path::Path;
+use std::fs::File;
 use std::rt::Files;
 use std::sync::Wait;
 
@@ -26,23 +24,33 @@ pub fn check<'a, R, P: Probe, M: Maker<P>>(
     options: RunOptions<'a>,
 ) -> Result<(), RunFailure<'a>>
 where
-    R: Input + Print + Eprint + AllocGlobal + Files + Wait,
+    R: Input + Print + Eprint + AllocGlobal + Files<File = File> + Wait,
 {
     let alloc = rt.alloc();
     let bytes = script_bytes(rt, alloc, options.script)?;
-    let _ = set_up_expecting(rt, alloc, maker, &bytes, 1)?;
-    let script = match read_script(alloc, &bytes, Mode::Run) {
-        Ok(script) => script,
-        Err(fault) => return Err(script_failure(alloc, &bytes, fault)),
-    };
     let registered = match options.journal {
-        Some(path) => registered_after(rt, alloc, &script, path)?,
-        None => registered_by_script(&script),
+        Some(path) => registered_over(rt, alloc, maker, &bytes, path)?,
+        None => registered_from(rt, alloc, maker, &bytes)?,
     };
+    let (catalogue, _) = catalogue_in(alloc, &bytes)?;
     print_places(rt, alloc, options)?;
-    print_services(rt, alloc, script.catalogue(), registered)?;
-    warn_of(rt, script.catalogue(), registered);
+    print_services(rt, alloc, &catalogue, registered)?;
+    warn_of(rt, &catalogue, registered);
     Ok(())
+}
+
+/// Which services a run that begins with the script would serve. What was refused first is the failure.
+fn registered_from<'a, R: Wait, P: Probe, M: Maker<P>>(
+    rt: &R,
+    alloc: Global,
+    maker: &M,
+    bytes: &[u8],
+) -> Result<Slots, RunFailure<'a>> {
+    let _ = set_up_expecting(rt, alloc, maker, bytes, 1)?;
+    match read_script(alloc, bytes, Mode::Run) {
+        Ok(script) => Ok(registered_by_script(&script)),
+        Err(fault) => Err(script_failure(alloc, bytes, fault)),
+    }
 }
 
 /// Prints where a run would listen.
@@ -87,70 +95,30 @@ fn print_services<'a, R: Print>(
     Ok(())
 }
 
-/// Prints what the journal at a path has, and tells which services a run that goes on from it would begin with.
-fn registered_after<'a, R: Print + Files>(
+/// Prints what the journal at a path has, and tells which services a run that goes on from it would begin with. As in a run, the setup of
+/// the script is made where the journal has no entry, and what it expects is looked at before.
+fn registered_over<'a, R, P: Probe, M: Maker<P>>(
     rt: &R,
     alloc: Global,
-    script: &Script,
+    maker: &M,
+    bytes: &[u8],
     path: &'a str,
-) -> Result<Slots, RunFailure<'a>> {
-    match journal_of(rt, alloc, path)? {
-        Some(journal) if !are_same(&journal.catalogue, script.catalogue()) => {
-            Err(journal_failure(path, OpeningFault::AnotherCatalogue))
-        }
-        Some(journal) => {
-            let entries = journal.stored.len();
-            print_line(rt, &format!(in alloc; "journal {path}: {entries} entries")?)?;
-            Ok(registered_by_stored(&journal.stored))
-        }
-        None => {
-            print_line(rt, &format!(in alloc; "journal {path}: no entries yet")?)?;
-            Ok(registered_by_script(script))
-        }
+) -> Result<Slots, RunFailure<'a>>
+where
+    R: Print + Files<File = File> + AllocGlobal + Wait,
+{
+    let _ = expected_by_script(rt, alloc, maker, bytes)?;
+    let (catalogue, _) = catalogue_in(alloc, bytes)?;
+    let stored = match entries_at(rt, path, catalogue, maker) {
+        Ok(stored) => stored,
+        Err(fault) => return Err(journal_failure(path, fault)),
+    };
+    if stored.is_empty() {
+        let registered = registered_from(rt, alloc, maker, bytes)?;
+        print_line(rt, &format!(in alloc; "journal {path}: no entries yet")?)?;
+        return Ok(registered);
     }
-}
-
-/// The journal at a path, if it has entries.
-fn journal_of<'a, R: Files>(
-    rt: &R,
-    alloc: Global,
-    path: &'a str,
-) -> Result<Option<Journal>, RunFailure<'a>> {
-    match journal_at(rt, alloc, path) {
-        Ok(journal) => Ok(journal),
-        Err(fault) if is_missing(&fault) && has_folder(rt, path) => Ok(None),
-        Err(fault) => Err(journal_failure(path, opening_fault(fault))),
-    }
-}
-
-fn is_missing(fault: &PrintingFault) -> bool {
-    match fault {
-        PrintingFault::Read(error) => error.kind() == ErrorKind::NotFound,
-        _ => false,
-    }
-}
-
-/// Whether there is the folder that a file at this path would be in.
-fn has_folder<R: Files>(rt: &R, path: &str) -> bool {
-    match Path::new(path).parent() {
-        Some(folder) if folder.as_str().is_empty() => true,
-        Some(folder) => fs::metadata(rt, folder).is_ok(),
-        None => false,
-    }
-}
-
-/// The fault with which a run would end.
-fn opening_fault(fault: PrintingFault) -> OpeningFault {
-    match fault {
-        PrintingFault::NotAFile => OpeningFault::NotAFile,
-        PrintingFault::Damaged(at) => OpeningFault::Damaged(at),
-        PrintingFault::Read(error) | PrintingFault::Write(error) => OpeningFault::System(error),
-        PrintingFault::Memory => OpeningFault::Memory,
-    }
-}
-
-fn are_same(names: &Catalogue, other: &Catalogue) -> bool {
-    (0..Slot::COUNT)
-        .filter_map(Slot::new)
-        .all(|slot| names.name(slot) == other.name(slot))
+    let entries = stored.len();
+    print_line(rt, &format!(in alloc; "journal {path}: {entries} entries")?)?;
+    Ok(registered_by_stored(&stored))
 }

@@ -51,7 +51,10 @@ where
 }
 
 /// The services of a script, and how many entries it asks for at most.
-fn catalogue_in<'a>(alloc: Global, bytes: &[u8]) -> Result<(Catalogue, u32), RunFailure<'a>>
+pub(crate) fn catalogue_in<'a>(
+    alloc: Global,
+    bytes: &[u8],
+) -> Result<(Catalogue, u32), RunFailure<'a>>
     ensures { IfOk result (λ parts. IsCatalogueOf bytes.now parts.0 parts.1) }
 {
     match read_script(alloc, bytes, Mode::Run) {

@@ -183,7 +183,7 @@ pub(crate) fn set_up_expecting<'a, R: Wait, P: Probe, M: Maker<P>>(
 }
 
 /// What the script expects. Where some of it does not stand, and its setup has an earlier failure, that one is told.
-fn expected_by_script<'a, R: Wait, P: Probe, M: Maker<P>>(
+pub(crate) fn expected_by_script<'a, R: Wait, P: Probe, M: Maker<P>>(
     rt: &R,
     alloc: Global,
     maker: &M,
