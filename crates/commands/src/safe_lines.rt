@@ -1,6 +1,6 @@
 ghost use Rattle.std.specs.Io.{WritesAtMost};
 
-use safe_text::printable;
+use safe_text::SafeBytes;
 use std::alloc::Global;
 use std::io;
 use std::io::Write;
@@ -27,14 +27,16 @@ impl<O: Write + Drop> Write for SafeLines<O> {
             [line @ .., b'\n'] => (line, "\n"),
             line => (line, ""),
         };
-        // By now a server may have made a change: that it has is told without memory.
         if is_plain(line) {
             self.output.write_all(buf)?;
             return Ok(buf.len());
         }
-        let mut text = printable(self.alloc, line)?;
-        text.push_str(end)?;
-        self.output.write_all(text.as_bytes())?;
+        let line = SafeBytes(line);
+        match format!(in self.alloc; "{line}{end}") {
+            Ok(text) => self.output.write_all(text.as_bytes())?,
+            // By now a server may have made a change: that it has is told without memory, in pieces.
+            Err(_) => write!(self.output, "{line}{end}")?,
+        }
         Ok(buf.len())
     }
 

@@ -12,15 +12,15 @@ pub fn printable(alloc: Global, bytes: &[u8]) -> Result<String, AllocError>
 {
     match str::from_utf8(bytes) {
         Ok(text) => SafeText(text).to_string(alloc),
-        Err(_) => NoText(bytes).to_string(alloc),
+        Err(_) => SafeBytes(bytes).to_string(alloc),
     }
 }
 
-/// Bytes that are no text.
+/// The same of bytes for which there may be no memory.
 #[derive(Clone, Copy)]
-struct NoText<'a>(&'a [u8]);
+pub struct SafeBytes<'a>(pub &'a [u8]);
 
-impl fmt::Display for NoText<'_> {
+impl fmt::Display for SafeBytes<'_> {
     fn fmt<W: fmt::Write>(&self, f: &mut fmt::Formatter<W>) -> fmt::Result {
         for chunk in self.0.utf8_chunks() {
             let (text, others) = (SafeText(chunk.valid()), chunk.invalid().escape_ascii());

@@ -22,7 +22,7 @@ mod safe_char;
 mod safe_json;
 mod safe_text;
 
-pub use crate::bytes::printable;
+pub use crate::bytes::{SafeBytes, printable};
 pub use crate::laws::nothing_unsafe;
 pub use crate::safe_json::SafeJson;
 pub use crate::safe_text::SafeText;
