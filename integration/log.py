@@ -47,14 +47,26 @@ lasting = Server("--connections", "2", "--watches", "2",
 lasted = time.monotonic()
 held = [*(lasting.watch() for _ in range(2)), *(lasting.session() for _ in range(SESSIONS))]
 
-# A journal that takes no more, which a fail is refused for each second. The limit is for the log's file too, which is shorter.
+# Journals that take no more, which a fail is refused for each second. The limit is for the log's file too, which is shorter.
 JOURNAL = f"/tmp/healthd-log-journal-{os.getpid()}"
-stuck = Server("--journal", JOURNAL, before=["/usr/bin/env", "--ignore-signal=XFSZ"])
-with stuck.session() as session, session.makefile() as answers:
-    session.sendall(b"up a\n" * 600)
-    holds("a journal grows", all(answers.readline() == "done\n" for _ in range(600)))
-resource.prlimit(stuck.process.pid, resource.RLIMIT_FSIZE, (os.path.getsize(JOURNAL), resource.RLIM_INFINITY))
-holds("a service is expected whose fails find no room", stuck.tell("expect", "db", "1")[0] == "done")
+AWAY = f"{JOURNAL}-away"
+
+
+def stuck_at(path):
+    server = Server("--journal", path, before=["/usr/bin/env", "--ignore-signal=XFSZ"])
+    with server.session() as session, session.makefile() as answers:
+        session.sendall(b"up a\n" * 600)
+        holds("a journal grows", all(answers.readline() == "done\n" for _ in range(600)))
+    resource.prlimit(server.process.pid, resource.RLIMIT_FSIZE, (os.path.getsize(path), resource.RLIM_INFINITY))
+    holds("a service is expected whose fails find no room", server.tell("expect", "db", "1")[0] == "done")
+    return server
+
+
+stuck = stuck_at(JOURNAL)
+# The file of this one is moved while it is opened anew each second.
+moved = stuck_at(f"{JOURNAL}-moved")
+until("its journal takes no more", lambda: moved.stats()["writable"], 0)
+os.rename(f"{JOURNAL}-moved", AWAY)
 
 logs.told = 0
 server = Server("--connections", "3", "--watches", "2")
@@ -599,8 +611,12 @@ def told_each_minute(line, server=lasting):
 told_each_minute("WARN  journal not written: file too large", stuck)
 resource.prlimit(stuck.process.pid, resource.RLIMIT_FSIZE, (resource.RLIM_INFINITY, resource.RLIM_INFINITY))
 until("it is told that the journal is written again", lambda: len(told_at("INFO  journal written again", stuck)), 1, 20)
-stuck.stop()
+until("it is told that the other one was moved", lambda: len(told_at("WARN  journal not written: its file was moved", moved)), 1, 20)
+for server in (stuck, moved):
+    server.stop()
+holds("it is told once that a journal is written again", len(told_at("INFO  journal written again", stuck)) == 1)
 os.remove(JOURNAL)
+os.remove(AWAY)
 for line in ("WARN  all 2 connections are taken", "WARN  all 2 watches are taken", f"WARN  all {SESSIONS} sessions are taken",
              "WARN  a change of expiry was refused: full"):
     told_each_minute(line)

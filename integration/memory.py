@@ -5,6 +5,7 @@ import contextlib
 import mmap
 import re
 import shutil
+import signal
 import socket
 import struct
 import subprocess
@@ -307,6 +308,7 @@ def commands(memory, folder):
             (("replay",), SETUP.replace("-\n", "-\nmax 6\n", 1) + "check a\nfail b\nfail b\nboard\n", 0),
             (("replay",), "catalogue a -\nmax 9\nregister a treshold 2\n", 1),
             (("run", "--listen", "127.0.0.1:0"), "catalogue a -\nregister b manual\n", 1), (("run", "--listen", "127.0.0.1:0"), "catalogue a\n", 1),
+            (("run", "--check"), SETUP, 0), (("run", "--check", "--journal", f"{folder}/journal"), SETUP, 0),
             (asks, "", 0), ((*asks, "--watch", "1"), "", 0), (("tell", *place, "check", "a"), "", 0), (("tell", *place), "check a\nlist\n", 0),
             (("status", *place), "", 0), (("status", *place, "--json"), "", 0), (("history", *place, "--last", "3"), "", 0),
             (("history", *place, "--json"), "", 0), (("journal", f"{folder}/journal"), "", 0), (("journal", f"{folder}/journal", "--json"), "", 0),
@@ -326,6 +328,21 @@ def commands(memory, folder):
                   any(out.startswith(f"{REFUSED}\ndone\n") and out.count("\n") == lines for out in others), f"{others}")
     tells(memory, server)
     server.stop()
+    stops(memory)
+
+
+def stops(memory):
+    """`stop` stops a server, or says that there was no memory for it."""
+    def act(refused):
+        server = Server("--quiet", "--threads", "1", script=SETUP)
+        with refused:
+            ran = subprocess.run([HEALTHD, "stop", "--control", server.control], capture_output=True, text=True, timeout=30,
+                                 env={**PLAIN, **memory.env})
+        stop(server.control)
+        status, _ = server.ended()
+        return ran.stdout, ran.stderr, ran.returncode, status
+
+    memory.in_turn("stop", act, ("stopping\n", "", 0, 0), lambda found: found in (("", OUT_OF_MEMORY, 1, 0), ("stopping\n", OUT_OF_MEMORY, 1, 0)))
 
 
 def tells(memory, server):
@@ -347,10 +364,11 @@ def tells(memory, server):
 
 
 def is_of_its_own(command, found, place):
-    """What two commands make of it: a replay goes on behind a change that has no memory, and a look that has none has failed; where
-    there is none to tell the server of a look, that is the status 1, and said."""
+    """What three commands make of it: a replay goes on behind a change that has no memory, a run ends with it, and a look that has none has
+    failed; where there is none to tell the server of a look, that is the status 1, and said."""
     out, said, status = found
     return (command == "replay" and status == 0 and f"{REFUSED}\n" in out
+            or command == "run" and (out, status) == ("", 1) and re.fullmatch("healthd: script line [2-6]: refused no memory\n", said)
             or command == "observe" and (out, status) in (("b fail: no address\n", 3), ("b fail: out of memory\n", 3))
             or command == "observe" and (out, status) == ("b pass\n", 1)
             and said in (f"healthd: looks not told to {place}: 1\n", f"healthd: {place}: out of memory\n"))
@@ -364,8 +382,9 @@ def stop(place):
         ask_line(session, "stop")
 
 
-def starts(memory, folder, *options):
-    """A server begins to serve, or says that there was no memory for it. Gives what those came to that had told their places."""
+def starts(memory, folder, *options, blocks=()):
+    """A server begins to serve, with these signals blocked, or says that there was no memory for it. Gives what those came to that had told
+    their places."""
     with open(f"{folder}/script", "w") as file:
         file.write(SETUP + "expect b 3600\n")
 
@@ -374,7 +393,8 @@ def starts(memory, folder, *options):
             process = subprocess.Popen(
                 [HEALTHD, "run", "--listen", "127.0.0.1:0", "--plain", "127.0.0.1:0", "--control", f"{folder}/place", "--threads", "1",
                  "--script", f"{folder}/script", "--quiet", *options],
-                stdin=subprocess.DEVNULL, stdout=subprocess.PIPE, stderr=subprocess.PIPE, text=True, env={**PLAIN, **memory.env})
+                stdin=subprocess.DEVNULL, stdout=subprocess.PIPE, stderr=subprocess.PIPE, text=True, env={**PLAIN, **memory.env},
+                preexec_fn=lambda: signal.pthread_sigmask(signal.SIG_BLOCK, blocks))
             lines = [process.stdout.readline() for _ in range(3)]
             if all(lines):
                 time.sleep(0.2)  # its loops begin
@@ -385,7 +405,7 @@ def starts(memory, folder, *options):
 
     said = re.compile("healthd: (script line [2-6]: refused no memory|too few threads|out of memory)\n")
     refusals = memory.in_turn(
-        " ".join(("run", *options[:1])), act, (["listening", "plain", "control"], "journal 5\n", "", 0),
+        " ".join(("run", *options[:1], *("with its signals blocked" for _ in blocks[:1]))), act, (["listening", "plain", "control"], "journal 5\n", "", 0),
         lambda found: not found[1] and said.fullmatch(found[2]) and found[3] == 1)
     return [found for found in refusals if all(found[0])]
 
@@ -470,6 +490,7 @@ grows(memory)
 stored(memory, folder)
 commands(memory, folder)
 starts(memory, folder)
+starts(memory, folder, blocks=(signal.SIGTERM, signal.SIGINT))
 holds("a run says so too where it has told its places", starts(memory, folder, "--journal", f"{folder}/resumed"), "none did")
 unexpected(memory, folder)
 serves(memory, folder)

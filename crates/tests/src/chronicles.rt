@@ -6,3 +6,4 @@ mod refusals;
 mod rings;
 mod slots;
 mod times;
+mod vitals;
