@@ -612,9 +612,9 @@ told_each_minute("WARN  journal not written: file too large", stuck)
 resource.prlimit(stuck.process.pid, resource.RLIMIT_FSIZE, (resource.RLIM_INFINITY, resource.RLIM_INFINITY))
 until("it is told that the journal is written again", lambda: len(told_at("INFO  journal written again", stuck)), 1, 20)
 until("it is told that the other one was moved", lambda: len(told_at("WARN  journal not written: its file was moved", moved)), 1, 20)
-for server in (stuck, moved):
-    server.stop()
 holds("it is told once that a journal is written again", len(told_at("INFO  journal written again", stuck)) == 1)
+for ended in (stuck, moved):
+    ended.stop()
 os.remove(JOURNAL)
 os.remove(AWAY)
 for line in ("WARN  all 2 connections are taken", "WARN  all 2 watches are taken", f"WARN  all {SESSIONS} sessions are taken",

@@ -1,0 +1,104 @@
+"""What the tests share: the program that they ask, and servers that end with the test that started them."""
+import contextlib
+import os
+import shutil
+import signal
+import tempfile
+from pathlib import Path
+
+import pytest
+
+pytest.register_assert_rewrite("support")
+
+from support.program import Program  # noqa: E402
+from support.server import Server  # noqa: E402
+from support.waiting import Pauses, Within  # noqa: E402
+
+# What a shell starts in the background ignores SIGINT, and so would each server here.
+signal.signal(signal.SIGINT, signal.default_int_handler)
+
+ROOT = Path(__file__).resolve().parent.parent
+BUILT, TRIED = ROOT / "out/healthd", ROOT / "out/try/program/healthd"
+
+
+def pytest_addoption(parser):
+    parser.addoption("--program", default=os.environ.get("HEALTHD", "built"), metavar="PROGRAM",
+                     help="built: out/healthd, which `make` makes; try: what `make try` compiles; or a path (default: $HEALTHD, or built)")
+
+
+@pytest.fixture(scope="session")
+def program(request):
+    """The program that is tested."""
+    named = request.config.getoption("--program")
+    path = {"built": BUILT, "try": TRIED}.get(named, Path(named).resolve())
+    if not os.access(path, os.X_OK):
+        pytest.exit(f"there is no program {path}: `make` proves and builds it, and `make try` compiles one for --program try", 2)
+    return Program(path)
+
+
+def pytest_runtest_setup(item):
+    if item.get_closest_marker("root") and os.geteuid() != 0:
+        pytest.skip("it wants to be root")
+
+
+@pytest.fixture
+def folder():
+    """A folder that others may enter, with a path that is short enough for a socket in it."""
+    path = tempfile.mkdtemp(prefix="healthd-", dir="/tmp")
+    os.chmod(path, 0o755)
+    yield path
+    shutil.rmtree(path)
+
+
+@pytest.fixture
+def start(program, folder):
+    """Starts a server. At the end of the test each that was started has to end in good order, unless the test has ended it."""
+    with contextlib.ExitStack() as started:
+        def start_one(*options, **how):
+            server = Server(program, folder, *options, **how)
+            started.callback(server.close)
+            return server
+        yield start_one
+
+
+@pytest.fixture
+def server(start):
+    """A server with the services a, db and the whole server."""
+    return start()
+
+
+@pytest.fixture
+def connected(start):
+    """Lets so many clients come to a server, each of which sends this. They leave before the server ends."""
+    with contextlib.ExitStack() as opened:
+        def connect_all(server, count, said=b""):
+            clients = [opened.enter_context(server.connect(20)) for _ in range(count)]
+            for client in clients:
+                client.sendall(said)
+            return clients
+        yield connect_all
+
+
+@pytest.fixture
+def watching(start):
+    """Opens so many Watches at a server, which leave before it ends."""
+    with contextlib.ExitStack() as opened:
+        yield lambda server, count, name="a": [opened.enter_context(contextlib.closing(server.watch(name))) for _ in range(count)]
+
+
+@pytest.fixture(scope="session")
+def pauses():
+    """How long this machine runs nothing, from now on."""
+    return Pauses()
+
+
+@pytest.fixture
+def within(pauses):
+    """Says within how many seconds something has to be done, but for a pause of the machine."""
+    return Within(pauses)
+
+
+@pytest.fixture(scope="session")
+def sources():
+    """The folder of the sources."""
+    return ROOT

@@ -1,0 +1,54 @@
+"""What a process of the system does, and what is done to it."""
+import contextlib
+import os
+import resource
+import signal
+import time
+
+
+def freeze(process):
+    """Stops a process, and returns once each of its threads has stopped."""
+    process.send_signal(signal.SIGSTOP)
+    folder = f"/proc/{process.pid}/task"
+
+    def state(thread):
+        try:
+            with open(f"{folder}/{thread}/stat", encoding="utf-8") as file:
+                return file.read().rpartition(") ")[2][:1]
+        except OSError:
+            return "T"  # it has ended
+
+    while any(state(thread) != "T" for thread in os.listdir(folder)):
+        time.sleep(0.001)
+
+
+def thaw(process):
+    process.send_signal(signal.SIGCONT)
+
+
+def processor_seconds(process):
+    """How many seconds of the processor a process has taken."""
+    with open(f"/proc/{process.pid}/stat", encoding="utf-8") as file:
+        ticks = sum(int(it) for it in file.read().rpartition(")")[2].split()[11:13])
+    return ticks / os.sysconf("SC_CLK_TCK")
+
+
+@contextlib.contextmanager
+def frozen(process):
+    """Does what it is used for while none of the process's threads runs."""
+    freeze(process)
+    try:
+        yield
+    finally:
+        thaw(process)
+
+
+@contextlib.contextmanager
+def without_descriptors(process):
+    """Does what it is used for while a process may open nothing."""
+    allowed = resource.prlimit(process.pid, resource.RLIMIT_NOFILE)
+    resource.prlimit(process.pid, resource.RLIMIT_NOFILE, (3, allowed[1]))
+    try:
+        yield
+    finally:
+        resource.prlimit(process.pid, resource.RLIMIT_NOFILE, allowed)
