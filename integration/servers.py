@@ -24,7 +24,6 @@ SCRIPT = "catalogue a db -\nregister a manual\nregister db threshold 2\nregister
 REQUEST = b"\0\0\0\0\3\x0a\1a"
 SERVING, NOT_SERVING = b"\0\0\0\0\2\x08\1", b"\0\0\0\0\2\x08\2"
 OK = b"\x80\0\0\0\x0fgrpc-status:0\r\n"
-ENDED = b"grpc-status:14"
 
 # A message of a Watch, up to the number of its status, in a chunk; and the chunks that end a Watch.
 MESSAGE = b"7\r\n" + SERVING[:-1]
@@ -333,8 +332,3 @@ def numbers(answer):
     """The answer to `stats`, by its words."""
     words = answer.split()
     return dict(zip(words[::2], map(int, words[1::2])))
-
-
-def stats_by(session):
-    """The numbers that an open session is told. It is one of them itself, and asking so starts no process."""
-    return numbers(ask_line(session, "stats"))
