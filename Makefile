@@ -9,5 +9,5 @@ try: ; @scripts/try
 check: ; @INTEGRATION='$(INTEGRATION)' scripts/check
 install: ; @DESTDIR='$(DESTDIR)' scripts/install '$(PREFIX)'
 package: ; @scripts/package
-bench: ; @HEALTHD='$(CURDIR)/out/healthd' integration/measure.py $(BENCH)
+bench: ; @HEALTHD='$(CURDIR)/out/healthd' bench/measure.py $(BENCH)
 .PHONY: build demo try check install package bench

@@ -19,7 +19,7 @@ start() { # OPTION..: starts a server, and waits until it serves
   port=$(sed -n 's/^listening 127.0.0.1://p' "$work/out")
 }
 
-# A command of healthd with its answer, as it would be with the places of the units in dist/systemd. `report` is `tell` at the report place.
+# A command of healthd with its answer, as it would be with the places of the units in packaging/systemd. `report` is `tell` at the report place.
 show() { # COMMAND WORD..
   command=$1
   shift

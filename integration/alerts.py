@@ -1,4 +1,4 @@
-"""What Prometheus makes of /metrics, and when the alerts of dist/alerts.yml fire, by Prometheus' own promtool."""
+"""What Prometheus makes of /metrics, and when the alerts of packaging/alerts.yml fire, by Prometheus' own promtool."""
 import json
 import os
 import shutil
@@ -8,7 +8,7 @@ import time
 
 from servers import HEALTHD, HERE, Server, connect, holds, rest_of, until
 
-RULES = os.path.realpath(f"{HERE}/../dist/alerts.yml")
+RULES = os.path.realpath(f"{HERE}/../packaging/alerts.yml")
 # Of each series a number comes every 15 seconds.
 EVERY = 15
 MINUTES = 30

@@ -32,9 +32,9 @@ def is_shown(name, begin, end, file):
     holds(f"INTEGRATION.md shows the {name}", len(starts) == 1, f"{shown} stands {len(starts)} times in {file}")
 
 
-is_shown("location of nginx", "location /grpc", "}", "integration/nginx.conf")
-is_shown("plain check of HAProxy", "option httpchk GET", "default-server check", "integration/haproxy-httpchk.cfg")
-is_shown("check of HAProxy", "tcp-check connect port", "server web2", "integration/haproxy.cfg")
+is_shown("location of nginx", "location /grpc", "}", "examples/nginx/nginx.conf")
+is_shown("plain check of HAProxy", "option httpchk GET", "default-server check", "examples/haproxy/haproxy-httpchk.cfg")
+is_shown("check of HAProxy", "tcp-check connect port", "server web2", "examples/haproxy/haproxy.cfg")
 
 def heads_of(text):
     """What a link to a head of the page names."""

@@ -50,7 +50,7 @@ def outside():
         shutil.copy(f"{HERE}/{name}", folder)
     files = {"test.service": TEST, "test.target": TARGET, "services": SCRIPT}
     for unit in UNITS:
-        with open(f"{HERE}/../dist/systemd/{unit}", encoding="utf-8") as file:
+        with open(f"{HERE}/../packaging/systemd/{unit}", encoding="utf-8") as file:
             files[unit] = file.read().replace("@PREFIX@", OWN)
     for name, text in files.items():
         with open(f"{folder}/{name}", "w", encoding="utf-8") as file:

@@ -148,7 +148,7 @@ def test_a_call_takes_post_alone(asked_only, target, method):
 
 @pytest.fixture(scope="session")
 def page(sources):
-    return (sources / "integration/page.html").read_bytes().decode()
+    return (sources / "crates/plain/page.html").read_bytes().decode()
 
 
 PAGE = ("content-type: text/html; charset=utf-8", "cache-control: no-store",

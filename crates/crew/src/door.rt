@@ -44,7 +44,7 @@ impl<'a, R: Wait, P: Probe, K: Keep> HallDoor<'a, R, P, K> {
     pub(crate) fn made(&self) -> u64
         ensures { IsLegal (door_seat self.now).seen }
     {
-        // Every field is named: one to answer from could not be added unseen.
+        // Every field is named: a new one, from which something could be answered, fails to compile here.
         let HallDoor {
             rt: _,
             hall: _,

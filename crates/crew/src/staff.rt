@@ -165,6 +165,7 @@ impl<P: Probe> Staff<P> {
     ) -> Result<Staff<P>, Vec<Seat<P>>>
         requires enough { workers + vec_len orders ≤ vec_len seats }
         ensures made { IfOk result (IsStaffOf workers (lists_in orders) seats.items) }
+        ensures room { IfOk result (λ staff. jobs ≤ vec_capacity staff.left.ends) }
         ensures refused { IfErr result (λ left. left ≡ seats) }
     {
         let Ok((vacant, lists)) = Staff::vacant(alloc, workers, seats.len(), jobs, orders) else {

@@ -1,4 +1,4 @@
-ghost use Rattle.std.specs.Prelude.{◌≡◌, ◌↔◌, ◌<◌, ◌≤◌, ◌++◌, [], length, drop, vec_len, IsTrue, IfOk, IfSome, IfNone, OnOk, OnErr, IsErrOf};
+ghost use Rattle.std.specs.Prelude.{◌≡◌, ◌↔◌, ◌<◌, ◌≤◌, ◌+◌, ◌++◌, [], length, drop, vec_len, IsTrue, IfOk, IfSome, IfNone, OnOk, OnErr, IsErrOf};
 ghost use Rattle.grpc_frame.specs.Split.{BeginsWithFrame, BeginsWhole, BeginsWithNoFrame, BeginsTooLong};
 
 use crate::frame::Frame;
@@ -17,13 +17,14 @@ pub struct Splitter {
 }
 
 impl Model for Splitter {
-    ghost use Rattle.std.specs.Prelude.{ℕ, ◌≤◌, List, drop, vec_len};
+    ghost use Rattle.std.specs.Prelude.{ℕ, ◌+◌, ◌≤◌, List, drop, vec_len};
 
     ghost Value = { List ℕ };
 
     ghost view = { λ splitter. drop splitter.start splitter.buffer.items };
 
-    ghost invariant = { λ splitter. splitter.start ≤ vec_len splitter.buffer };
+    // What was taken is never more of the memory than the rest.
+    ghost invariant = { λ splitter. splitter.start + splitter.start ≤ vec_len splitter.buffer };
 }
 
 impl Splitter {
@@ -37,17 +38,17 @@ impl Splitter {
         }
     }
 
-    /// Adds a piece to the rest. Bytes that were taken leave the memory here, once they are half of it or more.
+    /// Adds a piece to the rest.
     pub fn feed(&mut self, piece: &[u8]) -> Result<(), NoMemory>
         ensures ok { OnOk result (self.new ≡ self.old ++ piece.now) }
         ensures err { OnErr result (self.new ≡ self.old) }
         ensures some { OnErr result (0 < length piece.now) }
     {
-        self.start = without_front(&mut self.buffer, self.start);
         self.buffer.extend_from_slice(piece)
     }
 
-    /// Takes the first frame of the rest, of whatever flag. A fault leaves the rest as it was.
+    /// Takes the first frame of the rest, of whatever flag. A fault leaves the rest as it was. Bytes that were taken leave the memory
+    /// once they are more than the rest.
     pub fn take(&mut self) -> Result<Option<Frame>, SplitFault>
         // TooLong counts before None, and None before NoMemory. So None is of a front that is cut.
         ensures frame { IfOk result (λ taken. IfSome taken (λ first.
@@ -66,7 +67,8 @@ impl Splitter {
             return Ok(None);
         };
         let body = Vec::from_slice(*self.buffer.allocator(), content)?;
-        self.start = self.buffer.len() - rest.len();
+        let start = self.buffer.len() - rest.len();
+        self.start = without_front(&mut self.buffer, start);
         Ok(Some(Frame { flag, body }))
     }
 
@@ -78,14 +80,14 @@ impl Splitter {
     }
 }
 
-// Drops the bytes before a place, where they are half of the buffer or more, and tells the place's new number.
+// Drops the bytes before a place, where they are more than those after it, and tells the place's new number.
 fn without_front(buffer: &mut Vec<u8>, start: usize) -> usize
     requires { start ≤ vec_len buffer.old }
     ensures rest { drop result buffer.new.items ≡ drop start buffer.old.items }
-    ensures within { result ≤ vec_len buffer.new }
+    ensures half { result + result ≤ vec_len buffer.new }
 {
     let rest_len = buffer.len() - start;
-    if start < rest_len {
+    if start <= rest_len {
         return start;
     }
     buffer.copy_within(start.., 0);

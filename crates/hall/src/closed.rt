@@ -84,6 +84,7 @@ fn gather<P: Probe, K: Keep>(shared: &Shared<P, K>, seats: Vec<Seat<P, K>>) -> G
     let Some(first) = seats.next() else {
         unreachable!()
     };
+    // Every field is named, here and below: a new one, from which something could be answered, fails to compile here.
     let Seat {
         mut place,
         number: _,

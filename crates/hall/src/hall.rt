@@ -21,6 +21,7 @@ pub struct Hall<P: Probe, K: Keep = KeepAll> {
 
 impl<P: Probe, K: Keep> Drop for Hall<P, K> {
     fn drop(self) {
+        // Every field is named: a new one, from which something could be answered, fails to compile here.
         let Hall {
             table: _,
             catalogue: _,
@@ -85,13 +86,14 @@ impl<P: Probe, K: Keep> Hall<P, K> {
         ))
     }
 
-    /// All that it has. Every field is named, here and where seats are taken apart: one to answer from could not be added unseen.
+    /// All that it has.
     pub(crate) fn into_parts(self) -> (Table<P, K>, Catalogue)
         ensures table { result.0.shared.table_id ≡ self.table }
         ensures most { result.0.shared.key.most ≡ self.most }
         ensures seats { result.0.shared.key.seats ≡ self.seats }
         ensures names { result.1 ≡ self.names }
     {
+        // Every field is named: a new one, from which something could be answered, fails to compile here.
         let Hall {
             table,
             catalogue,

@@ -211,6 +211,7 @@ impl<P: Probe, K: Keep> Hall<P, K> {
         ensures told { IsOlder note.seen seat.new.seen }
         ensures kept { own_calls seat.new ≡ own_calls seat.old }
     {
+        // Every field is named: a new one, from which something could be answered, fails to compile here.
         let Note { place } = note;
         self.table.shared.join_seat::<Meet>(&mut seat.place, place);
         look(&self.table.shared, &mut seat.place);

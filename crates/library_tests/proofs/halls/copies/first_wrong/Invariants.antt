@@ -1,5 +1,5 @@
 use Rattle.hall.specs.Seats.{IsOf}
-use Rattle.tests.proofs.halls.copies.first_wrong.Given as goal
+use Rattle.library_tests.proofs.halls.copies.first_wrong.Given as goal
 
 abbrev pub invariant-loop-index : goal.invariant-loop-index
 invariant-loop-index g l = IsOf l.hall l.setter

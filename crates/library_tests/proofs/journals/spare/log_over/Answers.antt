@@ -3,7 +3,7 @@ use Rattle.std.proofs.lemmas.Grind.{common_steps}
 use Rattle.record_log.specs.Log.{IsReady, StandsFor, texts}
 use Rattle.record_log.specs.MemoryView.{memory_bytes, memory_may_leave}
 use Rattle.journal_store.proofs.RecordLemmas.{the_records}
-use Rattle.tests.proofs.journals.spare.log_over.Goals as goal
+use Rattle.library_tests.proofs.journals.spare.log_over.Goals as goal
 
 pub returns-in-Ok : goal.returns-in-Ok
 returns-in-Ok c = λ records is.

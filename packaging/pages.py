@@ -1,8 +1,8 @@
 #!/usr/bin/env python3
 """Writes the man page and the completions of shells, from what the program's own help says.
 
-  dist/pages.py PROGRAM           writes dist/healthd.1 and dist/completions/
-  dist/pages.py PROGRAM --check   says which of them differ from what PROGRAM makes, and fails if one does
+  packaging/pages.py PROGRAM           writes packaging/healthd.1 and packaging/completions/
+  packaging/pages.py PROGRAM --check   says which of them differ from what PROGRAM makes, and fails if one does
 """
 import os
 import re
@@ -115,7 +115,7 @@ def man_page(version, page, commands):
 
 def bash(page, commands):
     names = " ".join([name for name, _ in commands] + ["help"])
-    out = ["# bash completion for healthd; made by dist/pages.py", "_healthd() {", "  local word=${COMP_WORDS[COMP_CWORD]} last=${COMP_WORDS[COMP_CWORD-1]} command=${COMP_WORDS[1]}"]
+    out = ["# bash completion for healthd; made by packaging/pages.py", "_healthd() {", "  local word=${COMP_WORDS[COMP_CWORD]} last=${COMP_WORDS[COMP_CWORD-1]} command=${COMP_WORDS[1]}"]
     out += ["  COMPREPLY=()", "  if ((COMP_CWORD == 1)); then", f'    mapfile -t COMPREPLY < <(compgen -W "{names} --help --version" -- "$word")', "    return", "  fi"]
     out += ['  case "$command $last" in']
     files, plain = [], []
@@ -150,7 +150,7 @@ def zsh(page, commands):
         brief = quoted(it.brief).replace("[", "\\[").replace("]", "\\]").replace(":", "\\:")
         return f"'{it.name}[{brief}]{value}'"
 
-    out = ["#compdef healthd", "# zsh completion for healthd; made by dist/pages.py", "_healthd() {", "  local -a commands", "  commands=("]
+    out = ["#compdef healthd", "# zsh completion for healthd; made by packaging/pages.py", "_healthd() {", "  local -a commands", "  commands=("]
     out += [f"    '{name}:{quoted(command.about)}'" for name, command in commands] + ["  )"]
     out += ["  if ((CURRENT == 2)); then", "    _describe command commands", "    return", "  fi", "  local command=$words[2]", "  shift words", "  ((CURRENT--))", "  case $command in"]
     for name, command in commands:
@@ -161,7 +161,7 @@ def zsh(page, commands):
 
 
 def fish(page, commands):
-    out = ["# fish completion for healthd; made by dist/pages.py", "complete -c healthd -f"]
+    out = ["# fish completion for healthd; made by packaging/pages.py", "complete -c healthd -f"]
     for name, command in commands:
         out += [f"complete -c healthd -n __fish_use_subcommand -a {name} -d '{quoted(command.about)}'"]
         for it in command.options:
@@ -199,7 +199,7 @@ def main(program, *flags):
         with open(path, "w", encoding="utf-8") as it:
             it.write(text)
     for name in differ:
-        print(f"dist/{name} differs from what the program's help makes: dist/pages.py PROGRAM writes it")
+        print(f"packaging/{name} differs from what the program's help makes: packaging/pages.py PROGRAM writes it")
     return 1 if differ else 0
 
 

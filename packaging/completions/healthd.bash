@@ -1,4 +1,4 @@
-# bash completion for healthd; made by dist/pages.py
+# bash completion for healthd; made by packaging/pages.py
 _healthd() {
   local word=${COMP_WORDS[COMP_CWORD]} last=${COMP_WORDS[COMP_CWORD-1]} command=${COMP_WORDS[1]}
   COMPREPLY=()

@@ -1,4 +1,4 @@
-/* A server of fixed bytes, which integration/measure.py compares with: `loop THREADS` prints its port, answers the first bytes of
+/* A server of fixed bytes, which bench/measure.py compares with: `loop THREADS` prints its port, answers the first bytes of
    each connection, and closes it. Its threads wait at one listening socket, and one of them is woken for a connection. */
 #define _GNU_SOURCE
 #include <arpa/inet.h>

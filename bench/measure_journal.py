@@ -1,7 +1,7 @@
 #!/usr/bin/env python3
 """Times a run whose history is in a file, beside the two syncs that a change takes and beside a run without a file.
 
-  HEALTHD=PROGRAM integration/measure_journal.py FOLDER [ROUNDS]
+  HEALTHD=PROGRAM bench/measure_journal.py FOLDER [ROUNDS]
 
 FOLDER is on the disk that is measured. With strace installed, syncs of 10 ms are measured too. No check: it prints figures."""
 import os

@@ -1,7 +1,7 @@
 """Takes the pictures of the page, docs/page.png in the light and docs/page-dark.png, of a server whose services change for 20 seconds.
 
-    integration/page_picture.py           writes them
-    integration/page_picture.py FOLDER    writes them there, and page-phone.png
+    scripts/page_picture.py           writes them
+    scripts/page_picture.py FOLDER    writes them there, and page-phone.png
 """
 import base64
 import sys

@@ -1,7 +1,7 @@
 #!/usr/bin/python3 -B
 """Times the program: Checks beside nginx and a loop in C, `serve` beside `run`, changes told to many Watches, and memory.
 
-  HEALTHD=PROGRAM integration/measure.py [ROUNDS [PART..]]
+  HEALTHD=PROGRAM bench/measure.py [ROUNDS [PART..]]
 
 A PART is checks, grpc_go, servers, watches or memory; without one it is all of them. Prints tables. Wants nothing else to run beside it.
 nginx, wrk, a C compiler, and Go with golang-google-grpc-dev are used where they are installed; without wrk, Checks are made by clients of its own.

@@ -1,8 +1,8 @@
 """Makes the constant of the program that has page.html.
 
-    integration/page_source.py                    prints it
-    integration/page_source.py FILE               puts it into FILE, in place of the one that stands there
-    integration/page_source.py --compare FILE     exits with status 1 unless it stands in FILE
+    crates/plain/page_source.py                    prints it
+    crates/plain/page_source.py FILE               puts it into FILE, in place of the one that stands there
+    crates/plain/page_source.py --compare FILE     exits with status 1 unless it stands in FILE
 """
 import os
 import re
@@ -56,7 +56,7 @@ def main(words):
     if not words:
         print(made)
     elif words[0] == "--compare":
-        sys.exit(0 if STANDING.findall(read(words[1])) == [made] else f"{words[1]} does not have integration/page.html")
+        sys.exit(0 if STANDING.findall(read(words[1])) == [made] else f"{words[1]} does not have crates/plain/page.html")
     else:
         text = read(words[0])
         if len(STANDING.findall(text)) != 1:

@@ -1,4 +1,4 @@
-# fish completion for healthd; made by dist/pages.py
+# fish completion for healthd; made by packaging/pages.py
 complete -c healthd -f
 complete -c healthd -n __fish_use_subcommand -a body -d 'Answer the body of a Check'\''s request with the body of its response'
 complete -c healthd -n '__fish_seen_subcommand_from body' -l help -s h -d 'Print help'
