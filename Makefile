@@ -6,8 +6,10 @@ BENCH = 3
 build: ; @scripts/build
 demo: ; @{ [ -x out/healthd ] || scripts/try; } && exec examples/demo/run
 try: ; @scripts/try
+test: ; @scripts/test
+lint: ; @scripts/lint
 check: ; @INTEGRATION='$(INTEGRATION)' scripts/check
 install: ; @DESTDIR='$(DESTDIR)' scripts/install '$(PREFIX)'
 package: ; @scripts/package
 bench: ; @HEALTHD='$(CURDIR)/out/healthd' bench/measure.py $(BENCH)
-.PHONY: build demo try check install package bench
+.PHONY: build demo try test lint check install package bench

@@ -185,7 +185,7 @@ def servers_beside(rounds):
     table(f"`serve` with 4 workers and `run` with 2 loops, {CONNECTIONS} connections each, clients of its own",
           [f"`{name}`, {what}" for name in ("serve", "run") for what in ("requests a second", "median", "99th percentile")],
           [(f"{clients} client{'s' * (clients > 1)}", [median(getattr(run, what) for run in found[name, clients])
-                                   for name in ("serve", "run") for what in ("rate", "middle", "slow")]) for clients in CLIENTS])
+                                                       for name in ("serve", "run") for what in ("rate", "middle", "slow")]) for clients in CLIENTS])
 
 
 def bare_loop(listener, count, wakes):

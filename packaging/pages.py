@@ -115,8 +115,9 @@ def man_page(version, page, commands):
 
 def bash(page, commands):
     names = " ".join([name for name, _ in commands] + ["help"])
-    out = ["# bash completion for healthd; made by packaging/pages.py", "_healthd() {", "  local word=${COMP_WORDS[COMP_CWORD]} last=${COMP_WORDS[COMP_CWORD-1]} command=${COMP_WORDS[1]}"]
-    out += ["  COMPREPLY=()", "  if ((COMP_CWORD == 1)); then", f'    mapfile -t COMPREPLY < <(compgen -W "{names} --help --version" -- "$word")', "    return", "  fi"]
+    out = ["# bash completion for healthd; made by packaging/pages.py", "_healthd() {"]
+    out += ["  local word=${COMP_WORDS[COMP_CWORD]} last=${COMP_WORDS[COMP_CWORD-1]} command=${COMP_WORDS[1]}", "  COMPREPLY=()"]
+    out += ["  if ((COMP_CWORD == 1)); then", f'    mapfile -t COMPREPLY < <(compgen -W "{names} --help --version" -- "$word")', "    return", "  fi"]
     out += ['  case "$command $last" in']
     files, plain = [], []
     for name, command in commands:
@@ -135,7 +136,8 @@ def bash(page, commands):
     takes = [name for name, command in commands if any(it.takes_file for it in command.arguments)]
     out += [f'    help) mapfile -t COMPREPLY < <(compgen -W "{names}" -- "$word") ;;', "  esac"]
     if takes:
-        out += [f"  case $command in {' | '.join(takes)}) [[ $word == -* ]] || {{ compopt -o filenames 2>/dev/null; mapfile -t COMPREPLY < <(compgen -f -- \"$word\"); }} ;; esac"]
+        files = 'compopt -o filenames 2>/dev/null; mapfile -t COMPREPLY < <(compgen -f -- "$word");'
+        out += [f"  case $command in {' | '.join(takes)}) [[ $word == -* ]] || {{ {files} }} ;; esac"]
     return "\n".join([*out, "}", "complete -F _healthd healthd"]) + "\n"
 
 
@@ -152,7 +154,8 @@ def zsh(page, commands):
 
     out = ["#compdef healthd", "# zsh completion for healthd; made by packaging/pages.py", "_healthd() {", "  local -a commands", "  commands=("]
     out += [f"    '{name}:{quoted(command.about)}'" for name, command in commands] + ["  )"]
-    out += ["  if ((CURRENT == 2)); then", "    _describe command commands", "    return", "  fi", "  local command=$words[2]", "  shift words", "  ((CURRENT--))", "  case $command in"]
+    out += ["  if ((CURRENT == 2)); then", "    _describe command commands", "    return", "  fi"]
+    out += ["  local command=$words[2]", "  shift words", "  ((CURRENT--))", "  case $command in"]
     for name, command in commands:
         rows = [words(it) for it in command.options]
         rows += [f"'*:{it.value}:{'_files' if it.takes_file else ''}'" for it in command.arguments[-1:]]

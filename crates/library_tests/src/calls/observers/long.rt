@@ -46,7 +46,7 @@ impl Sink for Wanted {
 }
 
 /// Two of twelve reports are told: three are refused, and the place is lost for the others. What is noted of that, and what lines are told,
-/// integration/observe.py says.
+/// tests/test_observe.py says.
 #[test]
 fn counts_all_reports(rt: HostRuntime) {
     let alloc = rt.alloc();
