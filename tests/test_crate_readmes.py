@@ -6,7 +6,8 @@ import pytest
 from support.documents import CRATES, ROOT, prose, sentences, table_rows, ticked, without_tables
 
 MOST_BYTES = 3_000
-DEFINED = r"(?:fn|struct|enum|trait|type|const|static|ensures|requires|ghost|mod)\s+{0}\b|(?m:^\s*(?:pub |abbrev |unfoldable |opaque |record |data )*{0} :)"
+DEFINED = (r"(?:fn|struct|enum|trait|type|const|static|ensures|requires|ghost|mod)\s+{0}\b"
+           r"|(?m:^\s*(?:pub |abbrev |unfoldable |opaque |record |data )*{0} :)")
 
 
 class Readme:
