@@ -1,6 +1,7 @@
 """What the tests share: the program that they ask, and servers that end with the test that started them."""
 import contextlib
 import os
+import resource
 import shutil
 import signal
 import tempfile
@@ -16,6 +17,10 @@ from support.waiting import Pauses, Within  # noqa: E402
 
 # What a shell starts in the background ignores SIGINT, and so would each server here.
 signal.signal(signal.SIGINT, signal.default_int_handler)
+
+# A server says so where it may open fewer files than its 10,000 connections want, and HAProxy sets itself up for as many as it may open.
+MOST_FILES = resource.getrlimit(resource.RLIMIT_NOFILE)[1]
+resource.setrlimit(resource.RLIMIT_NOFILE, (20_000 if MOST_FILES == resource.RLIM_INFINITY else min(20_000, MOST_FILES), MOST_FILES))
 
 ROOT = Path(__file__).resolve().parent.parent
 BUILT, TRIED = ROOT / "out/healthd", ROOT / "out/try/program/healthd"

@@ -18,6 +18,7 @@ from support.wire import MESSAGE, NOT_SERVING, OK, SERVING, WATCH_END, all_of, c
 pytestmark = pytest.mark.timed
 
 CHECK, WATCH = call("Check", "a"), call("Watch", "a")
+EACH = 100
 TRIES = 20  # because a pause of the machine makes a client late
 
 
@@ -44,8 +45,8 @@ def test_checks_are_answered_beside_clients_that_say_nothing_or_too_little_and_t
 
 def test_a_request_has_ten_seconds_however_its_bytes_come_and_a_watch_that_nobody_reads_has_more(start, connected, watching):
     server = start("--threads", "3")
-    silent, slow = connected(server, 3), connected(server, 3)
-    watches = watching(server, 3)
+    silent, slow = connected(server, EACH), connected(server, EACH)
+    watches = watching(server, EACH)
     answers = []
     for byte in b"POST /grpc.":
         for client in slow:
@@ -56,11 +57,11 @@ def test_a_request_has_ten_seconds_however_its_bytes_come_and_a_watch_that_nobod
     # Checks are answered beside clients that send a byte a second.
     assert all(answer.endswith(OK) for answer in answers)
     # Clients whose requests are not whole in ten seconds are closed.
-    assert [rest_of(client) for client in silent + slow] == [b""] * 6
+    assert {rest_of(client) for client in silent + slow} == {b""}
     # They are given up, and no Watch is.
-    until(lambda: counted(server, "calls", "gone", "given_up", "watches"), [11 + 6, 0, 6, 3])
+    until(lambda: counted(server, "calls", "gone", "given_up", "watches"), [11 + 2 * EACH, 0, 2 * EACH, EACH])
     server.tell("stop")
-    assert [watch.rest() for watch in watches] == [[SERVING]] * 3
+    assert [watch.rest() for watch in watches] == [[SERVING]] * EACH
     assert server.end() == (0, "journal 3")
 
 
@@ -222,6 +223,27 @@ def test_where_descriptors_run_out_it_goes_on_and_a_check_waits_until_there_are_
         with within(0.5):
             found = rest_of(late)
         assert found.endswith(status(NOT_SERVING) + OK)
+
+
+def test_two_hundred_checks_at_a_server_that_may_have_64_files_are_all_answered_and_a_watch_beside_them_stays(start, connected, watching):
+    server = start("--threads", "1", before=("prlimit", "--nofile=64:64"))
+    [watch] = watching(server, 1)
+    clients = connected(server, 200, CHECK)
+    assert {rest_of(client)[-len(status(SERVING) + OK):] for client in clients} == {status(SERVING) + OK}
+    until(lambda: counted(server, "connections", "watches", "calls"), [1, 1, 200])
+    assert (server.tell("down", "a"), watch.told(2)) == (("done", 0), [SERVING, NOT_SERVING])
+
+
+def test_of_a_hundred_connections_ninety_may_be_watches_and_the_next_is_told_its_status_and_ends_beside_checks(start, watching):
+    server = start("--connections", "100", "--threads", "2")
+    watches = watching(server, 90)
+    assert [watch.next() for watch in watches] == [SERVING] * 90
+    for _ in range(5):
+        [late] = watching(server, 1)
+        assert late.rest() == [SERVING]
+        assert server.check().endswith(OK)
+    assert server.tell("down", "a") == ("done", 0)
+    assert [watch.next() for watch in watches] == [NOT_SERVING] * 90
 
 
 # Clients that come while it is frozen are taken in by all of its loops, which share the places for connections and for Watches.

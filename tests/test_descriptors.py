@@ -2,7 +2,6 @@
 was closed."""
 import contextlib
 import os
-import resource
 import selectors
 import socket
 import subprocess
@@ -20,16 +19,7 @@ FEW_FILES = ("prlimit", "--nofile=1024:4096")
 
 
 @pytest.fixture
-def many_files():
-    """This process may have more files than the server."""
-    before, most = resource.getrlimit(resource.RLIMIT_NOFILE)
-    resource.setrlimit(resource.RLIMIT_NOFILE, (min(4_096, most) if most > 0 else 4_096, most))
-    yield
-    resource.setrlimit(resource.RLIMIT_NOFILE, (before, most))
-
-
-@pytest.fixture
-def crowded(start, many_files):
+def crowded(start):
     """A server that has more Watches than its files allow, and its clients. Half of them come first, so that each of them gets in."""
     server = start("--threads", "4", before=FEW_FILES)
     with contextlib.ExitStack() as opened:

@@ -4,7 +4,7 @@ import socket
 import pytest
 
 from support.lasting import lasting
-from support.wire import rest_of
+from support.wire import WATCH_HEAD, rest_of
 
 OK, SERVING = b"\x80\0\0\0\x0fgrpc-status:0\r\n", b"\0\0\0\0\2\x08\1"
 EMPTY = b"\0\0\0\0\0"
@@ -93,8 +93,7 @@ RESPONSES = {
     "a Check": (CHECK + FIVE, answered(SERVING + OK)),
     "an unknown service": (CHECK + TYPE + b"content-length: 9\r\n" + END + b"\0\0\0\0\4\x0a\2zz", answered(status(5, "unknown service")[1])),
 }
-BEGUN = (b"HTTP/1.1 200 OK\r\nconnection: close\r\ncontent-type: application/grpc-web+proto\r\ntransfer-encoding: chunked\r\n\r\n"
-         b"7\r\n\0\0\0\0\2\x08\1\r\n")
+BEGUN = WATCH_HEAD + b"7\r\n\0\0\0\0\2\x08\1\r\n"
 
 
 @pytest.fixture(scope="module")

@@ -12,7 +12,7 @@ import pytest
 from support.session import numbers
 from support.waiting import until
 from support.watch import Watch
-from support.wire import MESSAGE, NOT_SERVING, OK, SERVICE_UNKNOWN, SERVING, exchange, get, status
+from support.wire import MESSAGE, NOT_SERVING, OK, SERVICE_UNKNOWN, SERVING, WATCH_HEAD, call, exchange, get, status
 
 pytestmark = pytest.mark.timed
 
@@ -64,12 +64,12 @@ def shown(server, name):
     """The statuses that a service which is set by hand has shown, one after the other, by the history."""
     ran = server.program.run("history", "--control", server.control, "--json")
     now, statuses = SERVICE_UNKNOWN, []
-    for call in (json.loads(line)["call"].split() for line in ran.stdout.splitlines()):
-        if call[1:2] != [name]:
+    for words in (json.loads(line)["call"].split() for line in ran.stdout.splitlines()):
+        if words[1:2] != [name]:
             continue
-        then = {"register": SERVING, "retire": SERVICE_UNKNOWN}.get(call[0])
+        then = {"register": SERVING, "retire": SERVICE_UNKNOWN}.get(words[0])
         if then is None:
-            then = SERVICE_UNKNOWN if now == SERVICE_UNKNOWN else {"up": SERVING, "down": NOT_SERVING}[call[0]]
+            then = SERVICE_UNKNOWN if now == SERVICE_UNKNOWN else {"up": SERVING, "down": NOT_SERVING}[words[0]]
         if then != now:
             statuses.append(then)
         now = then
@@ -112,6 +112,20 @@ def test_as_many_watches_as_may_be_open_are_told_a_change_at_whichever_loop_and_
         until(lambda: session.ask("stats").split(" gone ")[0],
               "entries 3 kept 3 connections 0 watches 0 sessions 1 calls 200 given_up 0 behind 0")
     ends(server, [], 3)
+
+
+def test_ten_thousand_watches_are_each_told_a_change_once_and_are_counted_until_their_clients_close(start, connected):
+    server = start("--threads", "2", "--connections", "10000", "--watches", "10000", script=SCRIPT)
+    clients = connected(server, 10_000, call("Watch", "a"))
+    with server.session() as session:
+        until(lambda: numbers(session.ask("stats"))["watches"], 10_000, 60)
+        told = WATCH_HEAD + MESSAGE + b"\x01\r\n"
+        for line, told in (("down a", told + MESSAGE + b"\x02\r\n"), ("up a", MESSAGE + b"\x01\r\n")):
+            assert session.ask(line) == "done"
+            assert {client.recv(len(told), socket.MSG_WAITALL) for client in clients} == {told}
+        for client in clients:
+            client.close()
+        until(lambda: [numbers(session.ask("stats"))[name] for name in ("connections", "watches", "calls")], [0, 0, 10_000], 60)
 
 
 def test_more_watches_of_one_loop_than_are_looked_at_in_a_row_are_told_a_change(start, watched):

@@ -32,6 +32,9 @@ def chunk(content):
     return f"{len(content):x}\r\n".encode() + content + b"\r\n"
 
 
+# The head of a Watch's answer.
+WATCH_HEAD = b"HTTP/1.1 200 OK\r\nconnection: close\r\ncontent-type: application/grpc-web+proto\r\ntransfer-encoding: chunked\r\n\r\n"
+
 # The chunk of a message of a Watch, up to the number of its status, and the chunks that end a Watch.
 MESSAGE = chunk(status(0))[:-3]
 WATCH_END = chunk(trailers("grpc-status:14", "grpc-message:watch ended")) + b"0\r\n\r\n"
