@@ -8,6 +8,8 @@ from support.documents import CRATES, ROOT, prose, sentences, table_rows, ticked
 MOST_BYTES = 3_000
 DEFINED = (r"(?:fn|struct|enum|trait|type|const|static|ensures|requires|ghost|mod)\s+{0}\b"
            r"|(?m:^\s*(?:pub |abbrev |unfoldable |opaque |record |data )*{0} :)")
+OWNER, FUNCTION = re.compile(r"(?:pub )?(?:impl|trait)\b.*"), re.compile(r"( *)(?:pub(?:\(crate\))? )?fn (\w+)")
+CLAUSE = re.compile(r"\s*(?:ensures|requires) (\w+) \{|\s*ghost (\w+)")
 
 
 class Readme:
@@ -31,6 +33,27 @@ class Readme:
         return any(re.search(DEFINED.format(re.escape(last)), text) and re.search(rf"\b{owner.rpartition('::')[2]}\b", text)
                    for text in (it.read_text(encoding="utf-8") for it in files))
 
+    def clauses(self):
+        """The names of the clauses of each function, with the line of the `impl` or the trait that it is in."""
+        found = []
+        for path in self.folder.glob("src/**/*.rt"):
+            owner = ""
+            for line in path.read_text(encoding="utf-8").splitlines():
+                if OWNER.fullmatch(line):
+                    owner = line
+                elif function := FUNCTION.match(line):
+                    found.append((function[2], owner if function[1] else "", set()))
+                elif (clause := CLAUSE.match(line)) and found:
+                    found[-1][2].add(clause[1] or clause[2])
+        return found
+
+    def promised(self):
+        """Each contract in the table of what is proved, with the names of its clauses that the row speaks of."""
+        for row in table_rows(self.section("Proved")):
+            for part in row[0].split(";"):
+                contracts, _, clauses = part.partition(": ")
+                yield from ((contract, ticked(clauses)) for contract in ticked(contracts))
+
     def promises(self):
         """How many are proved, tested and neither."""
         return len(table_rows(self.section("Proved"))), len(table_rows(self.section("Tested"))), len(re.findall(r"(?m)^- ", self.section("Neither")))
@@ -43,6 +66,16 @@ def readme(request):
 
 def test_each_contract_that_it_names_is_in_the_crate(readme):
     assert [name for name in readme.named_in("Proved") if not readme.defines(name)] == []
+
+
+def test_each_function_that_it_names_has_the_clauses_that_it_names(readme):
+    functions = readme.clauses()
+    lacking = []
+    for contract, clauses in readme.promised():
+        owner, _, name = contract.rpartition("::")
+        named = [has for function, inside, has in functions if function == name and (owner in inside if owner else not inside)]
+        lacking += [(contract, clause) for clause in clauses if named and not any(clause in has for has in named)]
+    assert lacking == []
 
 
 def test_each_test_that_it_names_exists(readme):
