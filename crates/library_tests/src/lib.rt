@@ -20,6 +20,8 @@ mod keeping;
 #[cfg(test)]
 mod names;
 #[cfg(test)]
+mod rows;
+#[cfg(test)]
 mod same;
 #[cfg(test)]
 mod script_texts;
