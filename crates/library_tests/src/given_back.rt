@@ -26,10 +26,21 @@ fn expect_drops<R: Abort>(rt: &R, counters: &[Arc<AtomicU64>; 4], expected: [u64
     same(rt, &drops, &expected, &"the counters");
 }
 
-/// Registers a probe that counts its drop. What comes back is dropped at once.
-fn register<R: Abort>(rt: &R, desk: &mut Desk<Tracked>, slot: Slot, counter: &Arc<AtomicU64>) {
-    let probe = Tracked::new(counter.clone().expect(rt, "memory"));
-    drop(desk.register(0, slot, probe));
+fn tracked<R: Abort>(rt: &R, counter: &Arc<AtomicU64>) -> Tracked {
+    Tracked::new(counter.clone().expect(rt, "memory"))
+}
+
+/// Drops what is held. So many probes were dropped before that, and so many behind it.
+fn expect_held<R: Abort, T: Drop>(
+    rt: &R,
+    counters: &[Arc<AtomicU64>; 4],
+    held: T,
+    before: [u64; 4],
+    behind: [u64; 4],
+) {
+    expect_drops(rt, counters, before);
+    drop(held);
+    expect_drops(rt, counters, behind);
 }
 
 /// Two slots have a probe each. Replaces one of them, retires both slots, and registers a probe where the journal is full.
@@ -41,17 +52,16 @@ fn expect_given_back<R: Abort>(
     counters: &[Arc<AtomicU64>; 4],
 ) {
     let [a, b, c, other] = counters;
-    register(rt, desk, one, a);
-    register(rt, desk, two, b);
-    expect_drops(rt, counters, [0, 0, 0, 0]);
-    register(rt, desk, one, c);
-    expect_drops(rt, counters, [1, 0, 0, 0]);
-    drop(desk.retire(0, two));
-    expect_drops(rt, counters, [1, 1, 0, 0]);
-    drop(desk.retire(0, one));
-    expect_drops(rt, counters, [1, 1, 1, 0]);
-    register(rt, desk, one, other);
-    expect_drops(rt, counters, [1, 1, 1, 1]);
+    drop(desk.register(0, one, tracked(rt, a)));
+    drop(desk.register(0, two, tracked(rt, b)));
+    let replaced = desk.register(0, one, tracked(rt, c));
+    expect_held(rt, counters, replaced, [0, 0, 0, 0], [1, 0, 0, 0]);
+    let retired = desk.retire(0, two);
+    expect_held(rt, counters, retired, [1, 0, 0, 0], [1, 1, 0, 0]);
+    let retired = desk.retire(0, one);
+    expect_held(rt, counters, retired, [1, 1, 0, 0], [1, 1, 1, 0]);
+    let refused = desk.register(0, one, tracked(rt, other));
+    expect_held(rt, counters, refused, [1, 1, 1, 0], [1, 1, 1, 1]);
 }
 
 /// Each probe has a counter of its own, so that wrong bodies are seen here that are seen in no contract: a desk that hands out another
