@@ -6,4 +6,6 @@ mod controls;
 mod doors;
 mod exchanges;
 mod observers;
+mod responses;
 mod runs;
+mod texts;

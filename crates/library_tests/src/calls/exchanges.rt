@@ -1,5 +1,8 @@
 use crate::calls::doors::{Flipping, NAMES};
 use crate::calls::runs::{Asked, exchange_over};
+use crate::calls::texts::{
+    METHOD_NOT_ALLOWED, SERVING, UNKNOWN_METHOD, WATCH_OF_FLIPS, WATCH_OF_SERVING, WATCH_OF_UNKNOWN,
+};
 use crate::names::catalogue;
 use crate::same::{holds, same};
 use grpc_frame::Code;
@@ -8,7 +11,7 @@ use std::io::{ErrorKind, Write};
 use std::process::Abort;
 use test_support::requests::{LIST, WATCH_OF_EMPTY, WATCH_OF_ZZ};
 use test_support::{Fault, FaultyReader, FaultyWriter};
-use web_call::{Outcome, Tap, Turn};
+use web_call::{ExchangeFault, Outcome, Tap, Turn, Why};
 
 /// A request, and what it comes to at a registry of its own.
 struct Row {
@@ -23,8 +26,9 @@ struct Row {
     /// The most Looks.
     looks: u32,
     outcome: Outcome,
-    /// How many bytes there are in all, how many up to each flush, and who was asked up to it.
-    len: usize,
+    /// The response, how many of its bytes there are up to the end of each frame, how many up to each flush, and who was asked up to it.
+    text: &'static [u8],
+    frames: &'static [usize],
     flushes: &'static [usize],
     asked: &'static [Asked],
 }
@@ -70,7 +74,8 @@ static ROWS: [Row; 8] = [
         turns: &[],
         looks: 10,
         outcome: Outcome::Http(405),
-        len: 86,
+        text: METHOD_NOT_ALLOWED,
+        frames: &[],
         flushes: &[86],
         asked: &[(0, 0, 0)],
     },
@@ -82,7 +87,8 @@ static ROWS: [Row; 8] = [
         turns: &[],
         looks: 10,
         outcome: Outcome::Status(Code::Unimplemented),
-        len: 150,
+        text: UNKNOWN_METHOD,
+        frames: &[150],
         flushes: &[150],
         asked: &[(0, 0, 0)],
     },
@@ -94,7 +100,8 @@ static ROWS: [Row; 8] = [
         turns: &[],
         looks: 10,
         outcome: Outcome::Status(Code::Ok),
-        len: 127,
+        text: SERVING,
+        frames: &[107, 127],
         flushes: &[127],
         asked: &[(1, 0, 0)],
     },
@@ -107,7 +114,8 @@ static ROWS: [Row; 8] = [
         turns: &[LOOK, LOOK, END],
         looks: 3,
         outcome: TOLD_1,
-        len: 178,
+        text: WATCH_OF_UNKNOWN,
+        frames: &[118, 171],
         flushes: &[120, 178],
         asked: &[(1, 0, 0), (3, 3, 2)],
     },
@@ -120,7 +128,8 @@ static ROWS: [Row; 8] = [
         turns: &[LOOK, LOOK, LOOK, LOOK],
         looks: 3,
         outcome: TOLD_1,
-        len: 178,
+        text: WATCH_OF_UNKNOWN,
+        frames: &[118, 171],
         flushes: &[120, 178],
         asked: &[(1, 0, 0), (4, 3, 3)],
     },
@@ -132,7 +141,8 @@ static ROWS: [Row; 8] = [
         turns: &[LOOK, END],
         looks: 0,
         outcome: TOLD_1,
-        len: 178,
+        text: WATCH_OF_UNKNOWN,
+        frames: &[118, 171],
         flushes: &[120, 178],
         asked: &[(1, 0, 0), (1, 0, 0)],
     },
@@ -145,7 +155,8 @@ static ROWS: [Row; 8] = [
         turns: &[LOOK, LOOK, LOOK],
         looks: 10,
         outcome: Outcome::Watched { messages: 3 },
-        len: 202,
+        text: WATCH_OF_FLIPS,
+        frames: &[118, 130, 142, 195],
         flushes: &[120, 132, 144, 202],
         asked: &[(1, 0, 0), (2, 1, 1), (4, 3, 3), (4, 4, 3)],
     },
@@ -158,11 +169,32 @@ static ROWS: [Row; 8] = [
         turns: &[LOOK, LOOK, END],
         looks: 10,
         outcome: Outcome::Behind { messages: 1 },
-        len: 178,
+        text: WATCH_OF_SERVING,
+        frames: &[118, 171],
         flushes: &[120, 178],
         asked: &[(1, 0, 0), (2, 1, 1)],
     },
 ];
+
+/// What an exchange ends with whose request was not read whole.
+const CUT: ExchangeFault = ExchangeFault {
+    why: Why::Read,
+    frames: 0,
+};
+
+/// What an exchange ends with behind so many bytes of its response, which ends each frame at one of these places.
+fn broken_off(frames: &[usize], taken: usize) -> ExchangeFault {
+    let mut whole = 0u32;
+    for end in frames {
+        if *end <= taken {
+            whole = whole.saturating_add(1);
+        }
+    }
+    ExchangeFault {
+        why: Why::Write,
+        frames: whole,
+    }
+}
 
 /// Answers the request with a writer that takes so many bytes a call, where the read or the write of this number is faulty: that is the
 /// exchange's last call, and nobody is asked behind it. A flush that is told to take nothing succeeds. What stands up to a flush is
@@ -189,21 +221,31 @@ fn expect(
         row.looks,
     );
     let flushed = writer.flushes().len();
-    let found = (result.ok(), Some(asked), reader.calls(), writer.calls());
+    let taken = write.saturating_sub(flushed).saturating_sub(1);
+    let found = (
+        result,
+        Some(asked),
+        (reader.calls(), writer.calls()),
+        Some(writer.written()),
+    );
     let expected = if read > 0 {
-        (None, Some((0, 0, 0)), read, 0)
+        (Err(CUT), Some((0, 0, 0)), (read, 0), row.text.get(..0))
     } else if has_failed {
-        (None, row.asked.get(flushed).copied(), row.reads, write)
+        (
+            Err(broken_off(row.frames, taken)),
+            row.asked.get(flushed).copied(),
+            (row.reads, write),
+            row.text.get(..taken),
+        )
     } else {
         let left = (writer.flushes(), reader.rest().len());
         same(rt, &left, &(row.flushes, row.unread), &(row.outcome, most));
-        let writes = if most > 1 { flushed } else { row.len };
-        let calls = writes.saturating_add(flushed);
+        let writes = if most > 1 { flushed } else { row.text.len() };
         (
-            Some(row.outcome),
+            Ok(row.outcome),
             row.asked.last().copied(),
-            row.reads,
-            calls,
+            (row.reads, writes.saturating_add(flushed)),
+            Some(row.text),
         )
     };
     same(rt, &found, &expected, &(row.outcome, fault, read, write));
@@ -226,7 +268,7 @@ fn flushes_where_its_reader_waits_and_ends_at_each_faulty_call(rt: HostRuntime) 
     let alloc = rt.alloc();
     for row in &ROWS {
         expect(&rt, alloc, row, 1_000, BROKEN, (0, 0));
-        let writes = row.len.saturating_add(row.flushes.len());
+        let writes = row.text.len().saturating_add(row.flushes.len());
         for &fault in &FAULTS {
             for read in 1..=row.reads {
                 expect(&rt, alloc, row, 1, fault, (read, 0));
