@@ -3,5 +3,8 @@
 mod copies;
 mod crews;
 mod faults;
+mod guests;
+mod notes;
+mod races;
 mod sockets;
 mod watchdogs;
