@@ -8,4 +8,4 @@ mod exchanges;
 mod observers;
 mod responses;
 mod runs;
-mod texts;
+pub(crate) mod texts;

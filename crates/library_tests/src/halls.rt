@@ -2,6 +2,7 @@
 
 mod copies;
 mod crews;
+mod doors;
 mod faults;
 mod guests;
 mod notes;

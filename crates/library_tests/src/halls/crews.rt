@@ -3,6 +3,7 @@ mod letters;
 mod memory;
 mod paced;
 mod plans;
+mod reports;
 mod rings;
 mod sides;
 mod wakes;

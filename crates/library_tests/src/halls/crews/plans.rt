@@ -7,7 +7,7 @@ ghost use Rattle.hall.specs.Seats.{IsOf};
 use crate::halls::crews::letters::notes;
 use crate::names::catalogue;
 use crew::{CallEnd, CrewFault, CrewWhy, Job, OpenTurnstile, Report, Turnstile, serve_all};
-use desk_core::{Name, Order, Setting};
+use desk_core::{Finding, Name, Order, Refusal, Reply, Setting};
 use hall::{Hall, Seat};
 use probe_core::{Manual, Probe};
 use std::alloc::Global;
@@ -21,6 +21,7 @@ use web_call::Limits;
 /// An order, as a table has it.
 #[derive(Clone, Copy)]
 pub(crate) enum Wish {
+    Observe(&'static str, Finding),
     Set(&'static str, Setting),
     /// Of a name that is not listed, and so long that it takes a while to find that out.
     SetLong,
@@ -58,6 +59,8 @@ pub(crate) fn plan_of(workers: u16) -> Plan {
 pub(crate) struct Found {
     /// How each call ended, by its number, or why there is no report.
     pub(crate) calls: Result<Vec<CallEnd>, CrewWhy>,
+    /// What came of each order, if there is a report.
+    pub(crate) orders: Option<Vec<Vec<Result<Reply, Refusal>>>>,
     /// How many entries the journal has, if no seat was missing.
     pub(crate) entries: Option<usize>,
 }
@@ -102,12 +105,14 @@ fn long_name(rt: &impl Abort, alloc: Global) -> Name {
     Name::new(text)
 }
 
+fn name_of(rt: &impl Abort, alloc: Global, text: &str) -> Name {
+    Name::new(String::from_str(alloc, text).expect(rt, "memory"))
+}
+
 fn order_of(rt: &impl Abort, alloc: Global, wish: &Wish) -> Order {
     match *wish {
-        Wish::Set(text, setting) => {
-            let name = String::from_str(alloc, text).expect(rt, "memory");
-            Order::Set(Name::new(name), setting)
-        }
+        Wish::Observe(text, finding) => Order::Observe(name_of(rt, alloc, text), finding),
+        Wish::Set(text, setting) => Order::Set(name_of(rt, alloc, text), setting),
         Wish::SetLong => Order::Set(long_name(rt, alloc), Setting::Up),
     }
 }
@@ -174,15 +179,19 @@ where
 fn found_of<P: Probe>(hall: Hall<P>, served: Served<P>) -> Found
     requires { MatchResult served (λ report. All (IsOf hall) report.seats.items) (λ fault. All (IsOf hall) fault.seats.items) }
 {
-    let (calls, seats) = match served {
-        Ok(report) => (Ok(report.calls), report.seats),
-        Err(fault) => (Err(fault.why), fault.seats),
+    let (calls, orders, seats) = match served {
+        Ok(report) => (Ok(report.calls), Some(report.orders), report.seats),
+        Err(fault) => (Err(fault.why), None, fault.seats),
     };
     let entries = match hall.close(seats) {
         Ok(closed) => Some(closed.desk.journal().len()),
         Err(_) => None,
     };
-    Found { calls, entries }
+    Found {
+        calls,
+        orders,
+        entries,
+    }
 }
 
 /// Takes all memory but that which the plan leaves, for as long as the result is held.
