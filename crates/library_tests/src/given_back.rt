@@ -30,17 +30,17 @@ fn tracked<R: Abort>(rt: &R, counter: &Arc<AtomicU64>) -> Tracked {
     Tracked::new(counter.clone().expect(rt, "memory"))
 }
 
-/// Drops what is held. So many probes were dropped before that, and so many behind it.
+/// Drops what is held. This many probes were dropped before that, and this many after it.
 fn expect_held<R: Abort, T: Drop>(
     rt: &R,
     counters: &[Arc<AtomicU64>; 4],
     held: T,
     before: [u64; 4],
-    behind: [u64; 4],
+    after: [u64; 4],
 ) {
     expect_drops(rt, counters, before);
     drop(held);
-    expect_drops(rt, counters, behind);
+    expect_drops(rt, counters, after);
 }
 
 /// Two slots have a probe each. Replaces one of them, retires both slots, and registers a probe where the journal is full.

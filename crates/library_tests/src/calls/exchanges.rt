@@ -182,7 +182,7 @@ const CUT: ExchangeFault = ExchangeFault {
     frames: 0,
 };
 
-/// What an exchange ends with behind so many bytes of its response, which ends each frame at one of these places.
+/// What an exchange ends with whose writer fails after this many bytes. The frames of its response end at these places.
 fn broken_off(frames: &[usize], taken: usize) -> ExchangeFault {
     let mut whole = 0u32;
     for end in frames {

@@ -30,8 +30,8 @@ struct Row {
     asked: u32,
 }
 
-/// A Check whose body is too long.
-const CHECK_OF_9000: &[u8] = b"POST /grpc.health.v1.Health/List HTTP/1.1\r\n\
+/// A call of a method that is not served, with a body that would be too long.
+const LIST_OF_9000: &[u8] = b"POST /grpc.health.v1.Health/List HTTP/1.1\r\n\
     content-type: application/grpc-web+proto\r\n\
     content-length: 9000\r\n\
     \r\n\
@@ -70,7 +70,7 @@ static ROWS: [Row; 7] = [
         asked: 1,
     },
     Row {
-        input: CHECK_OF_9000,
+        input: LIST_OF_9000,
         result: Ok(Outcome::Status(Code::ResourceExhausted)),
         text: REQUEST_TOO_LARGE,
         unread: 5,
@@ -140,7 +140,7 @@ fn no_more_is_read_of_a_head_that_is_too_long(rt: HostRuntime) {
     same(&rt, &found, &expected, &"a long head");
 }
 
-/// How a Watch of the empty name ends that takes a Look for each number of flips, and what is written.
+/// A Watch of the empty name that has these turns ends as expected, and writes this.
 fn watched(
     rt: &impl Abort,
     alloc: Global,

@@ -94,7 +94,7 @@ fn watch_another_seat<R: Wait + Abort>(
     written: &mut Vec<u8>,
 ) -> Result<Outcome, ExchangeFault> {
     let probes = Vec::from_array(alloc, [Manual::new()]).expect(rt, "memory");
-    let probes = [probes, Vec::new(alloc)];
+    let probes = (probes, Vec::new(alloc));
     let (hall, mut setting, mut looking) = two_seats(rt, alloc, 100, probes, None);
     let wrong = wrong_of(rt, &hall, &mut setting, &REGISTERED);
     same(rt, &wrong, &None, &"a service");

@@ -7,7 +7,7 @@ use probe_core::Manual;
 /// A hall and its seats, or its fault.
 type Made = Result<(Hall<Manual>, Vec<Seat<Manual>>), HallFault>;
 
-/// How many seats are asked for, and what is made: so many, or a fault.
+/// How many seats are asked for, and how many are made, or the fault.
 static SEATS: [(u16, Result<usize, HallFault>); 5] = [
     (0, Err(HallFault::NoSeats)),
     (1, Ok(1)),

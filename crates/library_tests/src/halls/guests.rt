@@ -88,7 +88,7 @@ pub(crate) fn two_seats<P: Probe>(
     rt: &impl Abort,
     alloc: Global,
     most: u32,
-    probes: [Vec<P>; 2],
+    probes: (Vec<P>, Vec<P>),
     counters: Option<Counters>,
 ) -> (Hall<P>, Guest<P>, Guest<P>)
     ensures first { IsOf result.0 result.1.seat }
@@ -96,7 +96,7 @@ pub(crate) fn two_seats<P: Probe>(
 {
     let names = catalogue(rt, alloc, &NAMES);
     let (hall, mut seats) = Hall::new(alloc, names, most, 2).expect(rt, "a hall");
-    let [of_first, of_second] = probes;
+    let (of_first, of_second) = probes;
     let second = Guest {
         seat: seats.pop().unwrap(),
         probes: of_second,
@@ -222,7 +222,7 @@ fn result_of<R: Wait, P: Probe>(rt: &R, hall: &Hall<P>, guest: &mut Guest<P>, ac
     }
 }
 
-/// Goes through so many rows, from the first one on and again from there, up to one that goes otherwise.
+/// Goes through this count of rows, from the first one on and again from there, up to one that goes otherwise.
 pub(crate) fn first_wrong<R: Wait, P: Probe>(
     rt: &R,
     hall: &Hall<P>,

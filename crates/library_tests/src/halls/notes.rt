@@ -97,7 +97,7 @@ static HEARD_OF_TWO: [Row; 1] = [(Act::Check("a"), Found::Check(2, Some(Serving:
 fn told_through_notes<R: Wait + Threads + Sync + Abort>(
     rt: &R,
     alloc: Global,
-    probes: [Vec<Manual>; 2],
+    probes: (Vec<Manual>, Vec<Manual>),
 ) -> (usize, [Option<Wrong>; 3]) {
     let (hall, first, second) = two_seats(rt, alloc, 100, probes, None);
     let visit = Visit {
@@ -119,9 +119,9 @@ fn told_through_notes<R: Wait + Threads + Sync + Abort>(
     (closed.desk.journal().len(), [of_first, of_second, met])
 }
 
-fn one_manual(rt: &impl Abort, alloc: Global) -> [Vec<Manual>; 2] {
+fn one_manual(rt: &impl Abort, alloc: Global) -> (Vec<Manual>, Vec<Manual>) {
     let probes = Vec::from_array(alloc, [Manual::new()]).expect(rt, "memory");
-    [probes, Vec::new(alloc)]
+    (probes, Vec::new(alloc))
 }
 
 #[test]
@@ -148,7 +148,7 @@ type Shown = (Serving, [Option<Serving>; 3]);
 fn shown_beside_changes<R: Wait + Abort>(
     rt: &R,
     alloc: Global,
-    probes: [Vec<Manual>; 2],
+    probes: (Vec<Manual>, Vec<Manual>),
 ) -> (Shown, [Option<Wrong>; 4]) {
     let [before, early, late] = &BESIDE;
     let (hall, mut first, mut second) = two_seats(rt, alloc, 100, probes, None);
@@ -193,7 +193,7 @@ fn a_name_that_is_not_listed_is_refused_first(rt: HostRuntime) {
     let alloc = rt.alloc();
     let probe = Threshold::new(0, 1, Start::Up);
     let probes = Vec::from_array(alloc, [probe]).expect(&rt, "memory");
-    let probes = [probes, Vec::new(alloc)];
+    let probes = (probes, Vec::new(alloc));
     let (hall, mut first, _second) = two_seats(&rt, alloc, 100, probes, None);
     let wrong = wrong_of(&rt, &hall, &mut first, &NOT_LISTED);
     same(&rt, &wrong, &None, &"the rows");

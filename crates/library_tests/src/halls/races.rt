@@ -78,7 +78,7 @@ fn closed_after<R: Wait + Threads + Sync + Abort, P: Probe + Send>(
     rt: &R,
     alloc: Global,
     race: &Race,
-    probes: [Vec<P>; 2],
+    probes: (Vec<P>, Vec<P>),
     counters: Option<Counters>,
 ) -> Closed<P> {
     let (hall, mut first, second) = two_seats(rt, alloc, race.most, probes, counters);
@@ -96,10 +96,10 @@ fn closed_after<R: Wait + Threads + Sync + Abort, P: Probe + Send>(
     closed
 }
 
-/// Of services that are set: `a` and `b`, handed in in this order by the first seat.
+/// The first seat has two services that are set.
 fn expect_of_manuals<R: Wait + Threads + Sync + Abort>(rt: &R, alloc: Global, race: &Race) {
     let probes = Vec::from_array(alloc, [Manual::new(), Manual::new()]).expect(rt, "memory");
-    drop(closed_after(rt, alloc, race, [probes, Vec::new(alloc)], None));
+    drop(closed_after(rt, alloc, race, (probes, Vec::new(alloc)), None));
 }
 
 const SERVING: Option<Serving> = Some(Serving::Serving);
@@ -203,14 +203,14 @@ static FULL_JOURNAL: Race = Race {
     ],
 };
 
-/// Of probes of any kind.
+/// The probes of `a`, `b` and the empty name may be of any kind.
 fn expect_full<R: Wait + Threads + Sync + Abort, P: Probe + Send>(
     rt: &R,
     alloc: Global,
     of_first: Vec<P>,
     of_second: Vec<P>,
 ) {
-    drop(closed_after(rt, alloc, &FULL_JOURNAL, [of_first, of_second], None));
+    drop(closed_after(rt, alloc, &FULL_JOURNAL, (of_first, of_second), None));
 }
 
 #[test]
@@ -303,7 +303,7 @@ fn tracked(rt: &impl Abort, alloc: Global, counters: Counters) -> Vec<Tracked> {
     Vec::from_array(alloc, probes).expect(rt, "memory")
 }
 
-/// Each probe has a counter of its own, so that one is seen here that is dropped by anybody but who it was given to.
+/// Each probe has a counter of its own, so that a probe which the hall drops itself is seen.
 #[test]
 fn a_probe_is_dropped_once_with_what_it_was_given_out_with(rt: HostRuntime) {
     let alloc = rt.alloc();
@@ -313,10 +313,10 @@ fn a_probe_is_dropped_once_with_what_it_was_given_out_with(rt: HostRuntime) {
         counter(&rt, alloc),
         counter(&rt, alloc),
     ];
-    let probes = [
+    let probes = (
         tracked(&rt, alloc, all_again(&rt, &counters)),
         Vec::new(alloc),
-    ];
+    );
     let seen = Some(all_again(&rt, &counters));
     let closed = closed_after(&rt, alloc, &BESIDE_CHECKS, probes, seen);
     same(&rt, &drops_of(&counters), &[1, 1, 0, 1], &"closed");

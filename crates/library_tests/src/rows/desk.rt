@@ -341,20 +341,34 @@ fn expect<P: Probe>(
     }
 }
 
+/// Goes through the rows of a table, each at a registry that those before it changed.
+fn expect_rows<P: Probe>(
+    rt: &impl Abort,
+    desk: &mut Desk<P>,
+    maker: &impl Maker<P>,
+    watch: &mut Watch,
+    table: usize,
+    rows: &[Row],
+) {
+    for (index, row) in rows.iter().enumerate() {
+        expect(rt, desk, maker, watch, row, (table, index));
+    }
+}
+
 fn expect_tables<P: Probe>(rt: &impl Abort, alloc: Global, maker: &impl Maker<P>) {
     for (table, (most, first, rows)) in TABLES.iter().enumerate() {
         let mut desk = Desk::new(alloc, *most);
         let (mut watch, _) = desk.open(None);
-        for (index, row) in first.iter().chain(*rows).enumerate() {
-            expect(rt, &mut desk, maker, &mut watch, row, (table, index));
-        }
+        expect_rows(rt, &mut desk, maker, &mut watch, table, *first);
+        expect_rows(rt, &mut desk, maker, &mut watch, table, *rows);
     }
 }
 
-fn expect_tables_of<F: ProbeFn + Drop>(rt: &impl Abort, alloc: Global, make: F)
+fn expect_tables_of<P: Probe, F: ProbeFn<Made = P> + Drop>(rt: &impl Abort, alloc: Global, make: F)
     requires { F.makes_asked make }
 {
-    expect_tables(rt, alloc, &FnMaker::new(make));
+    let maker = FnMaker::new(make);
+    expect_tables(rt, alloc, &maker);
 }
 
 #[test]
@@ -401,11 +415,11 @@ fn a_board_tells_entries_and_statuses(rt: HostRuntime) {
     }
 }
 
-/// An event, whether it fits, and what is remembered behind it.
+/// An event, whether it fits, and what is remembered after it.
 type Heard = (Event, bool, u32);
 
 /// Of a service that falls and rises so, what it hears. While it is up it remembers its failures in a row, and while it is down, how many
-/// it took and the passes in a row behind them.
+/// it took and the passes in a row after them.
 static HEARD: [(u32, u32, &[Heard]); 2] = [
     (
         2,
@@ -451,7 +465,7 @@ fn memory_of(mut probe: Threshold, fall: u32, rise: u32) -> u32 {
     turns_at.saturating_sub(more)
 }
 
-/// A service behind the first events, and whether the last of them fits.
+/// A service after these events, and whether the last of them fits.
 fn heard(fall: u32, rise: u32, events: &[Heard]) -> (Threshold, bool) {
     let mut probe = Threshold::new(fall, rise, Start::Up);
     let mut fits = true;
@@ -465,7 +479,8 @@ fn heard(fall: u32, rise: u32, events: &[Heard]) -> (Threshold, bool) {
 fn a_threshold_remembers_its_last_events(rt: HostRuntime) {
     for &(fall, rise, events) in &HEARD {
         for (place, &(_, fits, memory)) in events.iter().enumerate() {
-            let (probe, fitted) = heard(fall, rise, events.get(..=place).expect(&rt, "events"));
+            let front = events.get(..place.saturating_add(1)).unwrap_or(events);
+            let (probe, fitted) = heard(fall, rise, front);
             let found = (fitted, memory_of(probe, fall, rise));
             same(&rt, &found, &(fits, memory), &(fall, rise, place));
         }
@@ -475,15 +490,13 @@ fn a_threshold_remembers_its_last_events(rt: HostRuntime) {
     }
 }
 
+static EVENTS: [Event; 4] = [Event::Pass, Event::Fail, Event::Up, Event::Down];
+
 #[test]
 fn nothing_is_heard_of_a_service_that_depends_on_others(rt: HostRuntime) {
     let mut probe = Depends::new(1);
-    for event in [Event::Pass, Event::Fail, Event::Up, Event::Down] {
-        same(
-            &rt,
-            &(probe.note(event), probe.is_up()),
-            &(false, true),
-            &"an event",
-        );
+    for event in &EVENTS {
+        let found = (probe.note(*event), probe.is_up());
+        same(&rt, &found, &(false, true), &"an event");
     }
 }
