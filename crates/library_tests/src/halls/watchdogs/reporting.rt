@@ -2,6 +2,7 @@
 
 ghost use Rattle.hall.specs.Seats.{IsOf};
 
+use crate::halls::watchdogs::making::{expect_round, expectations, watchdog_by};
 use crate::halls::watchdogs::reading::At;
 use crate::names::catalogue;
 use crate::same::same;
@@ -72,25 +73,6 @@ impl Clock for Asking<'_> {
     }
 }
 
-/// Has a round by this clock, and compares whether it changes a status, and for how many milliseconds the next one may be away.
-fn expect_round<R: Wait + Abort, C: Clock>(
-    rt: &R,
-    hall: &Hall<Threshold, KeepMany>,
-    watchdog: &mut Watchdog,
-    own: &mut Seat<Threshold, KeepMany>,
-    clock: &C,
-    shows: bool,
-    patience: u64,
-)
-    requires own { IsOf hall.now own.old }
-    ensures own { IsOf hall.now own.new }
-{
-    let round = watchdog.round(rt, clock, hall, own).expect(rt, "a round");
-    same(rt, &round.shows, &shows, &round.at);
-    let found = watchdog.patience(round.at).as_millis();
-    same(rt, &found, &u128::from(patience), &round.at);
-}
-
 /// The report counts from the round behind it on.
 fn play_over<R: Wait + Abort>(
     rt: &R,
@@ -121,12 +103,8 @@ fn play_over<R: Wait + Abort>(
 fn play<R: Wait + Abort>(rt: &R, alloc: Global) {
     let catalogue = catalogue(rt, alloc, &["a", ""]);
     let slot = catalogue.slot("a").expect(rt, "a slot");
-    let expectations = Expectations::new(alloc).expect(rt, "memory");
-    let shared: Result<Arc<Expectations>, _> = Arc::new(alloc, expectations);
-    let expectations = shared.expect(rt, "memory");
-    let handle: Result<Arc<Expectations>, _> = expectations.clone();
-    let made = Watchdog::new(alloc, handle.expect(rt, "a handle"));
-    let mut watchdog = made.expect(rt, "memory");
+    let expectations = expectations(rt, alloc);
+    let mut watchdog = watchdog_by(rt, alloc, &expectations);
     let made = Hall::<Threshold, KeepMany>::new(alloc, catalogue, 100, 2);
     let (hall, mut seats) = made.expect(rt, "a hall");
     let mut others = seats.pop().expect(rt, "a seat");

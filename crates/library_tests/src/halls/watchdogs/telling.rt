@@ -2,6 +2,7 @@
 
 ghost use Rattle.hall.specs.Seats.{IsOf};
 
+use crate::halls::watchdogs::making::expectations;
 use crate::halls::watchdogs::reading::At;
 use crate::names::catalogue;
 use crate::same::holds;
@@ -160,9 +161,7 @@ fn set_up<R: Wait>(rt: &R, hall: &Hall<Threshold, KeepMany>, seat: &mut Seat<Thr
 
 /// Plays the steps over a hall that is set up, and tells what comes about to this end of a pipe.
 fn play<R: Wait + Abort>(rt: &R, alloc: Global, end: &PipeWriter, steps: &[Step]) {
-    let expectations = Expectations::new(alloc).expect(rt, "memory");
-    let shared: Result<Arc<Expectations>, _> = Arc::new(alloc, expectations);
-    let shared = shared.expect(rt, "memory");
+    let shared = expectations(rt, alloc);
     let handle: Result<Arc<Expectations>, _> = shared.clone();
     let handle = handle.expect(rt, "a handle");
     let outlet = Outlet {
