@@ -13,7 +13,7 @@ import pytest
 from support.process import frozen, processor_seconds, without_descriptors
 from support.session import numbers
 from support.waiting import until
-from support.wire import MESSAGE, NOT_SERVING, OK, SERVING, WATCH_END, all_of, call, get, head, rest_of, status
+from support.wire import MESSAGE, NOT_SERVING, OK, SERVING, WATCH_END, all_of, call, exchange, get, head, rest_of, status
 
 pytestmark = pytest.mark.timed
 
@@ -179,6 +179,58 @@ def test_a_watch_after_whose_request_64_kib_have_come_is_open_and_one_more_byte_
     assert counted(server, "watches", "gone") == [1, 0]
     watch.client.sendall(b"x")
     until(lambda: counted(server, "watches", "gone", "connections"), [0, 1, 0])
+
+
+# What has ended gives its place back once: there are as many as before then, and no more.
+
+ENDED = 500
+
+
+def is_checked(server):
+    assert server.check().endswith(OK)
+
+
+def is_watched(server):
+    with contextlib.closing(server.watch()) as watch:
+        assert watch.next() == SERVING
+
+
+def is_got(server):
+    assert exchange(server.plain, get("/healthz")).startswith(b"HTTP/1.1 200 ")
+
+
+def is_refused(server):
+    assert exchange(server.port, get("/")).startswith(b"HTTP/1.1 405 ")
+
+
+def is_left(server):
+    server.connect().close()
+
+
+def is_reset(server):
+    with server.connect() as client:
+        client.sendall(b"POST ")
+        client.setsockopt(socket.SOL_SOCKET, socket.SO_LINGER, struct.pack("ii", 1, 0))
+
+
+KINDS = [is_checked, is_watched, is_got, is_refused, is_left, is_reset]
+
+
+@pytest.mark.parametrize("kinds", [*([kind] for kind in KINDS), KINDS], ids=lambda kinds: kinds[0].__name__ if kinds[1:] == [] else "each_in_turn")
+def test_after_500_have_ended_as_many_connections_and_watches_are_held_as_before(start, connected, watching, kinds):
+    server = start("--threads", "3", "--connections", "6", "--watches", "2", "--plain", "127.0.0.1:0", "--quiet")
+    for number in range(ENDED):
+        kinds[number % len(kinds)](server)
+    until(lambda: counted(server, "connections", "watches"), [0, 0])
+    watches, others = watching(server, 2), connected(server, 4)
+    assert [watch.next() for watch in watches] == [SERVING] * 2
+    until(lambda: counted(server, "connections", "watches"), [6, 2])
+    # One connection more waits, and one Watch more is told its end.
+    [late] = connected(server, 1, CHECK)
+    assert is_told_nothing(late, 0.3)
+    others.pop().close()
+    assert rest_of(late).endswith(OK)
+    assert [watch.rest() for watch in watching(server, 1)] == [[SERVING]]
 
 
 # It waits for clients without a look at them.
