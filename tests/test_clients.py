@@ -65,6 +65,17 @@ def test_a_request_has_ten_seconds_however_its_bytes_come_and_a_watch_that_nobod
     assert server.end() == (0, "journal 3")
 
 
+@pytest.mark.parametrize("sent", [b"", CHECK[:-1]], ids=["nothing", "all but the last byte"])
+def test_a_client_whose_request_is_not_whole_is_closed_after_ten_seconds_and_not_before(start, connected, within, sent):
+    server = start("--threads", "2")
+    begins = time.monotonic()
+    [client] = connected(server, 1, sent)
+    assert rest_of(client) == b""
+    seconds = time.monotonic() - begins
+    assert seconds >= 10
+    within.took(seconds, 11, begins)
+
+
 def test_where_two_loops_have_no_place_left_a_check_waits_until_one_is_free(start, connected):
     server = start("--threads", "2", "--connections", "3", "--watches", "2")
     silent = connected(server, 3)
