@@ -11,9 +11,11 @@ import pytest
 
 pytest.register_assert_rewrite("support")
 
+from support.nginx import nginx_before  # noqa: E402
 from support.program import Program  # noqa: E402
 from support.server import Server  # noqa: E402
 from support.waiting import Pauses, Within  # noqa: E402
+from support.webs import WEBS  # noqa: E402
 
 # What a shell starts in the background ignores SIGINT, and so would each server here.
 signal.signal(signal.SIGINT, signal.default_int_handler)
@@ -78,6 +80,19 @@ def start(program, folder):
 def server(start):
     """A server with the services a, db and the whole server."""
     return start()
+
+
+@pytest.fixture
+def webs(start):
+    """A server that other people's programs ask: two web servers, a job that nobody has checked yet, and the whole server."""
+    return start("--threads", "2", script=WEBS)
+
+
+@pytest.fixture
+def nginx(webs, sources, folder):
+    """The port of an nginx before that server."""
+    with nginx_before(webs, sources, folder) as port:
+        yield port
 
 
 @pytest.fixture

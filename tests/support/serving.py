@@ -8,7 +8,7 @@ from support.wire import connect
 
 
 def free_port():
-    """A port that is free, below those that the system gives to clients, so that it stays so."""
+    """A port that is free, below those that the system gives to clients, so that it stays so, and none that Chromium refuses, as 10080."""
     while True:
         port = random.randrange(11000, 32768)
         with socket.socket() as listener:
