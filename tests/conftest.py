@@ -11,6 +11,7 @@ import pytest
 
 pytest.register_assert_rewrite("support")
 
+from support.chromium import Browser  # noqa: E402
 from support.nginx import nginx_before  # noqa: E402
 from support.program import Program  # noqa: E402
 from support.server import Server  # noqa: E402
@@ -112,6 +113,17 @@ def watching(start):
     """Opens so many Watches at a server, which leave before it ends."""
     with contextlib.ExitStack() as opened:
         yield lambda server, count, name="a": [opened.enter_context(contextlib.closing(server.watch(name))) for _ in range(count)]
+
+
+@pytest.fixture(scope="session")
+def browser():
+    """A Chromium, whose pages the tests close."""
+    if not shutil.which("chromium"):
+        pytest.skip("there is no Chromium")
+    # It may still write there as it ends.
+    with tempfile.TemporaryDirectory(prefix="healthd-", dir="/tmp", ignore_cleanup_errors=True) as folder, \
+            contextlib.closing(Browser(folder)) as browser:
+        yield browser
 
 
 @pytest.fixture(scope="session")

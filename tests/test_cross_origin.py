@@ -1,21 +1,19 @@
 """A page of another origin, in Chromium, sends lines to the places for sessions on TCP, and none of them is taken; nor is what curl sends."""
 import contextlib
 import http.server
-import shutil
-import socket
 import subprocess
-import tempfile
 import threading
 
 import pytest
 
-from support.chromium import Browser, Page
+from support.chromium import Page
+from support.curl import wants_curl
 from support.lasting import lasting
 from support.naming import rows
+from support.relay import PATIENCE, Relay
 from support.waiting import until
 
 NO_SESSION = b"not a session\n"
-PATIENCE = 20
 
 # Lines that would change something at a place, were they taken.
 LINES = rows([("control", "down a"), ("control", "stop"), ("report", "fail db")], lambda sort, line: f"{line} at the {sort} place")
@@ -53,66 +51,20 @@ class Blank(http.server.BaseHTTPRequestHandler):
         pass
 
 
-class Relay:
-    """Is before a place, and keeps what was sent there on each connection, and what was answered."""
-
-    def __init__(self, place):
-        self.place, self.carried = place, []
-        self.listener = socket.create_server(("127.0.0.1", 0), backlog=64)
-        self.url = f"http://127.0.0.1:{self.listener.getsockname()[1]}/"
-        threading.Thread(target=self.run, daemon=True).start()
-
-    def run(self):
-        with contextlib.suppress(OSError):
-            while True:
-                client, _ = self.listener.accept()
-                threading.Thread(target=self.carry, args=(client,), daemon=True).start()
-
-    def carry(self, client):
-        host, port = self.place.split(":")
-        kept = {"asked": b"", "answered": b"", "ended": False}
-        self.carried.append(kept)
-        with client, socket.create_connection((host, int(port)), PATIENCE) as server:
-            asking = threading.Thread(target=self.pass_on, args=(client, server, kept, "asked"), daemon=True)
-            asking.start()
-            self.pass_on(server, client, kept, "answered")
-            asking.join()
-            kept["ended"] = True
-
-    @staticmethod
-    def pass_on(one, other, kept, part):
-        """Keeps what comes until its end, and passes it and its end on, as long as the other side takes it."""
-        with contextlib.suppress(OSError):
-            while read := one.recv(65536):
-                kept[part] += read
-                with contextlib.suppress(OSError):
-                    other.sendall(read)
-        with contextlib.suppress(OSError):
-            other.shutdown(socket.SHUT_WR)
-
-    def sent(self, line):
-        """What was answered on each connection on which the page has sent the line, once they have ended, and whether there is one."""
-        with_line = [kept for kept in self.carried if f"\n{line}".encode() in kept["asked"]]
-        return sorted({kept["answered"] for kept in with_line if kept["ended"]}), bool(with_line)
-
-    def close(self):
-        with contextlib.suppress(OSError):
-            self.listener.shutdown(socket.SHUT_RDWR)
-        self.listener.close()
+def answered(relay, line):
+    """What was answered on each connection on which the page has sent the line, once they have ended, and whether there is one."""
+    with_line = [kept for kept in relay.carried if f"\n{line}".encode() in kept["asked"]]
+    return sorted({kept["answered"] for kept in with_line if kept["ended"]}), bool(with_line)
 
 
 @pytest.fixture(scope="module")
-def page(program):
+def page(browser):
     """A page of another origin."""
-    folder = tempfile.mkdtemp(prefix="healthd-origin-", dir="/tmp")
     with contextlib.ExitStack() as opened:
-        # Chromium may still write there as it ends.
-        opened.callback(shutil.rmtree, folder, ignore_errors=True)
         origin = opened.enter_context(http.server.ThreadingHTTPServer(("127.0.0.1", 0), Blank))
         threading.Thread(target=origin.serve_forever, daemon=True).start()
         opened.callback(origin.shutdown)
-        browser = opened.enter_context(contextlib.closing(Browser(folder)))
-        page = Page(browser, f"http://127.0.0.1:{origin.server_address[1]}/")
+        page = opened.enter_context(contextlib.closing(Page(browser, f"http://127.0.0.1:{origin.server_address[1]}/")))
         until(lambda: page.value("document.title"), "another origin")
         yield page
 
@@ -142,16 +94,18 @@ def unchanged(server):
 @pytest.mark.parametrize("sort, line", LINES)
 def test_what_a_page_of_another_origin_sends_is_no_session(server, page, unchanged, sort, line, way):
     with contextlib.closing(Relay(place_of(server, sort))) as relay:
-        page.value(WAYS[way].format(url=relay.url, line=line))
-        until(lambda: relay.sent(line), ([NO_SESSION], True), PATIENCE)
+        page.value(WAYS[way].format(url=f"http://127.0.0.1:{relay.port}/", line=line))
+        until(lambda: answered(relay, line), ([NO_SESSION], True), PATIENCE)
 
 
+@wants_curl
 @pytest.mark.parametrize("sort, line", LINES)
 def test_what_curl_sends_is_no_session(server, unchanged, sort, line):
     command = ["curl", "--silent", "--http0.9", "--max-time", "20", "--data-binary", f"\n{line}\n", f"http://{place_of(server, sort)}/"]
     assert subprocess.run(command, capture_output=True, timeout=30).stdout == NO_SESSION
 
 
+@wants_curl
 def test_a_session_is_still_taken_after_what_was_no_session(start):
     server = start("--report", "127.0.0.1:0", control="127.0.0.1:0")
     for place in (server.control, server.report):

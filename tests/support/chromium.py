@@ -83,3 +83,6 @@ class Page:
         """What it was told so far of this kind."""
         return [event["params"] for event in self.browser.events
                 if event.get("method") == method and event.get("sessionId") == self.session]
+
+    def close(self):
+        self.browser.ask("Target.closeTarget", targetId=self.target)
