@@ -4,14 +4,22 @@
     scripts/page_picture.py FOLDER    writes them there, and page-phone.png
 """
 import base64
+import contextlib
+import os
 import sys
 import tempfile
 import time
+from pathlib import Path
 
-from chromium import Browser, Page
-from servers import HERE, Server
+ROOT = Path(__file__).resolve().parent.parent
+sys.path.insert(0, f"{ROOT}/tests")
 
-FOLDER = sys.argv[1] if len(sys.argv) > 1 else f"{HERE}/../docs"
+from support.chromium import Browser, Page  # noqa: E402
+from support.lasting import lasting  # noqa: E402
+from support.program import Program  # noqa: E402
+
+PROGRAM = Program(os.environ.get("HEALTHD", ROOT / "out/healthd"))
+FOLDER = sys.argv[1] if len(sys.argv) > 1 else ROOT / "docs"
 SCRIPT = """catalogue api web1 web2 db backup -
 register web1 manual
 register web2 manual
@@ -34,9 +42,8 @@ def picture(page, name, width, scheme):
         file.write(base64.b64decode(taken["data"]))
 
 
-with tempfile.TemporaryDirectory(prefix="healthd-picture-", dir="/tmp", ignore_cleanup_errors=True) as folder:
-    server = Server("--plain", "127.0.0.1:0", script=SCRIPT)
-    browser = Browser(folder)
+with tempfile.TemporaryDirectory(prefix="healthd-picture-", dir="/tmp", ignore_cleanup_errors=True) as folder, \
+        lasting(PROGRAM, "--plain", "127.0.0.1:0", script=SCRIPT) as server, contextlib.closing(Browser(folder)) as browser:
     page = Page(browser, f"http://127.0.0.1:{server.plain}/")
     page.ask("Emulation.setTimezoneOverride", timezoneId="UTC")
     time.sleep(2)
@@ -48,5 +55,3 @@ with tempfile.TemporaryDirectory(prefix="healthd-picture-", dir="/tmp", ignore_c
     picture(page, "page-dark", 1200, "dark")
     if len(sys.argv) > 1:
         picture(page, "page-phone", 390, "dark")
-    browser.close()
-    server.kill()

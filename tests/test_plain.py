@@ -3,6 +3,7 @@ import contextlib
 import json
 import socket
 import subprocess
+import sys
 import threading
 import time
 
@@ -154,6 +155,12 @@ def page(sources):
 PAGE = ("content-type: text/html; charset=utf-8", "cache-control: no-store",
         "content-security-policy: default-src 'none'; style-src 'unsafe-inline'; script-src 'unsafe-inline'; connect-src 'self'; "
         "base-uri 'none'; form-action 'none'; frame-ancestors 'none'")
+
+
+def test_the_constant_of_the_program_is_made_of_the_page(sources):
+    made = [sys.executable, "-B", f"{sources}/crates/plain/page_source.py", "--compare", f"{sources}/crates/plain/src/page.rt"]
+    compared = subprocess.run(made, capture_output=True, text=True, timeout=30)
+    assert (compared.returncode, compared.stderr) == (0, "")
 
 
 @pytest.mark.parametrize("target", ["/", "/?", "/?service=web1"])

@@ -62,14 +62,15 @@ class Browser:
 
 
 class Page:
-    """A page of a browser. What it asks for, and what its console says, is kept."""
+    """A page of a browser, in which a script may run before its own. What it asks for, and what its console says, is kept."""
 
-    def __init__(self, browser, url):
+    def __init__(self, browser, url, script=""):
         self.browser = browser
         self.target = browser.ask("Target.createTarget", url="about:blank")["targetId"]
         self.session = browser.ask("Target.attachToTarget", targetId=self.target, flatten=True)["sessionId"]
         for domain in ("Page", "Network", "Log", "Runtime"):
             self.ask(f"{domain}.enable")
+        self.ask("Page.addScriptToEvaluateOnNewDocument", source=script)
         self.ask("Page.navigate", url=url)
 
     def ask(self, method, **params):
