@@ -17,7 +17,8 @@ LOGGED = re.compile(r"\d{4}-\d\d-\d\dT[\d:.]+Z ")
 class Server:
     """Its files are in a folder of its own within this one. Its control place is one of them, or the place that is given."""
 
-    def __init__(self, program, within, *options, script=SCRIPT, before=(), handed=(), env=None, starts=True, err=None, out=None, control=True):
+    def __init__(self, program, within, *options, script=SCRIPT, before=(), handed=(), env=None, starts=True, err=None, out=None, control=True,
+                 listen="127.0.0.1:0"):
         self.program = program
         self.folder = tempfile.mkdtemp(prefix="", dir=within)
         os.chmod(self.folder, 0o755)
@@ -25,7 +26,7 @@ class Server:
         with open(f"{self.folder}/script", "w", encoding="utf-8") as file:
             file.write(script)
         self.err = open(f"{self.folder}/err", "w+", encoding="utf-8")
-        command = [*before, str(program), "run", "--listen", "127.0.0.1:0", *(("--control", self.control) if control else ()),
+        command = [*before, str(program), "run", "--listen", listen, *(("--control", self.control) if control else ()),
                    "--script", f"{self.folder}/script", *options]
         if handed:
             # The sockets have to be descriptors from 3 on, and the process has to know its own id.
@@ -41,7 +42,8 @@ class Server:
         places = 1 + has_plain + ("--report" in options) + bool(control)
         lines = [self.process.stdout.readline().strip() for _ in range(places)] if out is None else lines_of(out.name, places)
         told = dict(line.partition(" ")[::2] for line in lines)
-        assert re.fullmatch(r"127\.0\.0\.1:\d+", told.get("listening", "")), f"it listens nowhere: {lines}, {self.said()}"
+        host = re.escape(listen.rpartition(":")[0])
+        assert re.fullmatch(rf"{host}:\d+", told.get("listening", "")), f"it listens nowhere: {lines}, {self.said()}"
         self.port = port_of(told["listening"])
         self.plain = port_of(told["plain"]) if has_plain else None
         self.report = told.get("report")

@@ -3,16 +3,19 @@ import csv
 import http.client
 import http.server
 import os
+import shutil
 import socket
 import subprocess
 import threading
 import time
 
-HERE = os.path.dirname(os.path.realpath(__file__))
+import pytest
 
+from support.serving import free_port
 
-def free_port():
-    return int(subprocess.check_output(["/usr/bin/python3", "-I", f"{HERE}/free_port.py"]))
+# It is in /usr/sbin, which only root has on its path.
+HAPROXY = shutil.which("haproxy", path=f"{os.environ['PATH']}:/usr/sbin:/sbin")
+wants_haproxy = pytest.mark.skipif(HAPROXY is None, reason="there is no HAProxy")
 
 
 class Threads(http.server.ThreadingHTTPServer):
@@ -24,23 +27,21 @@ class Threads(http.server.ThreadingHTTPServer):
 
 
 class Web:
-    """A web server that answers each request with its name."""
+    """A web server that answers each request with its name. It may be closed and opened again at its address."""
 
-    def __init__(self, name, address):
+    def __init__(self, name, host):
         class Handler(http.server.BaseHTTPRequestHandler):
             def do_GET(self):
-                self.send_response(200)
-                self.send_header("content-length", str(len(name)))
-                self.end_headers()
-                self.wfile.write(name.encode())
+                self.wfile.write(f"HTTP/1.0 200 OK\r\ncontent-length: {len(name)}\r\n\r\n{name}".encode())
 
             def log_message(self, *_):
                 pass
 
-        self.handler, self.address = Handler, (address, free_port())
+        self.handler, self.host, self.port = Handler, host, free_port()
+        self.open()
 
     def open(self):
-        self.server = Threads(self.address, self.handler)
+        self.server = Threads((self.host, self.port), self.handler)
         threading.Thread(target=self.server.serve_forever, args=(0.05,), daemon=True).start()
 
     def close(self):
@@ -54,65 +55,69 @@ class Load:
     def __init__(self, port):
         self.port, self.answers, self.going = port, [], True
         self.clients = [threading.Thread(target=self.run, daemon=True) for _ in range(2)]
+
+    def __enter__(self):
         for client in self.clients:
             client.start()
+        return self
+
+    def __exit__(self, *_):
+        self.going = False
+        for client in self.clients:
+            client.join()
 
     def run(self):
         while self.going:
-            at = time.monotonic()
+            begins = time.monotonic()
             try:
-                connection = http.client.HTTPConnection("127.0.0.1", self.port, timeout=10)
+                connection = http.client.HTTPConnection("127.0.0.1", self.port, timeout=60)
                 connection.request("GET", "/")
                 response = connection.getresponse()
                 answer = response.read().decode() if response.status == 200 else f"HTTP {response.status}"
                 connection.close()
             except (OSError, http.client.HTTPException) as error:
                 answer = repr(error)
-            self.answers.append((at, answer))
+            self.answers.append((begins, answer))
 
-    def since(self, at):
+    def since(self, begins):
         """The answers to the requests that began at that time or later."""
-        return [answer for began, answer in list(self.answers) if began >= at]
-
-    def stop(self):
-        self.going = False
-        for client in self.clients:
-            client.join()
+        return [answer for began, answer in list(self.answers) if began >= begins]
 
 
 class Balancer:
-    """An HAProxy with this configuration, where each of the pairs has its second text in place of the first."""
+    """An HAProxy with a copy of this configuration, in which each of the pairs has its second text in place of the first."""
 
-    def __init__(self, name, folder, pairs):
-        text = open(f"{HERE}/{name}").read()
+    def __init__(self, configuration, folder, pairs):
+        text = configuration.read_text(encoding="utf-8")
         self.port, self.socket = free_port(), f"{folder}/haproxy.sock"
         for there, here in (("/run/haproxy/admin.sock", self.socket), ("bind :80\n", f"bind 127.0.0.1:{self.port}\n"), *pairs):
-            assert there in text, f"{name} has {there!r}"
+            assert there in text, f"{configuration} does not have {there!r}"
             text = text.replace(there, here)
-        with open(f"{folder}/haproxy.cfg", "w") as configuration:
-            configuration.write(text)
-        self.process = subprocess.Popen(["haproxy", "-db", "-f", f"{folder}/haproxy.cfg"], stdin=subprocess.DEVNULL,
-                                        stdout=open(f"{folder}/haproxy.out", "w"))
+        with open(f"{folder}/haproxy.cfg", "w", encoding="utf-8") as copy:
+            copy.write(text)
+        # It sets itself up for as many connections as it may open, which may be a million.
+        self.process = subprocess.Popen([HAPROXY, "-db", "-n", "200", "-f", f"{folder}/haproxy.cfg"], stdin=subprocess.DEVNULL,
+                                        stdout=subprocess.DEVNULL)
 
     def is_open(self):
         """Whether its stats socket takes connections. The file is there a moment before."""
+        assert self.process.poll() is None, f"HAProxy has ended with status {self.process.returncode}"
         with socket.socket(socket.AF_UNIX) as admin:
             return admin.connect_ex(self.socket) == 0
 
-    def stats(self, backend="web"):
-        """What it says of each server at its stats socket."""
+    def stats(self, server):
+        """What it says of a server at its stats socket."""
         with socket.socket(socket.AF_UNIX) as admin:
             admin.connect(self.socket)
-            admin.sendall(f"show stat {backend} 4 -1\n".encode())
+            admin.sendall(b"show stat web 4 -1\n")
             said = b"".join(iter(lambda: admin.recv(65536), b"")).decode()
-        return {row["svname"]: row for row in csv.DictReader(said.removeprefix("# ").splitlines())}
+        return {row["svname"]: row for row in csv.DictReader(said.removeprefix("# ").splitlines())}[server]
 
-    def state(self, server, backend="web"):
+    def state(self, server):
         """A server's status, and how its last check ended, which has a star before it while the next one runs."""
-        row = self.stats(backend)[server]
+        row = self.stats(server)
         return row["status"], row["check_status"].removeprefix("* ")
 
-    def end(self):
+    def close(self):
         self.process.terminate()
-        self.process.wait()
-        os.remove(self.socket)
+        self.process.wait(20)
