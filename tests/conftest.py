@@ -32,6 +32,7 @@ BUILT, TRIED = ROOT / "out/healthd", ROOT / "out/try/program/healthd"
 def pytest_addoption(parser):
     parser.addoption("--program", default=os.environ.get("HEALTHD", "built"), metavar="PROGRAM",
                      help="built: out/healthd, which `make` makes; try: what `make try` compiles; or a path (default: $HEALTHD, or built)")
+    parser.addoption("--kills", type=int, default=40, metavar="N", help="how often test_killing.py kills a server (default: 40)")
 
 
 @pytest.fixture(scope="session")

@@ -2,15 +2,20 @@
 import socket
 
 
+def joined(place, timeout=20):
+    """A connection to a place."""
+    if not place.startswith("/"):
+        host, _, port = place.rpartition(":")
+        return socket.create_connection((host.strip("[]"), int(port)), timeout)
+    client = socket.socket(socket.AF_UNIX)
+    client.settimeout(timeout)
+    client.connect(place)
+    return client
+
+
 class Session:
     def __init__(self, place, timeout=20):
-        if place.startswith("/"):
-            self.client = socket.socket(socket.AF_UNIX)
-            self.client.settimeout(timeout)
-            self.client.connect(place)
-        else:
-            host, _, port = place.rpartition(":")
-            self.client = socket.create_connection((host.strip("[]"), int(port)), timeout)
+        self.client = joined(place, timeout)
         self.answers = self.client.makefile("rb")
 
     def __enter__(self):

@@ -1,11 +1,12 @@
-"""What is beside a run of killing.py: sessions that change services, one that reports, Watches and Checks. One thread has them all."""
+"""What is beside a server that is killed: sessions that change services, one that reports, Watches and Checks. One thread has them all."""
 import random
 import re
 import selectors
 import time
 
-from judge import Change, Client, Told
-from servers import connect, head, read_all, request_for
+from support.judge import Change, Client, Told
+from support.session import joined
+from support.wire import all_of, call, connect
 
 # Each of four sessions has a service of each kind, and one that comes and goes; who reports has `r`. No session has the others.
 OWN = [[f"s{number}{kind}" for kind in "abc"] for number in range(4)]
@@ -25,7 +26,7 @@ class Connection:
 
     def __init__(self, load, client, place):
         self.load, self.client, self.read = load, client, b""
-        self.socket = connect(place) if isinstance(place, int) else load.run.session(place)
+        self.socket = connect(place) if isinstance(place, int) else joined(place)
         load.selector.register(self.socket, selectors.EVENT_READ, self)
 
     def send(self, data):
@@ -108,7 +109,7 @@ class Checker(Connection):
 
     def __init__(self, load, client):
         self.name, self.begins = random.choice(NAMES), time.monotonic()
-        super().__init__(load, client, load.run.port)
+        super().__init__(load, client, load.server.port)
         self.send(asking("Check", self.name))
 
     def ended(self):
@@ -118,8 +119,7 @@ class Checker(Connection):
 
 
 def asking(method, name):
-    request = request_for(name.strip("-"))
-    return head(method, request) + request
+    return call(method, name.strip("-"))
 
 
 def frames(body):
@@ -146,7 +146,7 @@ class Watcher(Connection):
     def __init__(self, load, client, name):
         self.statuses, self.is_open = [], False
         client.told.append(Told("watch", (name, self.statuses)))
-        super().__init__(load, client, load.run.port)
+        super().__init__(load, client, load.server.port)
         self.send(asking("Watch", name))
 
     def came(self):
@@ -164,14 +164,16 @@ class Watcher(Connection):
 
 
 class Load:
-    """All that is beside one run, until it is killed."""
+    """All that is beside one server, until it is killed."""
 
-    def __init__(self, run):
-        self.run, self.entries, self.is_shut = run, 0, False
+    def __init__(self, server):
+        self.server, self.entries, self.is_shut = server, 0, False
         self.looker, self.clients = Client("who looks first"), []
+
+    def run(self):
+        """Goes on until the server is gone."""
         with selectors.DefaultSelector() as self.selector:
             try:
-                self.look()
                 self.begin()
             except OSError:
                 # It was killed before all of them were there.
@@ -182,21 +184,16 @@ class Load:
 
     def look(self):
         """How all stands before anything is changed: at both places, and by Checks."""
-        for place in (self.run.control, self.run.report):
-            with self.run.session(place) as session, session.makefile("rb") as answers:
+        for place in (self.server.control, self.server.report):
+            with self.server.session(place) as session:
                 for line in ("board", "list", *(f"check {name}" for name in NAMES), None):
                     line = line or f"entry {self.entries - 1}"
-                    session.sendall(line.encode() + b"\n")
-                    answer = answers.readline()
-                    if not answer.endswith(b"\n"):
-                        raise ConnectionError
-                    self.looker.told.append(told_by(line, answer.decode().strip()))
+                    self.looker.told.append(told_by(line, session.ask(line)))
                     self.entries = self.looker.told[0].what >> 32
         for name in NAMES:
-            with connect(self.run.port) as client:
+            with self.server.connect() as client:
                 client.sendall(asking("Check", name))
-                if status := checked(read_all(client)):
-                    self.looker.told.append(Told("check", (name, status)))
+                self.looker.told.append(Told("check", (name, checked(all_of(client)))))
 
     def client(self, name, services=()):
         self.clients.append(Client(name, services))
@@ -207,8 +204,8 @@ class Load:
             Watcher(self, self.client("a Watch"), name)
         for number, (own, change) in enumerate(zip(OWN, (self.first_change, *[changes] * 3))):
             client = self.client(f"session {number}", own if number else [*own, "shutdown", "resume"])
-            Session(self, client, self.run.control, lambda own=own, change=change: change(*own))
-        Session(self, self.client("the reporter", ["r"]), self.run.report, lambda: random.choice(("pass r", "fail r")))
+            Session(self, client, self.server.control, lambda own=own, change=change: change(*own))
+        Session(self, self.client("the reporter", ["r"]), self.server.report, lambda: random.choice(("pass r", "fail r")))
         for _ in range(CHECKERS):
             self.check(self.client("Checks"))
 

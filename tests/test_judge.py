@@ -1,7 +1,8 @@
-"""What the judge refuses: a run that never was, which it lets through, and then with one thing altered at a time."""
-from beside import NAMES, SETUP
-from judge import (ANSWERED, ASKED, LAWFUL, REPEATED, RESTORED, TOLD, WATCHED, Change, Client, History, Registry, Told, Wrong, judge)
-from servers import holds
+"""What the judge of test_killing.py refuses: a run that never was, which it lets through, and then with one thing altered at a time."""
+import pytest
+
+from support.beside import NAMES, SETUP
+from support.judge import ANSWERED, ASKED, LAWFUL, REPEATED, RESTORED, TOLD, WATCHED, Change, Client, History, Registry, Told, Wrong, judge
 
 # Who asked for which change; the last one was not answered.
 STORY = [(0, "down s0a"), (1, "fail s1b"), (0, "up s0a"), (1, "fail s1b"), (1, "pass s1b"), (0, "retire s0c"), (0, "register s0c manual"),
@@ -68,7 +69,7 @@ def swap(story, place):
 
 
 def tell(word, what, first=False, begins=0.0):
-    """Something else that is told, behind all or before."""
+    """Something else that is told, after all or before."""
     return lambda story: story.checks.told.insert(0 if first else len(story.checks.told), Told(word, what, begins))
 
 
@@ -140,17 +141,20 @@ ALTERED = [
 ]
 
 
-def run():
+def test_the_judge_lets_through_what_was_lawful():
+    assert len(Story().judge()) == END
+
+
+def test_the_judge_lets_through_a_file_that_was_written_anew():
     history = Story().judge()
-    holds("the judge lets through what was lawful", len(history) == END, f"{len(history)} entries")
     history.extend(anew(*COMES_TO)(Story()) + f"{END} - - retire w: done\n")
-    holds("the judge lets through a file that was written anew", len(history) == END + 1, f"{len(history)} entries")
-    for name, claim, alter in ALTERED:
-        story = Story()
-        try:
-            alter(story)
-            story.judge()
-            found = "let through"
-        except Wrong as wrong:
-            found = wrong.claim
-        holds(f"the judge refuses {name}", found == claim, found)
+    assert len(history) == END + 1
+
+
+@pytest.mark.parametrize("claim, alter", [pytest.param(claim, alter, id=name) for name, claim, alter in ALTERED])
+def test_the_judge_refuses(claim, alter):
+    story = Story()
+    with pytest.raises(Wrong) as refused:
+        alter(story)
+        story.judge()
+    assert refused.value.claim == claim
