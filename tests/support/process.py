@@ -52,3 +52,13 @@ def without_descriptors(process):
         yield
     finally:
         resource.prlimit(process.pid, resource.RLIMIT_NOFILE, allowed)
+
+
+@contextlib.contextmanager
+def without_room(process, path):
+    """Does what it is used for while a process may write to no file beyond the length that this one has, as where its disk is full."""
+    resource.prlimit(process.pid, resource.RLIMIT_FSIZE, (os.path.getsize(path), resource.RLIM_INFINITY))
+    try:
+        yield
+    finally:
+        resource.prlimit(process.pid, resource.RLIMIT_FSIZE, (resource.RLIM_INFINITY, resource.RLIM_INFINITY))
