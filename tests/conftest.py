@@ -35,11 +35,16 @@ def pytest_addoption(parser):
     parser.addoption("--kills", type=int, default=40, metavar="N", help="how often test_killing.py kills a server (default: 40)")
 
 
-@pytest.fixture(scope="session")
-def program(request):
+def path_of(config):
     """The program that is tested."""
-    named = request.config.getoption("--program")
-    path = {"built": BUILT, "try": TRIED}.get(named, Path(named).resolve())
+    named = config.getoption("--program")
+    return {"built": BUILT, "try": TRIED}.get(named, Path(named).resolve())
+
+
+@pytest.fixture(scope="session")
+def program(pytestconfig):
+    """The program that is tested."""
+    path = path_of(pytestconfig)
     if not os.access(path, os.X_OK):
         pytest.exit(f"there is no program {path}: `make` proves and builds it, and `make try` compiles one for --program try", 2)
     return Program(path)
@@ -56,6 +61,8 @@ def pytest_runtest_makereport(item, call):
 def pytest_runtest_setup(item):
     if item.get_closest_marker("root") and os.geteuid() != 0:
         pytest.skip("it wants to be root")
+    if item.get_closest_marker("built") and path_of(item.config).is_relative_to(ROOT / "out/try"):
+        pytest.skip("it wants the program that `make` builds")
 
 
 @pytest.fixture
