@@ -98,9 +98,8 @@ def test_a_script_on_a_standard_input_that_is_closed_is_empty(program):
 
 
 def test_where_no_descriptor_can_be_opened_in_the_place_of_another_it_says_so(program):
-    with open(program.path, "rb") as file:
-        if b"AddressSanitizer" in file.read():
-            pytest.skip("the memory checks of this program want a descriptor themselves, and try for it without end")
+    if program.has_sanitizer:
+        pytest.skip("the memory checks of this program want a descriptor themselves, and try for it without end")
     ran = program.run("--version", before=(*closing([0, 1]), "prlimit", "--nofile=1"))
     assert (ran.returncode, ran.stderr) == (1, "healthd: Too many open files (os error 24)\n")
 

@@ -1,4 +1,5 @@
 """The program, as commands are given to it."""
+import functools
 import os
 import subprocess
 
@@ -12,8 +13,14 @@ class Program:
 
     @property
     def environment(self):
-        """That of the tests, where it does not say which server is asked."""
-        return {name: value for name, value in os.environ.items() if name != "HEALTHD_CONTROL"}
+        """That of the tests, where it says neither which server is asked nor by which program."""
+        return {name: value for name, value in os.environ.items() if name not in ("HEALTHD_CONTROL", "HEALTHD")}
+
+    @functools.cached_property
+    def has_sanitizer(self):
+        """Whether it has checks of memory in it, as what `make try` compiles."""
+        with open(self.path, "rb") as file:
+            return b"__asan_init" in file.read()
 
     def run(self, *words, given=None, env=None, before=(), timeout=30):
         """A command that ends by itself, with its status and what it printed and said. It is given a text, or nothing, on standard input."""
