@@ -4,6 +4,7 @@ import os
 import resource
 import shutil
 import signal
+import subprocess
 import tempfile
 from pathlib import Path
 
@@ -144,6 +145,20 @@ def pauses():
 def within(pauses):
     """Says within how many seconds something has to be done, but for a pause of the machine."""
     return Within(pauses)
+
+
+@pytest.fixture(scope="session")
+def compiled():
+    """Compiles a library of support/ that is loaded before the program, and returns its path."""
+    if not shutil.which("cc"):
+        pytest.skip("there is no C compiler")
+    with tempfile.TemporaryDirectory(prefix="healthd-", dir="/tmp") as folder:
+        def compile_one(name):
+            path = f"{folder}/{name}.so"
+            if not os.path.exists(path):
+                subprocess.run(["cc", "-O2", "-shared", "-fPIC", "-o", path, f"{ROOT}/tests/support/{name}.c"], check=True)
+            return path
+        yield compile_one
 
 
 @pytest.fixture(scope="session")

@@ -5,11 +5,7 @@ The library refuse_thread.c, which is loaded before the program, refuses the thr
 over silence, one for the report place and one for the control place, and then those of its loops. Where SIGTERM is blocked, one that looks for
 it comes before them."""
 import os
-import shutil
-import subprocess
-import tempfile
 import time
-from pathlib import Path
 
 import pytest
 
@@ -27,28 +23,18 @@ NAP, MOST_NAPS = 0.001, 12_000
 TRIES = 5
 
 
-@pytest.fixture(scope="session")
-def library():
-    if not shutil.which("cc"):
-        pytest.skip("there is no C compiler")
-    with tempfile.TemporaryDirectory(prefix="healthd-", dir="/tmp") as folder:
-        path = f"{folder}/refuse_thread.so"
-        subprocess.run(["cc", "-O2", "-shared", "-fPIC", "-o", path, f"{Path(__file__).parent}/support/refuse_thread.c"], check=True)
-        yield path
-
-
 @pytest.fixture
 def report(folder):
     return f"{folder}/report"
 
 
 @pytest.fixture
-def start_without(start, library, report):
+def start_without(start, compiled, report):
     """Starts a run of four loops that tells its places, and is refused the thread of this number."""
     def begin(number, *options, reports=False, script=QUIET, **how):
         if reports:
             options += ("--report", report)
-        return start("--threads", "4", *options, script=script, env={"LD_PRELOAD": library, "THREAD": str(number)}, **how)
+        return start("--threads", "4", *options, script=script, env={"LD_PRELOAD": compiled("refuse_thread"), "THREAD": str(number)}, **how)
     return begin
 
 
