@@ -7,12 +7,14 @@ import tempfile
 import time
 from statistics import median, quantiles
 
-from servers import REQUEST, connect, head, holds, read_all
+from common import holds
+from support.wire import all_of, call, connect, request
 
 # ab speaks HTTP/1.0, which healthd refuses; wrk speaks 1.1, and connects anew where an answer says that its connection is closed.
 WRK = shutil.which("wrk")
+CHECK = call("Check", "a")
 ASKS = ('wrk.method = "POST"\nwrk.headers["content-type"] = "application/grpc-web+proto"\n'
-        'wrk.body = "' + "".join(f"\\{byte}" for byte in REQUEST) + '"\n')
+        'wrk.body = "' + "".join(f"\\{byte}" for byte in request("a")) + '"\n')
 UNITS = {"us": 1, "ms": 1_000, "s": 1_000_000, "m": 60_000_000}
 FORK = multiprocessing.get_context("fork")
 
@@ -33,8 +35,8 @@ class Figures:
 def check(port):
     """The whole answer to a Check of `a`."""
     with connect(port) as client:
-        client.sendall(head("Check") + REQUEST)
-        return read_all(client)
+        client.sendall(CHECK)
+        return all_of(client)
 
 
 def holds_answer(port, body):

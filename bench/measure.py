@@ -16,12 +16,15 @@ import sys
 import tempfile
 import time
 from collections import defaultdict
-from contextlib import ExitStack
+from contextlib import ExitStack, closing
 from statistics import median
 
 import load
-import servers
-from servers import HEALTHD, HERE, NOT_SERVING, OK, REQUEST, SERVING, Server, ask_line, connect, head, holds, until
+from common import HEALTHD, HERE, holds, until
+from support.server import SCRIPT, Server
+from support.session import numbers
+from support.serving import Serving, free_port
+from support.wire import NOT_SERVING, OK, SERVING, call, chunk, connect, status
 
 PARTS = ("checks", "grpc_go", "servers", "watches", "memory")
 CLIENTS = (1, 2, 4, 64)
@@ -29,13 +32,12 @@ CORES = len(os.sched_getaffinity(0))
 PATH = f"{os.environ['PATH']}:/usr/sbin:/sbin"
 # The connections of one run, where clients of its own share them; `serve` ends after 1,000 at most.
 CONNECTIONS = 960
-BODY = SERVING + OK
+BODY = status(SERVING) + OK
 # As many as `run` takes without options, and how often each is told a change in a round.
 WATCHES, CHANGES, CHECKS = 9_000, 11, 2_000
-TOLD = {"up": b"7\r\n" + SERVING + b"\r\n", "down": b"7\r\n" + NOT_SERVING + b"\r\n"}
+TOLD = {"up": chunk(status(SERVING)), "down": chunk(status(NOT_SERVING))}
 # Changes by one session, in pieces; the first tenth of them comes before.
 GROWTH, PIECE = 1_000_000, 1_000
-servers.TELLS = False
 
 
 def table(title, columns, rows):
@@ -69,7 +71,7 @@ class Places:
         self.stack.close()
 
     def healthd(self, *options, **named):
-        server = Server("--quiet", *options, **named)
+        server = Server(HEALTHD, self.folder, "--quiet", *options, **named)
         self.stack.callback(server.kill)
         return server
 
@@ -84,7 +86,7 @@ class Places:
         program = shutil.which("nginx", path=PATH)
         if not program:
             return None
-        port = int(subprocess.check_output(["/usr/bin/python3", "-I", f"{HERE}/free_port.py"]))
+        port = free_port()
         temporary = "".join(f"{kind}_temp_path {self.folder}/{kind};" for kind in ("client_body", "proxy", "fastcgi", "uwsgi", "scgi"))
         with open(f"{self.folder}/nginx.conf", "w") as file:
             file.write(f"daemon off; worker_processes 2; pid {self.folder}/pid; error_log {self.folder}/error;"
@@ -160,14 +162,9 @@ def grpc_go(rounds):
 
 def by_serve(clients):
     """Checks of a `healthd serve` of four workers, which has to tell each of them as answered."""
-    port = int(subprocess.check_output(["/usr/bin/python3", "-I", f"{HERE}/free_port.py"]))
-    with subprocess.Popen([HEALTHD, "serve", "--port", str(port), "--workers", "4", "--calls", str(CONNECTIONS)],
-                          stdin=subprocess.PIPE, stdout=subprocess.PIPE, text=True) as process:
-        process.stdin.write(servers.SCRIPT.replace("\n", "\nmax 10\n", 1))
-        process.stdin.close()
-        process.stdout.readline()
-        figures = load.by_sockets(port, clients, CONNECTIONS, BODY)
-        ended = process.stdout.read().splitlines()
+    with closing(Serving(HEALTHD, SCRIPT.replace("\n", "\nmax 10\n", 1), 4, CONNECTIONS)) as serving:
+        figures = load.by_sockets(serving.port, clients, CONNECTIONS, BODY)
+        _, ended, _ = serving.end()
     holds("each call is told as answered", [line.split(" ", 2)[2] for line in ended[:-1]] == ["status 0"] * CONNECTIONS, str(ended))
     return figures
 
@@ -208,7 +205,7 @@ class Audience:
         while len(self.clients) < count:
             some = [connect(port) for _ in range(min(100, count - len(self.clients)))]
             for client in some:
-                client.sendall(head("Watch") + REQUEST)
+                client.sendall(call("Watch", "a"))
             self.clients += some
         for client in self.clients:
             # A limit that costs a read no other system call, as Python's own would.
@@ -245,8 +242,9 @@ def watches(rounds):
         bare = Audience(listener.getsockname()[1], count, lambda word: here.send(word.encode()))
         server = places.healthd("--threads", "2")
         process, session = server.process, server.session(timeout=60)
+        session.ask("stats")  # it is taken in, and has its descriptor
         memory, open_files = [kib(process)], [descriptors(process)]
-        live = Audience(server.port, count, lambda word: session.sendall(f"{word} a\n".encode()))
+        live = Audience(server.port, count, lambda word: session.send(f"{word} a\n"))
         memory.append(kib(process))
         open_files.append(descriptors(process))
         times, requests = defaultdict(list), defaultdict(list)
@@ -282,16 +280,15 @@ def memory(_):
     with Places() as places:
         server = places.healthd("--threads", "2")
         session = server.session(timeout=60)
-        answers = session.makefile("rb")
         for name, count in (("a first tenth", GROWTH // 10), ("the first half", GROWTH // 2), ("the second half", GROWTH // 2)):
             for _ in range(count // PIECE):
-                session.sendall(b"down a\nup a\n" * (PIECE // 2))
-                holds("each change is made", answers.read(5 * PIECE) == b"done\n" * PIECE)
+                session.send(b"down a\nup a\n" * (PIECE // 2))
+                holds("each change is made", session.answers.read(5 * PIECE) == b"done\n" * PIECE)
                 holds("each Check is answered", all(load.check(server.port).endswith(BODY) for _ in range(PIECE // 20)))
             made += count
             rows.append((name, [made, made // 20, kib(server.process)]))
-        stats = dict(zip(*[iter(ask_line(session, "stats").split())] * 2))
-        holds("each change is an entry", int(stats["entries"]) == 3 + made, str(stats))
+        stats = numbers(session.ask("stats"))
+        holds("each change is an entry", stats["entries"] == 3 + made, str(stats))
     table("Memory of `run` as changes and Checks go on", ["changes by then", "Checks", "KiB"], rows)
 
 

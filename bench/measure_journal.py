@@ -7,21 +7,17 @@ FOLDER is on the disk that is measured. With strace installed, syncs of 10 ms ar
 import os
 import select
 import shutil
-import socket
-import subprocess
 import sys
-import tempfile
 import threading
 import time
+from contextlib import ExitStack
 
-HEALTHD = os.environ.get("HEALTHD", os.path.join(os.path.dirname(os.path.abspath(__file__)), "..", "out", "healthd"))
-FRAME = b"\0\0\0\0\3\x0a\1a"
+from common import HEALTHD
+from support.lasting import lasting
+from support.wire import MESSAGE, call, connect
+
+CHECK, WATCH = call("Check", "a"), call("Watch", "a")
 CHANGES, CHECKS, OPENED, WATCHES = 1000, 3000, 200, 20
-
-
-def head(method):
-    return (f"POST /grpc.health.v1.Health/{method} HTTP/1.1\r\nhost: localhost\r\n"
-            "content-type: application/grpc-web+proto\r\ncontent-length: 8\r\n\r\n").encode() + FRAME
 
 
 def told(times):
@@ -53,79 +49,65 @@ def two_syncs(folder):
     return times
 
 
-class Run:
-    def __init__(self, journal, delay=0):
-        self.folder = tempfile.mkdtemp(prefix="healthd-measure-")
-        with open(f"{self.folder}/script", "w") as file:
-            file.write("catalogue a -\nregister a manual\n")
-        slow = ["strace", "-f", "-o", "/dev/null", "--seccomp-bpf", "-e", "trace=fdatasync", "-e", f"inject=fdatasync:delay_enter={delay}"]
-        command = [*(slow if delay else ()), HEALTHD, "run", "--listen", "127.0.0.1:0", "--control", f"{self.folder}/control",
-                   "--script", f"{self.folder}/script", "--quiet", *(("--journal", journal) if journal else ())]
-        self.process = subprocess.Popen(command, stdout=subprocess.PIPE, text=True)
-        self.port = int(self.process.stdout.readline().rsplit(":", 1)[1])
-        self.process.stdout.readline()
-        self.session = socket.socket(socket.AF_UNIX)
-        self.session.connect(f"{self.folder}/control")
-        self.answers = self.session.makefile("rb")
-
-    def change(self, number):
-        self.session.sendall(b"down a\n" if number % 2 else b"up a\n")
-        self.answers.readline()
-
-    def check(self, _):
-        with socket.create_connection(("127.0.0.1", self.port)) as client:
-            client.sendall(head("Check"))
-            while client.recv(4096):
-                pass
-
-    def watch(self, _):
-        """Opens a Watch, until it is told its first status."""
-        with socket.create_connection(("127.0.0.1", self.port)) as client:
-            client.sendall(head("Watch"))
-            read = b""
-            while b"\0\0\0\0\2\x08" not in read:
-                read += client.recv(4096)
-
-    def end(self):
-        self.session.sendall(b"stop\n")
-        self.answers.readline()
-        self.process.wait(30)
-        shutil.rmtree(self.folder)
+def run(journal, delay=0):
+    """A run with this journal, or without one, whose syncs take so many microseconds more."""
+    slow = ("strace", "-f", "-o", "/dev/null", "--seccomp-bpf", "-e", "trace=fdatasync", "-e", f"inject=fdatasync:delay_enter={delay}")
+    return lasting(HEALTHD, "--quiet", *(("--journal", journal) if journal else ()), script="catalogue a -\nregister a manual\n",
+                   before=slow if delay else ())
 
 
 def changes(journal):
-    run = Run(journal)
-    times = each(CHANGES, run.change)
-    run.end()
-    return times
+    with run(journal) as server, server.session() as session:
+        return each(CHANGES, lambda number: change(session, number))
+
+
+def change(session, number):
+    session.send(b"down a\n" if number % 2 else b"up a\n")
+    session.answers.readline()
+
+
+def check(port):
+    with connect(port) as client:
+        client.sendall(CHECK)
+        while client.recv(4096):
+            pass
+
+
+def open_watch(port):
+    """Opens a Watch, until it is told its first status."""
+    with connect(port) as client:
+        client.sendall(WATCH)
+        read = b""
+        while MESSAGE not in read:
+            read += client.recv(4096)
 
 
 def checks_beside(journal, delay):
     """Checks while a session changes without a pause but half a millisecond, and Watches are told."""
-    run, ended, made = Run(journal, delay), threading.Event(), []
-    watches = [socket.create_connection(("127.0.0.1", run.port)) for _ in range(WATCHES)]
-    for watch in watches:
-        watch.sendall(head("Watch"))
+    ended, made = threading.Event(), []
+    with ExitStack() as stack:
+        server = stack.enter_context(run(journal, delay))
+        session = stack.enter_context(server.session())
+        watches = [stack.enter_context(connect(server.port)) for _ in range(WATCHES)]
+        for watch in watches:
+            watch.sendall(WATCH)
 
-    def pour():
-        while not ended.wait(0.0005):
-            made.extend(each(1, lambda _: run.change(len(made))))
+        def pour():
+            while not ended.wait(0.0005):
+                made.extend(each(1, lambda _: change(session, len(made))))
 
-    def drain():
-        while not ended.is_set():
-            for watch in select.select(watches, [], [], 0.1)[0]:
-                watch.recv(65536)
+        def drain():
+            while not ended.is_set():
+                for watch in select.select(watches, [], [], 0.1)[0]:
+                    watch.recv(65536)
 
-    threads = [threading.Thread(target=pour), threading.Thread(target=drain)]
-    for thread in threads:
-        thread.start()
-    times, opened = each(CHECKS, run.check), each(OPENED, run.watch)
-    ended.set()
-    for thread in threads:
-        thread.join()
-    for watch in watches:
-        watch.close()
-    run.end()
+        threads = [threading.Thread(target=pour), threading.Thread(target=drain)]
+        for thread in threads:
+            thread.start()
+        times, opened = each(CHECKS, lambda _: check(server.port)), each(OPENED, lambda _: open_watch(server.port))
+        ended.set()
+        for thread in threads:
+            thread.join()
     return times, opened, made
 
 
