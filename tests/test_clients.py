@@ -232,7 +232,8 @@ def test_after_500_have_ended_as_many_connections_and_watches_are_held_as_before
     server = start("--threads", "3", "--connections", "6", "--watches", "2", "--plain", "127.0.0.1:0", "--quiet")
     for number in range(ENDED):
         kinds[number % len(kinds)](server)
-    until(lambda: counted(server, "connections", "watches"), [0, 0])
+    # Each has been counted as ended, and so has given its places back.
+    until(lambda: counted(server, "calls", "connections", "watches"), [ENDED, 0, 0])
     watches, others = watching(server, 2), connected(server, 4)
     assert [watch.next() for watch in watches] == [SERVING] * 2
     until(lambda: counted(server, "connections", "watches"), [6, 2])

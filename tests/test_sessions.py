@@ -2,6 +2,8 @@
 import contextlib
 import grp
 import os
+import socket
+import struct
 import threading
 import time
 
@@ -103,6 +105,41 @@ def test_tell_gives_up_where_the_server_is_silent(server, within):
             assert server.tell("--timeout", "1", "list") == ("healthd: timed out, the change may still be made", 1)
     finally:
         thaw(server.process)
+
+
+# What has ended gives its place back once.
+
+def leaves(session):
+    assert session.ask("check a") == "serving"
+
+
+def says_too_much(session):
+    assert session.ask("x" * 1_025) == "line too long"
+    assert session.rest() == b""
+
+
+def is_reset(session):
+    session.send("check ")
+    session.client.setsockopt(socket.SOL_SOCKET, socket.SO_LINGER, struct.pack("ii", 1, 0))
+
+
+@pytest.mark.parametrize("ends", [leaves, says_too_much, is_reset])
+def test_after_500_have_ended_sixteen_are_held_and_one_more_is_turned_away(server, ends):
+    for _ in range(500):
+        with server.session() as session:
+            ends(session)
+    until(lambda: " sessions 1 " in server.tell("stats")[0], True)
+    for _ in range(TRIES):
+        begins = time.monotonic()
+        with sessions_of(server, 16):
+            told = turned_away(server, server.control)
+            seconds = time.monotonic() - begins
+        # One that was quiet for a second would have been closed for one more.
+        if seconds < 1:
+            break
+    else:
+        pytest.fail(f"the last of {TRIES} tries took {seconds:.1f} s")
+    assert told == b"too many sessions\n"
 
 
 def test_beside_sixteen_that_pour_lines_one_more_is_told_that_it_is_too_many(server):
