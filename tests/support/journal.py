@@ -64,11 +64,9 @@ def set_by_session(number):
 def long_journal():
     """The blocks of a journal that takes not one more change without being written anew, and how many entries it has: those of the setup, a
     failure of db, and then changes of a."""
-    data, count = bytearray(blocks(title(3), *NAMES, *SETUP, EPOCH + b"\1\1\0\0\0\5\0\0\3\1")), 4
-    while len(data) + len(more := block(set_by_session(count))) <= LIMIT:
-        data += more
-        count += 1
-    return bytes(data), count
+    front = blocks(title(3), *NAMES, *SETUP, EPOCH + b"\1\1\0\0\0\5\0\0\3\1")
+    count = 4 + (LIMIT - len(front)) // len(block(set_by_session(0)))
+    return front + blocks(*map(set_by_session, range(4, count))), count
 
 
 def write(path, data):
