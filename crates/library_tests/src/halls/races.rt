@@ -30,9 +30,9 @@ struct Race {
     entries: usize,
     /// What the first seat does before the threads.
     before: &'static [Row],
-    threads: [Task; 2],
+    threads: (Task, Task),
     /// What each finds after the threads.
-    after: [&'static [Row]; 2],
+    after: (&'static [Row], &'static [Row]),
 }
 
 /// A seat that is back from its thread, with the row that went otherwise.
@@ -52,14 +52,14 @@ fn in_two_threads<R: Wait + Threads + Sync, P: Probe + Send>(
     hall: &Hall<P>,
     first: Guest<P>,
     second: Guest<P>,
-    tasks: &[Task; 2],
+    tasks: (Task, Task),
 ) -> (Back<P>, Back<P>)
     requires first { IsOf hall.now first.seat }
     requires second { IsOf hall.now second.seat }
     ensures first { IsOf hall.now result.0.0.seat }
     ensures second { IsOf hall.now result.1.0.seat }
 {
-    let [of_first, of_second] = *tasks;
+    let (of_first, of_second) = tasks;
     thread::join(
         rt,
         move || -> (Guest<P>, Option<Wrong>)
@@ -82,9 +82,9 @@ fn closed_after<R: Wait + Threads + Sync + Abort, P: Probe + Send>(
     counters: Option<Counters>,
 ) -> Closed<P> {
     let (hall, mut first, second) = two_seats(rt, alloc, race.most, probes, counters);
-    let [rows_of_first, rows_of_second] = race.after;
+    let (rows_of_first, rows_of_second) = race.after;
     let before = wrong_of(rt, &hall, &mut first, race.before);
-    let (first, second) = in_two_threads(rt, &hall, first, second, &race.threads);
+    let (first, second) = in_two_threads(rt, &hall, first, second, race.threads);
     let (mut first, in_first) = first;
     let (mut second, in_second) = second;
     let of_first = wrong_of(rt, &hall, &mut first, rows_of_first);
@@ -117,14 +117,14 @@ static FLIPS: Race = Race {
     most: 1_000,
     entries: 201,
     before: &[(Act::Register("a"), DONE)],
-    threads: [(FLIP_A, 100), (FLIP_A, 100)],
-    after: [
+    threads: ((FLIP_A, 100), (FLIP_A, 100)),
+    after: (
         &[
             (Act::Check("a"), Found::Check(201, SERVING)),
             (Act::Made, Found::Made(101)),
         ],
         &[(Act::Made, Found::Made(100))],
-    ],
+    ),
 };
 
 #[test]
@@ -137,7 +137,7 @@ static CHECKED_FLIPS: Race = Race {
     most: 1_000,
     entries: 402,
     before: &[(Act::Register("a"), DONE), (Act::Register("b"), DONE)],
-    threads: [
+    threads: (
         (
             &[
                 DOWN_A,
@@ -156,8 +156,8 @@ static CHECKED_FLIPS: Race = Race {
             ],
             400,
         ),
-    ],
-    after: [&[], &[]],
+    ),
+    after: (&[], &[]),
 };
 
 #[test]
@@ -196,11 +196,11 @@ static FULL_JOURNAL: Race = Race {
         (Act::Register("b"), DONE),
         (Act::Register(""), DONE),
     ],
-    threads: [(REFUSED, 12), (REFUSED, 12)],
-    after: [
+    threads: ((REFUSED, 12), (REFUSED, 12)),
+    after: (
         &[(Act::Made, Found::Made(3))],
         &[(Act::Made, Found::Made(0))],
-    ],
+    ),
 };
 
 /// The probes of `a`, `b` and the empty name may be of any kind.
@@ -243,7 +243,7 @@ static BESIDE_CHECKS: Race = Race {
     most: 100,
     entries: 4,
     before: &[(Act::Register("a"), DONE), NO_DROP],
-    threads: [
+    threads: (
         (
             &[
                 (
@@ -261,8 +261,8 @@ static BESIDE_CHECKS: Race = Race {
             8,
         ),
         (&[(Act::IsGoneFrom("a", 3), Found::Is(true))], 10_000),
-    ],
-    after: [
+    ),
+    after: (
         &[
             (Act::Register("a"), DONE),
             (
@@ -274,7 +274,7 @@ static BESIDE_CHECKS: Race = Race {
             (Act::Drops, Found::Drops([1, 1, 0, 1])),
         ],
         &[],
-    ],
+    ),
 };
 
 fn counter(rt: &impl Abort, alloc: Global) -> Arc<AtomicU64> {

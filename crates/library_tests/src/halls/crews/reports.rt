@@ -90,7 +90,8 @@ fn a_watch_tells_each_change_from_its_opening(rt: HostRuntime) {
     let alloc = rt.alloc();
     let (opened, mut page) = (AtomicU32::new(0), Vec::new(alloc));
     let watch = Letter::new(Some((WATCH_OF_A, &mut page)), &opened);
-    let jobs = Vec::from_array(alloc, [watch]).expect(&rt, "memory");
+    let mut jobs = Vec::new(alloc);
+    jobs.push(watch).expect(&rt, "memory");
     let wishes: [Wish; 2] = [Wish::Set("a", Setting::Down), Wish::Set("a", Setting::Up)];
     let orders = lists_of(&rt, alloc, &[&wishes]);
     let probes = Vec::from_array(alloc, [Manual::new()]).expect(&rt, "memory");
