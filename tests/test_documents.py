@@ -1,15 +1,16 @@
-"""What the documents show is what stands in the files: configurations, links, commands and what they print."""
+"""What the documents show is what the files have: configurations, links, commands and what they print. They are short."""
 import os
 import re
 import subprocess
-from pathlib import Path
 
 import pytest
 
+from support.documents import ROOT, prose, sentences
 from support.serving import free_port
 
-ROOT = Path(__file__).resolve().parent.parent
-PAGES = ["README.md", "CHANGELOG.md", "CONTRIBUTING.md", "examples/README.md", *sorted(f"docs/{page.name}" for page in ROOT.glob("docs/*.md"))]
+WRITTEN = sorted([*ROOT.glob("*.md"), *ROOT.glob("docs/**/*.md")])
+PAGES = [str(page.relative_to(ROOT)) for page in [*WRITTEN, *sorted([*ROOT.glob("examples/*.md"), *ROOT.glob("crates/*/README.md")])]]
+MOST_BYTES, MOST_WORDS = 150_000, 35
 
 
 def whole(path):
@@ -57,6 +58,15 @@ def test_each_command_that_a_document_names_is_one(program, page):
     listed = program.run("help").stdout.split("Commands:\n")[1].split("\n\n")[0]
     named = set(re.findall(r"(?m)(?:^ {4}\$?|`)(?:\./)?healthd ([a-z]+)\b", whole(page)))
     assert named - {line.split()[0] for line in listed.split("\n")} - {"help"} == set()
+
+
+@pytest.mark.parametrize("page", [str(page.relative_to(ROOT)) for page in WRITTEN])
+def test_the_sentences_of_a_document_are_short(page):
+    assert [it for it in sentences(prose(whole(page))) if len(it.split()) > MOST_WORDS] == []
+
+
+def test_the_documents_are_short_together():
+    assert sum(page.stat().st_size for page in WRITTEN) <= MOST_BYTES
 
 
 def test_the_readme_has_120_lines_at_most_of_100_columns():

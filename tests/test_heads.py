@@ -1,4 +1,4 @@
-"""Which case of a request's head is answered, from the last that is looked for to the first, as docs/PROFILE.md lists them."""
+"""Which case of a request's head is answered, from the last that is looked for to the first, as docs/reference/protocol.md lists them."""
 import socket
 
 import pytest
