@@ -1,11 +1,13 @@
 """`healthd observe`: targets that answer well, badly, late and not at all, many at once, and a control place that comes and goes."""
 import contextlib
 import re
+import shutil
 import signal
 import socket
 import subprocess
 import threading
 import time
+from pathlib import Path
 
 import pytest
 
@@ -26,6 +28,8 @@ OTHER = "catalogue a -\nregister a threshold 1 1 unknown\nregister - depends a\n
 OK = b"HTTP/1.1 200 OK\r\ncontent-length: 2\r\n\r\nok"
 HEAD = b"HTTP/1.1 200 OK\r\ncontent-length: %d\r\n\r\n"
 LATE = "fail: late"
+# Ten of them come in a second.
+LOOKS = 25
 
 
 class Target:
@@ -117,9 +121,9 @@ def observe(server, *words, place=None):
 
 
 @contextlib.contextmanager
-def observing(server, *words, place=None, **how):
+def observing(server, *words, place=None, before=(), **how):
     """An `observe` that goes on, and is killed at the end."""
-    process = subprocess.Popen([str(server.program), "observe", "--control", place or server.control, *words],
+    process = subprocess.Popen([*before, str(server.program), "observe", "--control", place or server.control, *words],
                                **{"stdout": subprocess.DEVNULL, "stderr": subprocess.DEVNULL, "text": True, **how})
     try:
         yield process
@@ -301,6 +305,61 @@ def test_an_observer_that_has_nothing_to_look_at_for_long_takes_next_to_no_time_
         assert processor_seconds(process) < 0.1
 
 
+# Names. The library named_addresses.c, which is loaded before the program, has it find the addresses of `named` in a file.
+
+@pytest.fixture
+def named(folder):
+    """Says what the addresses of `named` are from now on, and gives what has the program look for them there."""
+    if not shutil.which("cc"):
+        pytest.skip("there is no C compiler")
+    library, file = f"{folder}/named_addresses.so", Path(folder, "addresses")
+    subprocess.run(["cc", "-O2", "-shared", "-fPIC", "-o", library, f"{Path(__file__).parent}/support/named_addresses.c"], check=True)
+
+    def say(*addresses):
+        new = file.with_suffix(".new")
+        new.write_text("\n".join(addresses), encoding="utf-8")
+        new.rename(file)
+        return "env", f"LD_PRELOAD={library}", f"ADDRESSES={file}"
+    return say
+
+
+@pytest.fixture
+def addresses():
+    """Three addresses, at the last of which somebody listens, and the port of all. Nobody else can listen there as long as they are bound."""
+    with contextlib.ExitStack() as opened:
+        sockets = [opened.enter_context(socket.socket()) for _ in range(3)]
+        port = 0
+        for last, one in enumerate(sockets, 1):
+            one.bind((f"127.0.0.{last}", port))
+            port = one.getsockname()[1]
+        sockets[-1].listen(64)
+        yield [one.getsockname()[0] for one in sockets], port
+
+
+@pytest.mark.preload
+@pytest.mark.parametrize("places, expected", [
+    pytest.param(places, expected, id="-".join(map(str, places)) or "none") for places, expected in [
+        ([2], "pass"), ([2, 0], "pass"), ([0, 2], "pass"), ([0, 1, 2], "pass"), ([0], "fail: refused"), ([0, 1], "fail: refused"),
+        ([], "fail: no address")]])
+def test_the_addresses_of_a_name_are_tried_one_after_the_other_until_one_takes_the_connection(server, named, addresses, places, expected):
+    there, port = addresses
+    ran = server.program.run("observe", "--control", server.control, "--once", "--every", "6", "--timeout", "5", f"good=tcp://named:{port}",
+                             before=named(*(there[place] for place in places)))
+    assert (ran.stdout, ran.returncode) == (f"good {expected}\n", 0 if expected == "pass" else 3)
+
+
+@pytest.mark.preload
+def test_a_name_is_looked_up_anew_for_each_look(server, named, addresses):
+    (nobody, _, somebody), port = addresses
+    before = named(somebody)
+    with observing(server, "--every", "0.3", "--timeout", "0.2", f"good=tcp://named:{port}", before=before):
+        until(lambda: status(server, "good"), "serving")
+        named(nobody)
+        until(lambda: status(server, "good"), "not serving")
+        named(somebody)
+        until(lambda: status(server, "good"), "serving")
+
+
 # What each answer is, also where it breaks off: then the target has closed.
 
 PASS, CLOSED, MALFORMED, TOO_LONG = "pass", "fail: closed before its answer", "fail: malformed answer", "fail: too long an answer"
@@ -422,6 +481,23 @@ def test_a_refusal_is_said_once_while_it_lasts_and_so_is_that_the_place_is_lost(
     assert heard == [b"pass good\n"] * 5
     assert said[:2] == [f"healthd: {place} answered missing to reports of good"] * 2
     assert len(said) == 3 and said[2].startswith(f"healthd: {place}: ")
+
+
+def test_a_place_that_is_lost_is_tried_again_a_second_later_however_many_reports_come(server, good, folder):
+    place, count = f"{folder}/lost", 0
+    with socket.socket(socket.AF_UNIX) as losing:
+        losing.bind(place)
+        losing.listen(64)
+        losing.setblocking(False)
+        begins = time.monotonic()
+        with observing(server, "--every", "0.1", "--timeout", "0.09", f"good=tcp://127.0.0.1:{good.port}", place=place):
+            while len(good.starts) < LOOKS or count < 2:
+                with contextlib.suppress(BlockingIOError):
+                    losing.accept()[0].close()
+                    count += 1
+                time.sleep(0.001)
+        seconds = time.monotonic() - begins
+    assert count <= 1 + seconds, f"{count} connections in {seconds:.1f} s of {LOOKS} looks"
 
 
 # Command lines.
