@@ -44,13 +44,6 @@ def fails(name, why):
     sys.exit(1)
 
 
-def processor_seconds(process):
-    """How many seconds of the processor a process has taken."""
-    with open(f"/proc/{process.pid}/stat") as file:
-        ticks = sum(int(it) for it in file.read().rpartition(")")[2].split()[11:13])
-    return ticks / os.sysconf("SC_CLK_TCK")
-
-
 class Pauses:
     """How long this machine runs nothing: on each processor a thread sleeps again and again, and takes down where it woke too late."""
 
@@ -136,8 +129,7 @@ def request_for(name):
 class Server:
     """A `healthd run`, whose control place is in a folder that others may enter, or at the address that is given."""
 
-    def __init__(self, *options, script=SCRIPT, before=(), socket_of=None, env=None, starts=True, err=None,
-                 out=None, control=True):
+    def __init__(self, *options, script=SCRIPT, before=(), socket_of=None, env=None, starts=True, control=True):
         self.folder = tempfile.mkdtemp(prefix="healthd-", dir="/tmp")
         os.chmod(self.folder, 0o755)
         self.control = f"{self.folder}/control" if control is True else control
@@ -153,8 +145,7 @@ class Server:
             dup = " ".join(f"{3 + place}<&{socket.fileno()}" for place, socket in enumerate(handed))
             command = ["/bin/bash", "-c", f'exec {dup}; export LISTEN_PID=$$ LISTEN_FDS={len(handed)}; exec "$@"', "sh", *command]
             pass_fds = tuple(socket.fileno() for socket in handed)
-        self.process = subprocess.Popen(command, stdin=subprocess.DEVNULL, stdout=out or subprocess.PIPE,
-                                        stderr=self.err if err is None else err,
+        self.process = subprocess.Popen(command, stdin=subprocess.DEVNULL, stdout=subprocess.PIPE, stderr=self.err,
                                         text=True, pass_fds=pass_fds, env={**os.environ, **(env or {})})
         self.lines = []
         if not starts:
@@ -162,10 +153,7 @@ class Server:
             return
         has_plain = "--plain" in options or len(handed) > 1
         places = 1 + has_plain + ("--report" in options) + bool(control)
-        if out is None:
-            self.lines = [self.process.stdout.readline().strip() for _ in range(places)]
-        else:
-            self.lines = lines_of(out.name, places)
+        self.lines = [self.process.stdout.readline().strip() for _ in range(places)]
         found = re.fullmatch(r"listening 127\.0\.0\.1:(\d+)", self.lines[0])
         holds("a server listens", found, f"it said {self.lines} and {self.said()}")
         self.port = int(found[1])
@@ -243,7 +231,7 @@ class Server:
         said, _ = self.tell("stop")
         holds("a server stops", said == "stopping", said)
         status = self.process.wait(40)
-        last = self.process.stdout.read().strip() if self.process.stdout else "journal 0"
+        last = self.process.stdout.read().strip()
         if status != expected or status == 0 and not re.fullmatch(r"journal \d+", last):
             fails("a server that was stopped", f"its exit status is {status}, its last line {last!r}, and it said {self.said()!r}")
         shutil.rmtree(self.folder)
@@ -279,17 +267,6 @@ class Watcher:
             statuses.append(rest[at + len(MESSAGE)])
             at += len(MESSAGE) + 3
         return statuses if rest[at:] == WATCH_END else [*statuses, rest[at:]]
-
-
-def lines_of(path, count):
-    """The first lines of a file that are not of the log, once there are so many."""
-    ends = time.monotonic() + 10
-    while True:
-        with open(path) as file:
-            lines = [line.strip() for line in file if line.endswith("\n") and not LOGGED.match(line)]
-        if len(lines) >= count or time.monotonic() > ends:
-            return lines
-        time.sleep(0.02)
 
 
 def connect(port, timeout=10):

@@ -7,11 +7,11 @@ import signal
 import subprocess
 import threading
 import time
-from datetime import datetime, timezone
 
 import pytest
 
 from support.lasting import lasting
+from support.log import seconds_of
 from support.process import processor_seconds
 from support.waiting import PATIENCE, until
 from support.wire import NOT_SERVING, SERVICE_UNKNOWN, SERVING
@@ -166,7 +166,7 @@ def test_a_service_is_back_and_stays_up_while_it_is_reported_and_expires_when_it
     with within(3 + ONCE):
         assert watch.next() == NOT_SERVING
     wall = time.time()
-    reported = datetime.strptime(told_of_a(server)["reported"]["time"], "%Y-%m-%dT%H:%M:%S.%fZ").replace(tzinfo=timezone.utc).timestamp()
+    reported = seconds_of(told_of_a(server)["reported"]["time"])
     # The clock of the wall may be set meanwhile, by a little.
     assert wall - reported >= 3 - 0.01
 

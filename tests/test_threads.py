@@ -9,7 +9,7 @@ import time
 
 import pytest
 
-from support.server import LOGGED
+from support.log import ENDED
 from support.wire import SERVING, status
 
 pytestmark = [pytest.mark.preload, pytest.mark.timed]
@@ -38,10 +38,6 @@ def start_without(start, compiled, report):
     return begin
 
 
-def log_of(server):
-    return [LOGGED.sub("", line) for line in server.written() if LOGGED.match(line)]
-
-
 def ends_without_it(server, begins):
     """It waits for the thread for about five seconds, and then ends: it may have begun to wait before this process saw that."""
     naps = 0
@@ -52,7 +48,7 @@ def ends_without_it(server, begins):
     assert longest > 4.5 and server.process.poll() is not None, f"{naps} naps in {longest:.1f} s"
     assert server.end() == (1, "")
     assert server.said() == "healthd: too few threads\n"
-    assert log_of(server) == ["INFO  ended: too few threads\n"]  # and no place
+    assert server.log() == ["INFO  ended: too few threads"]  # and no place
 
 
 def case(name, number, **how):
@@ -104,7 +100,7 @@ def test_a_run_that_waits_for_a_thread_stops_when_it_is_told_to(start_without, w
     with within(3):
         assert server.end() == (0, "journal 2")
     assert server.said() == ""
-    assert log_of(server) == ["INFO  ended: stopped\n"]  # and no place
+    assert server.log() == [ENDED]  # and no place
 
 
 def answers_calls(server):

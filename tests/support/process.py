@@ -54,10 +54,14 @@ def without_descriptors(process):
         resource.prlimit(process.pid, resource.RLIMIT_NOFILE, allowed)
 
 
+# How a process is started that goes on where it may not write.
+UNENDED_BY_LIMITS = ("env", "--ignore-signal=XFSZ")
+
+
 @contextlib.contextmanager
-def without_room(process, path):
-    """Does what it is used for while a process may write to no file beyond the length that this one has, as where its disk is full."""
-    resource.prlimit(process.pid, resource.RLIMIT_FSIZE, (os.path.getsize(path), resource.RLIM_INFINITY))
+def without_room(process, path, more=0):
+    """Does what it is used for while a process may write to no file beyond the length of this one, or so many bytes more, as on a full disk."""
+    resource.prlimit(process.pid, resource.RLIMIT_FSIZE, (os.path.getsize(path) + more, resource.RLIM_INFINITY))
     try:
         yield
     finally:

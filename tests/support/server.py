@@ -60,6 +60,10 @@ class Server:
         """What it has written to standard error so far, without its log."""
         return "".join(line for line in self.written() if not LOGGED.match(line))
 
+    def log(self):
+        """The whole lines of its log so far, without their times."""
+        return [LOGGED.sub("", line).removesuffix("\n") for line in self.written() if LOGGED.match(line) and line.endswith("\n")]
+
     # What it is asked
 
     def session(self, place=None, timeout=20):
@@ -126,7 +130,7 @@ def port_of(place):
 
 def lines_of(path, count):
     """The first lines of a file that are not of the log, once there are so many."""
-    ends = time.monotonic() + 10
+    ends = time.monotonic() + 40
     while True:
         with open(path, encoding="utf-8") as file:
             lines = [line.strip() for line in file if line.endswith("\n") and not LOGGED.match(line)]
