@@ -5,6 +5,9 @@ import resource
 import signal
 import time
 
+# How the system numbers it on x86-64.
+EPOLL_WAIT = "232"
+
 
 def freeze(process):
     """Stops a process, and returns once each of its threads has stopped."""
@@ -31,6 +34,16 @@ def processor_seconds(process):
     with open(f"/proc/{process.pid}/stat", encoding="utf-8") as file:
         ticks = sum(int(it) for it in file.read().rpartition(")")[2].split()[11:13])
     return ticks / os.sysconf("SC_CLK_TCK")
+
+
+def polling(process):
+    """How many threads of a process wait in a poll."""
+    count, folder = 0, f"/proc/{process.pid}/task"
+    with contextlib.suppress(OSError):  # one of them, or all, may have ended
+        for thread in os.listdir(folder):
+            with open(f"{folder}/{thread}/syscall", encoding="utf-8") as file:
+                count += file.read().split()[0] == EPOLL_WAIT
+    return count
 
 
 @contextlib.contextmanager

@@ -22,11 +22,12 @@ def free_port():
 class Serving:
     """One that has read its script. It has told where it listens, or has ended."""
 
-    def __init__(self, program, script, workers, calls, port=None):
+    def __init__(self, program, script, workers, calls, port=None, env=None):
         self.program = program
         self.port = port or free_port()
         self.process = subprocess.Popen([str(program), "serve", "--port", str(self.port), "--workers", str(workers), "--calls", str(calls)],
-                                        stdin=subprocess.PIPE, stdout=subprocess.PIPE, stderr=subprocess.PIPE, text=True)
+                                        stdin=subprocess.PIPE, stdout=subprocess.PIPE, stderr=subprocess.PIPE, text=True,
+                                        env={**program.environment, **(env or {})})
         try:
             self.process.stdin.write(script)
             self.process.stdin.close()
