@@ -47,7 +47,8 @@ def test_services_that_change_by_one_entry_have_a_line_each_and_one_that_goes_an
     log = Log(server)
     log.after("shutdown", *each("a db -", "WARN  {}: serving -> not_serving, entry 3 (session 1: shutdown)"))
     log.after("resume", *each("a db -", "INFO  {}: not_serving -> serving, entry 4 (session 2: resume)"))
-    log.after("retire a", "WARN  a: serving -> absent, entry 5 (session 3: retire a)", "WARN  -: serving -> not_serving, entry 5 (session 3: retire a)")
+    log.after("retire a", "WARN  a: serving -> absent, entry 5 (session 3: retire a)",
+              "WARN  -: serving -> not_serving, entry 5 (session 3: retire a)")
     log.after("register a threshold 1", "INFO  a: absent -> serving, entry 6 (session 4: register a threshold 1 1)",
               "INFO  -: not_serving -> serving, entry 6 (session 4: register a threshold 1 1)")
     log.after("fail db")
@@ -78,7 +79,8 @@ def test_a_service_that_is_not_heard_from_has_a_line_of_its_own_unless_it_is_dow
     log = Log(server)
     log.after("fail api", "WARN  api: serving -> not_serving, entry 3 (session 1: fail api)")
     assert server.tell("expect", "db", "1") == ("done", 0)
-    log.after("expect api 1", "WARN  db: not heard from for 1 s, 2 fails made, entry 5", "WARN  db: serving -> not_serving, entry 5 (expiry: fail db)")
+    log.after("expect api 1", "WARN  db: not heard from for 1 s, 2 fails made, entry 5",
+              "WARN  db: serving -> not_serving, entry 5 (expiry: fail db)")
     # It is heard once more.
     log.after("pass db", "INFO  db: not_serving -> serving, entry 6 (session 4: pass db)", "WARN  db: not heard from for 1 s, 2 fails made, entry 8",
               "WARN  db: serving -> not_serving, entry 8 (expiry: fail db)")
