@@ -16,8 +16,10 @@ CLIENTS, CALLS, CHANGES = 3, 300_000, 300_000
 # What a session asks for at a time, and one after the other.
 LINES = ("down a", "up a", "fail b", "pass b") * 250
 SCRIPT = "catalogue a b -\nregister a manual\nregister b threshold 1\nregister - manual\n"
-# Before it is measured all is in use that the server keeps: the memory of its threads, and the last 65,536 entries and changes of status.
-WARM_CALLS, WARM_CHANGES = 30_000, 300_000
+# Before it is measured all is in use that the server keeps: the memory of its threads, the last 65,536 entries and changes of status,
+# and each loop's copy of these, which grows while Watches look.
+WATCHES = 8
+WARM_CALLS, WARM_CHANGES = 30_000, 150_000
 # A word of eight bytes for each call, or for each change of the session that goes on, is more than twice as much.
 MOST_KIB = 512
 
@@ -74,11 +76,15 @@ def files_and_memory(server):
 
 
 @pytest.mark.timeout(600)
-def test_neither_memory_nor_files_grow_with_calls_changes_and_sessions(start, program):
+def test_neither_memory_nor_files_grow_with_calls_changes_and_sessions(start, watching, program):
     if b"__asan_init" in Path(str(program)).read_bytes():
         pytest.skip("its memory is checked, so that it keeps what was freed for a while")
-    server = start("--threads", "4", "--plain", "127.0.0.1:0", "--quiet", script=SCRIPT)
+    server = start("--threads", "2", "--plain", "127.0.0.1:0", "--quiet", script=SCRIPT)
     with server.session(timeout=60) as steady:
+        watches = watching(server, WATCHES)
+        change_all(server, steady, WARM_CHANGES)
+        for watch_beside in watches:
+            watch_beside.close()
         call_and_change(server, steady, WARM_CALLS, WARM_CHANGES)
         files, before = files_and_memory(server)
         call_and_change(server, steady, CALLS, CHANGES)
