@@ -60,7 +60,7 @@ def test_its_readme_says_what_is_to_be_done_with_a_package_and_not_with_the_sour
     assert [text for text in ("sudo ./install /usr/local", "make install", "make package", "-->") if text in readme] == ["sudo ./install /usr/local"]
 
 
-@pytest.mark.parametrize("page", ["README.md", "docs/OPERATE.md", "docs/PROFILE.md"])
+@pytest.mark.parametrize("page", ["README.md", "docs/OPERATE.md", "docs/reference/commands.md"])
 def test_the_links_of_its_documents_lead_somewhere(unpacked, page):
     path = Path(unpacked, page)
     links = re.findall(r"\]\(([^)\s#]+)", path.read_text(encoding="utf-8"))

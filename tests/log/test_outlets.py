@@ -35,6 +35,7 @@ def test_where_standard_error_is_closed_what_is_opened_in_its_place_has_no_line(
     server = start(before=("/bin/bash", "-c", 'exec 2>&-; exec "$@"', "sh"))
     with server.session() as session, server.connect() as client:
         assert [session.ask(line) for line in ("down a", "up a")] == ["done"] * 2
+        until(lambda: server.stats()["connections"], 1)  # one that it does not hold by its end would be reset
         server.stop()
         assert (session.rest(), all_of(client)) == (b"", b"")
 
@@ -78,10 +79,12 @@ def test_lines_have_their_priority_before_them_where_journal_stream_is_the_strea
     with near, far, near.makefile() as reading:
         its_own = os.fstat(far.fileno())
         server = start(err=far, env={"JOURNAL_STREAM": stream.format(its_own.st_dev, its_own.st_ino)})
+        told = (line for line in reading if not line.startswith("healthd: "))
+        lines = [next(told)]  # it serves before it is stopped
         assert server.tell("down", "a") == ("done", 0)
         server.stop()
         far.close()
-        lines = [line for line in reading if not line.startswith("healthd: ")]
+        lines += told
     found = [re.match(r"(<\d>|)\d{4}-\S+Z (\w+) ", line) for line in lines]
     expected = [("<6>", "INFO"), ("<4>", "WARN"), ("<4>", "WARN"), ("<6>", "INFO")]
     assert [line and line.groups() for line in found] == [(front if is_its_own else "", level) for front, level in expected], lines

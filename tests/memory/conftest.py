@@ -1,7 +1,9 @@
 """Servers and commands to which memory is refused."""
 import pytest
 
-from support.memory import SETUP, Memory
+from support.memory import LOOPS, SETUP, Memory
+from support.process import polling
+from support.waiting import until
 
 
 @pytest.fixture
@@ -12,9 +14,18 @@ def memory(program, compiled, folder):
 
 
 @pytest.fixture
-def server(start, memory):
-    """One to which memory can be refused."""
-    return start("--plain", "127.0.0.1:0", "--threads", "1", script=SETUP, env=memory.env)
+def start_serving(start, memory):
+    """Starts a server to which memory can be refused, and waits until it serves: a start that has no memory ends."""
+    def begin(*options):
+        server = start("--threads", "1", *options, script=SETUP, env=memory.env)
+        until(lambda: polling(server.process), LOOPS)
+        return server
+    return begin
+
+
+@pytest.fixture
+def server(start_serving):
+    return start_serving("--plain", "127.0.0.1:0")
 
 
 @pytest.fixture

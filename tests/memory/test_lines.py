@@ -56,17 +56,16 @@ def made_without(memory, session, line):
     return pytest.fail(f"with {MOST} requests for memory it is refused")
 
 
-def test_each_of_many_changes_is_made_once_it_has_its_memory(start, memory):
+def test_each_of_many_changes_is_made_once_it_has_its_memory(start_serving, memory):
     # Some have a list grow. It is refused that it grows, too, and the next one finds as much room as before.
-    server = start("--threads", "1", "--quiet", "--connections", "40", "--watches", "40", script=SETUP, env=memory.env)
-    with server.session() as session:
+    with start_serving("--quiet", "--connections", "40", "--watches", "40").session() as session:
         tries = [made_without(memory, session, ("down a", "up a")[place % 2]) for place in range(300)]
     assert max(tries) > min(tries) > 0
 
 
-def test_a_change_that_could_not_be_stored_for_want_of_memory_is_not_made_and_the_next_run_has_those_that_were(start, memory, folder):
+def test_a_change_that_could_not_be_stored_for_want_of_memory_is_not_made_and_the_next_run_has_those_that_were(start_serving, start, memory, folder):
     journal = ("--journal", f"{folder}/journal")
-    server = start("--threads", "1", *journal, script=SETUP, env=memory.env)
+    server = start_serving(*journal)
     with server.session() as session:
         changes_or_not(memory, session, "fail b", "pass b", (REFUSED, NOT_STORED))
         assert session.ask("fail b") == "done"

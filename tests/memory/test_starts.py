@@ -6,7 +6,7 @@ import signal
 import pytest
 
 from support.command import ran
-from support.memory import OUT_OF_MEMORY, SETUP, stopped
+from support.memory import LOOPS, OUT_OF_MEMORY, SETUP, stopped
 from support.process import polling
 from support.waiting import until
 
@@ -14,8 +14,6 @@ pytestmark = [pytest.mark.preload, pytest.mark.timeout(300)]
 
 UNREGISTERED = "healthd: d is in the catalogue, but not registered\n"
 SAID = re.compile("healthd: (script line [2-6]: refused no memory|too few threads|out of memory)\n")
-# Of a run of one loop: that, the one over sessions and the one that watches over silence.
-LOOPS = 3
 
 
 @contextlib.contextmanager

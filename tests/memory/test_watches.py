@@ -3,7 +3,7 @@ import contextlib
 
 import pytest
 
-from support.memory import ALL, FIRST, MOST, REFUSED, SETUP, first_told, next_told
+from support.memory import ALL, FIRST, MOST, REFUSED, first_told, next_told
 from support.session import numbers
 from support.waiting import until
 from support.wire import NOT_SERVING, SERVING
@@ -54,9 +54,9 @@ def open_without(memory, server):
     pytest.fail(f"with {MOST} requests for memory it is told nothing")
 
 
-def test_each_of_many_watches_is_opened_once_it_has_its_memory_and_so_is_a_session_beside_them(start, memory):
+def test_each_of_many_watches_is_opened_once_it_has_its_memory_and_so_is_a_session_beside_them(start_serving, memory):
     # Some connections have a list grow. It is refused that it grows, too, and the next one finds as much room as before.
-    server = start("--threads", "1", "--quiet", "--connections", str(WATCHES), "--watches", str(WATCHES), script=SETUP, env=memory.env)
+    server = start_serving("--quiet", "--connections", str(WATCHES), "--watches", str(WATCHES))
     with contextlib.ExitStack() as clients, server.session() as session:
         assert session.ask("check a") == "serving"  # it is taken in
         tries = []

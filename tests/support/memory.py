@@ -17,6 +17,8 @@ down c
 """
 REFUSED, OUT_OF_MEMORY = "refused no memory", "healthd: out of memory\n"
 FIRST = chunk(status(SERVING))
+# The threads of a run that wait in a poll: its only loop, the one over sessions and the one that watches over silence.
+LOOPS = 3
 
 
 class Memory:
@@ -53,7 +55,7 @@ class Memory:
         while idle < 3 and number < MOST:
             found = act(self.refused(number))
             idle = idle + 1 if self.asked <= number else 0
-            assert found == right or not idle and is_refusal(found), f"request {number} for memory was refused"
+            assert found == right or not idle and is_refusal(found), f"with request {number} for memory refused it came to {found!r}"
             if not idle:
                 number += 1
             if found != right:
