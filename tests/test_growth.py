@@ -9,19 +9,17 @@ import pytest
 
 from support.session import numbers
 from support.waiting import until
-from support.wire import OK, all_of, call, connect, get
+from support.wire import OK, all_of, call, connect, get, rest_of
 
 FORK = multiprocessing.get_context("fork")
 CLIENTS, CALLS, CHANGES = 3, 300_000, 300_000
 # What a session asks for at a time, and one after the other.
 LINES = ("down a", "up a", "fail b", "pass b") * 250
 SCRIPT = "catalogue a b -\nregister a manual\nregister b threshold 1\nregister - manual\n"
-# Before it is measured all is in use that the server keeps: the memory of its threads, the last 65,536 entries and changes of status,
-# and each loop's copy of these, which grows while Watches look.
-WATCHES = 8
+# Before it is measured all is in use that the server keeps: room for twice the last 65,536 entries and changes, and once more in a loop with a Watch.
 WARM_CALLS, WARM_CHANGES = 30_000, 150_000
-# A word of eight bytes for each call, or for each change of the session that goes on, is more than twice as much.
-MOST_KIB = 512
+# A word of eight bytes for each call, or for each change of the session that goes on, is more than four times as much.
+MOST_KIB = 256
 
 
 def ask(port, request, ends):
@@ -49,6 +47,25 @@ def call_all(port, plain, count):
         connect(port).close()
 
 
+def watch_on(port):
+    """Reads what a Watch is told, and opens another where it has ended because it was too far behind."""
+    while True:
+        with connect(port, None) as client:
+            client.sendall(call("Watch", "b"))
+            rest_of(client)
+
+
+@contextlib.contextmanager
+def watched(server):
+    watcher = FORK.Process(target=watch_on, args=(server.port,), daemon=True)
+    watcher.start()
+    try:
+        yield
+    finally:
+        watcher.terminate()
+        watcher.join()
+
+
 def change_all(server, steady, count):
     """Makes so many changes, a thousand at a time: by turns over a session that goes on, and over one that expects reports and ends."""
     for number in range(count // len(LINES)):
@@ -66,7 +83,7 @@ def call_and_change(server, steady, calls, changes):
     for client in clients:
         client.join()
     assert [client.exitcode for client in clients] == [0] * CLIENTS
-    until(lambda: [numbers(steady.ask("stats"))[name] for name in ("connections", "watches", "sessions")], [0, 0, 1])
+    until(lambda: [numbers(steady.ask("stats"))[name] for name in ("connections", "watches", "sessions")], [1, 1, 1])
 
 
 def files_and_memory(server):
@@ -76,15 +93,11 @@ def files_and_memory(server):
 
 
 @pytest.mark.timeout(600)
-def test_neither_memory_nor_files_grow_with_calls_changes_and_sessions(start, watching, program):
+def test_neither_memory_nor_files_grow_with_calls_changes_and_sessions(start, program):
     if b"__asan_init" in Path(str(program)).read_bytes():
         pytest.skip("its memory is checked, so that it keeps what was freed for a while")
-    server = start("--threads", "2", "--plain", "127.0.0.1:0", "--quiet", script=SCRIPT)
-    with server.session(timeout=60) as steady:
-        watches = watching(server, WATCHES)
-        change_all(server, steady, WARM_CHANGES)
-        for watch_beside in watches:
-            watch_beside.close()
+    server = start("--threads", "1", "--plain", "127.0.0.1:0", "--quiet", script=SCRIPT)
+    with watched(server), server.session(timeout=60) as steady:
         call_and_change(server, steady, WARM_CALLS, WARM_CHANGES)
         files, before = files_and_memory(server)
         call_and_change(server, steady, CALLS, CHANGES)

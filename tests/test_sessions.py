@@ -125,9 +125,12 @@ def is_reset(session):
 
 @pytest.mark.parametrize("ends", [leaves, says_too_much, is_reset])
 def test_after_500_have_ended_sixteen_are_held_and_one_more_is_turned_away(server, ends):
-    for _ in range(500):
-        with server.session() as session:
-            ends(session)
+    with server.session() as beside:
+        for _ in range(500):
+            with server.session() as session:
+                ends(session)
+            # This is answered once the server has seen that the other has ended.
+            assert beside.ask("check a") == "serving"
     until(lambda: " sessions 1 " in server.tell("stats")[0], True)
     for _ in range(TRIES):
         begins = time.monotonic()
